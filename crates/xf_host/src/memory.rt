@@ -1,5 +1,5 @@
 //! Files and a sink in memory, with failures that a test plans.
-ghost use Rattle.std.specs.Prelude.{◌≡◌, ◌≢◌, ◌++◌, ◌⊎◌, ℕ, List, [], ◌∷◌, Some, None, take, OnOk, OnErr, IfSome, IsErrOf, IsSome, IsNone, IsSomeAnd};
+ghost use Rattle.std.specs.Prelude.{◌≡◌, ◌≢◌, ◌≤◌, ◌++◌, ◌⊎◌, ℕ, List, [], ◌∷◌, Some, None, take, OnOk, OnErr, IfSome, IsErrOf, IsSome, IsNone, IsSomeAnd};
 
 use crate::NoMemory;
 use crate::counts::PathCounts;
@@ -91,6 +91,7 @@ impl Files for MemFiles {
         ensures made { reads_made self.new ≡ reads_after result (reads_made self.old) }
         ensures faults { read_faults self.new path.now
             ≡ read_faults_after result (read_faults self.old path.now) }
+        ensures grows { read_faults self.old path.now ≤ read_faults self.new path.now }
         ensures others { (q : List ℕ) → q ≢ path.now
             → read_faults self.new q ≡ read_faults self.old q }
     {
@@ -185,6 +186,7 @@ impl Sink for MemSink {
         ensures made { writes_made self.new ≡ writes_after result (writes_made self.old) }
         ensures faults { write_faults self.new
             ≡ write_faults_after result (write_faults self.old) }
+        ensures grows { write_faults self.old ≤ write_faults self.new }
     {
         let Some(kept) = self.planned.get(&self.calls).copied() else {
             self.bytes.extend_from_slice(piece)?;
