@@ -7,6 +7,8 @@ pub mod files;
 pub mod memory;
 pub mod real;
 pub mod sink;
+#[cfg(test)]
+mod tests;
 
 use std::alloc::AllocError;
 

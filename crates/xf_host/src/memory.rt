@@ -178,7 +178,7 @@ impl Sink for MemSink {
         // A write fails at a planned call, of which it takes the planned bytes, and nowhere else.
         ensures failed { IsErrOf result SinkFail.Failed
             → IsSomeAnd (planned_write self.old (writes_made self.old)) (λ kept.
-                taken_bytes self.new ≡ taken_bytes self.old ++ take kept piece.now) }
+            taken_bytes self.new ≡ taken_bytes self.old ++ take kept piece.now) }
         ensures unplanned { OnOk result (IsNone (planned_write self.old (writes_made self.old))) }
         ensures planned { (c : ℕ) → planned_write self.new c ≡ planned_write self.old c }
 
