@@ -1,4 +1,6 @@
 //! The operations on integers, by the words of the `arith` dialect.
+ghost use Rattle.std.specs.Prelude.{◌≡◌};
+ghost use Rattle.xf_type.specs.Integers.{kind_of};
 
 /// An operation on two integers of one width. All of them wrap to the width.
 #[derive(Clone, Copy, Debug, PartialEq, Eq)]
@@ -62,4 +64,23 @@ pub enum Combiner {
     Maxsi,
     Minui,
     Maxui,
+}
+
+impl Combiner {
+    /// The same operation, as one of two operands.
+    pub fn kind(self) -> BinKind
+        ensures { result ≡ kind_of self }
+    {
+        match self {
+            Combiner::Addi => BinKind::Addi,
+            Combiner::Muli => BinKind::Muli,
+            Combiner::Andi => BinKind::Andi,
+            Combiner::Ori => BinKind::Ori,
+            Combiner::Xori => BinKind::Xori,
+            Combiner::Minsi => BinKind::Minsi,
+            Combiner::Maxsi => BinKind::Maxsi,
+            Combiner::Minui => BinKind::Minui,
+            Combiner::Maxui => BinKind::Maxui,
+        }
+    }
 }

@@ -4,14 +4,20 @@
 mod attribute;
 mod duplicate;
 mod equals;
+mod integer;
 mod kind;
+mod law;
 mod list;
 mod payload_type;
 
 pub use attribute::{AffineMap, AttrValue};
 pub use duplicate::Duplicate;
 pub use equals::Equals;
+pub use integer::{
+    apply_binary, apply_cmp, apply_conv, apply_select, bits, combine, greatest, signed, wrap,
+};
 pub use kind::{BinKind, CmpKind, Combiner, ConvKind};
+pub use law::{combining_order_is_free, conversions_return, results_fit};
 pub use list::{ByteList, DimList, ListOf, PlaceList, TypeList};
 pub use payload_type::{Dim, Elem, PayloadType, Shape, Width};
 
