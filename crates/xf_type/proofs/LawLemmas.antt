@@ -14,15 +14,38 @@ use Rattle.xf_type.specs.declared.kind.BinKind.{BinKind}
 use Rattle.xf_type.specs.declared.kind.BinKind.TheVariants as bin
 use Rattle.xf_type.specs.declared.kind.Combiner.{Combiner}
 use Rattle.xf_type.specs.declared.kind.Combiner.TheVariants.{Addi, Muli, Andi, Ori, Xori, Minsi, Maxsi, Minui, Maxui}
+use Rattle.xf_type.specs.declared.payload_type.Width.TheVariants.{I1, I8, I16, I32, I64, Index}
+use Rattle.xf_type.specs.declared.kind.ConvKind.TheVariants.{Extsi, Extui, Trunci, IndexCast, IndexCastui}
+use Rattle.xf_type.specs.Laws.{WrappedFits, SignedValueFits, WrappedReturns, SignedValueReturns, BinaryFits, ComparedFits, ConvertedFits, SelectedFits, CombinedFits, CombinedCommutes, CombinedAssociates, Returns, ExtensionReturns, IndexCastReturns}
 use Rattle.xf_type.specs.Integers.{bits_of, wrapped, signed_value, FitsWidth, binary_of, binary, kind_of, combined, shift}
 
--- ---- results fit
+-- ---- the two readings of a number
 
-wrapped_below : (w : Width) (z : ℤ) → wrapped w z < 2 ^ bits_of w
+two_halves : (w : Width) → 2 ^ bits_of w ≡ 2 ^ (bits_of w - 1) + 2 ^ (bits_of w - 1)
+two_halves I1 = refl
+two_halves I8 = refl
+two_halves I16 = refl
+two_halves I32 = refl
+two_halves I64 = refl
+two_halves Index = refl
+
+pub wrapped_below : WrappedFits
 wrapped_below w (pos n) = grind (arith, common_steps)
 wrapped_below w (negsuc n) = grind (arith, common_steps)
 
-number_fits : (k : BinKind) (w : Width) (a b : ℕ) → a < 2 ^ bits_of w → b < 2 ^ bits_of w → FitsWidth w (binary_of k w a b)
+pub signed_value_fits : SignedValueFits
+signed_value_fits w n h = grind (arith, ints, two_halves w)
+
+pub signed_value-wrapped : WrappedReturns
+signed_value-wrapped w (pos n) h = grind (arith, ints, common_steps, two_halves w, h.0, h.1)
+signed_value-wrapped w (negsuc n) h = grind (arith, ints, common_steps, two_halves w, h.0, h.1)
+
+pub wrapped-signed_value : SignedValueReturns
+wrapped-signed_value w n h = grind (arith, ints, common_steps, two_halves w)
+
+-- ---- results fit
+
+pub number_fits : (k : BinKind) (w : Width) (a b : ℕ) → a < 2 ^ bits_of w → b < 2 ^ bits_of w → FitsWidth w (binary_of k w a b)
 number_fits bin.Addi w a b p q = wrapped_below w (pos (a + b))
 number_fits bin.Subi w a b p q = wrapped_below w _
 number_fits bin.Muli w a b p q = wrapped_below w (pos (a * b))
@@ -37,12 +60,25 @@ number_fits bin.Maxsi w a b p q = wrapped_below w _
 number_fits bin.Minui w a b p q = grind arith
 number_fits bin.Maxui w a b p q = grind arith
 
-pub binary_fits : (k : BinKind) (w : Width) (a b : Elem) → FitsWidth w a → FitsWidth w b → FitsWidth w (binary k w a b)
+pub binary_fits : BinaryFits
 binary_fits k w (Num a) (Num b) p q = number_fits k w a b p q
 binary_fits k w (Num a) NoNumber p q = tt
 binary_fits k w NoNumber b p q = tt
 
-pub combined_fits : (c : Combiner) (w : Width) (a b : Elem) → FitsWidth w a → FitsWidth w b → FitsWidth w (combined c w a b)
+pub compared_fits : ComparedFits
+compared_fits k w (Num a) (Num b) = grind arith
+compared_fits k w (Num a) NoNumber = tt
+compared_fits k w NoNumber b = tt
+
+pub converted_fits : ConvertedFits
+converted_fits k from to (Num a) = grind (arith, wrapped_below)
+converted_fits k from to NoNumber = tt
+
+pub selected_fits : SelectedFits
+selected_fits w (Num c) a b p q = grind arith
+selected_fits w NoNumber a b p q = tt
+
+pub combined_fits : CombinedFits
 combined_fits c w a b p q = binary_fits (kind_of c) w a b p q
 
 -- ---- the order of a reduction is free
@@ -89,7 +125,7 @@ value_comm Maxsi w a b = ap (wrapped w) (int_max_comm (signed_value w a) (signed
 value_comm Minui w a b = omega arith
 value_comm Maxui w a b = omega arith
 
-pub combined_comm : (c : Combiner) (w : Width) (x y : Elem) → combined c w x y ≡ combined c w y x
+pub combined_comm : CombinedCommutes
 combined_comm c w (Num a) (Num b) = combined_is c w a b ∙ ap Num (value_comm c w a b) ∙ sym (combined_is c w b a)
 combined_comm c w (Num a) NoNumber = refl
 combined_comm c w NoNumber (Num b) = refl
@@ -131,10 +167,34 @@ value_assoc Maxsi w a b d p q r =
 value_assoc Minui w a b d p q r = omega arith
 value_assoc Maxui w a b d p q r = omega arith
 
-pub combined_assoc : (c : Combiner) (w : Width) (x y z : Elem) → FitsWidth w x → FitsWidth w y → FitsWidth w z → combined c w (combined c w x y) z ≡ combined c w x (combined c w y z)
+pub combined_assoc : CombinedAssociates
 combined_assoc c w (Num a) (Num b) (Num d) p q r =
     rw (combined_is c w a b, combined_is c w b d, combined_is c w (value c w a b) d, combined_is c w a (value c w b d))
     (ap Num (value_assoc c w a b d p q r))
 combined_assoc c w (Num a) (Num b) NoNumber p q r = rw (combined_is c w a b) refl
 combined_assoc c w (Num a) NoNumber z p q r = refl
 combined_assoc c w NoNumber y z p q r = refl
+
+-- ---- conversions there and back
+
+signed_extension : Returns Extsi Trunci
+signed_extension from to (Num a) le p = grind (arith, ints, common_steps, two_halves from, two_halves to)
+signed_extension from to NoNumber le p = refl
+
+zero_extension : Returns Extui Trunci
+zero_extension from to (Num a) le p = grind (arith, ints, common_steps)
+zero_extension from to NoNumber le p = refl
+
+signed_index_cast : Returns IndexCast IndexCast
+signed_index_cast from to (Num a) le p = grind (arith, ints, common_steps, two_halves from, two_halves to)
+signed_index_cast from to NoNumber le p = refl
+
+zero_index_cast : Returns IndexCastui IndexCastui
+zero_index_cast from to (Num a) le p = grind (arith, ints, common_steps)
+zero_index_cast from to NoNumber le p = refl
+
+pub extension_returns : ExtensionReturns
+extension_returns = (signed_extension, zero_extension)
+
+pub index_cast_returns : IndexCastReturns
+index_cast_returns = (signed_index_cast, zero_index_cast)

@@ -1,5 +1,5 @@
 -- What holds of the table of the integers, in its own words.
-use Rattle.std.specs.Prelude.{◌≡◌, ◌≤◌}
+use Rattle.std.specs.Prelude.{◌≡◌, ℕ, ◌-◌, ◌^◌, ◌<◌, ◌≤◌, ℤ, pos, neg_ℤ, ◌<ℤ◌, ◌≤ℤ◌}
 use Rattle.xf_type.specs.declared.payload_type.Width.{Width}
 use Rattle.xf_type.specs.declared.payload_type.Width.TheVariants.{I1}
 use Rattle.xf_type.specs.declared.payload_type.Elem.{Elem}
@@ -8,7 +8,25 @@ use Rattle.xf_type.specs.declared.kind.CmpKind.{CmpKind}
 use Rattle.xf_type.specs.declared.kind.ConvKind.{ConvKind}
 use Rattle.xf_type.specs.declared.kind.ConvKind.TheVariants.{Extsi, Extui, Trunci, IndexCast, IndexCastui}
 use Rattle.xf_type.specs.declared.kind.Combiner.{Combiner}
-use Rattle.xf_type.specs.Integers.{FitsWidth, bits_of, binary, compared, converted, selected, combined}
+use Rattle.xf_type.specs.Integers.{FitsWidth, bits_of, wrapped, signed_value, binary, compared, converted, selected, combined}
+
+-- ---- the two readings of a number
+
+-- an integer that the width has as a signed number
+abbrev pub IsSigned : Width → ℤ → Type 0
+IsSigned w z = (neg_ℤ (pos (2 ^ (bits_of w - 1))) ≤ℤ z) × (z <ℤ pos (2 ^ (bits_of w - 1)))
+
+abbrev pub WrappedFits : Type 0
+WrappedFits = (w : Width) (z : ℤ) → wrapped w z < 2 ^ bits_of w
+
+abbrev pub SignedValueFits : Type 0
+SignedValueFits = (w : Width) (n : ℕ) → n < 2 ^ bits_of w → IsSigned w (signed_value w n)
+
+abbrev pub WrappedReturns : Type 0
+WrappedReturns = (w : Width) (z : ℤ) → IsSigned w z → signed_value w (wrapped w z) ≡ z
+
+abbrev pub SignedValueReturns : Type 0
+SignedValueReturns = (w : Width) (n : ℕ) → n < 2 ^ bits_of w → wrapped w (signed_value w n) ≡ n
 
 -- ---- results are elements of their width
 

@@ -1,6 +1,7 @@
 //! The arithmetic of machine integers, on words of 64 bits.
 ghost use Rattle.std.specs.Prelude.{◌≡◌, ◌-◌, ◌%◌, ◌^◌, ◌<◌};
 ghost use Rattle.std.specs.Int.{int_min, int_max};
+ghost use Rattle.xf_type.specs.declared.payload_type.Width.{Width};
 ghost use Rattle.xf_type.specs.Integers.{FitsWidth, bits_of, wrapped, signed_value, binary_of, holds, converted_of, binary, compared, converted, selected, combined};
 
 use crate::kind::{BinKind, CmpKind, Combiner, ConvKind};
@@ -33,8 +34,10 @@ pub fn greatest(w: Width) -> u64
 }
 
 /// The number modulo 2^bits.
+#[tactic(auto, using(crate::proofs::LawLemmas::wrapped_below))]
 pub fn wrap(w: Width, n: i128) -> u64
-    ensures { result ≡ wrapped w n }
+    ensures value { result ≡ wrapped w n }
+    ensures fits { result < 2 ^ bits_of w }
 {
     (n.cast_unsigned() & greatest(w) as u128) as u64
 }
@@ -173,10 +176,12 @@ fn converted_number(k: ConvKind, from: Width, to: Width, a: u64) -> u64
 
 /// The operation on two elements of the width: no number where one of them is none, and where a shift's amount, which is
 /// read unsigned, is as large as the bits.
+
 pub fn apply_binary(k: BinKind, w: Width, a: Elem, b: Elem) -> Elem
     requires a_fits { FitsWidth w a }
     requires b_fits { FitsWidth w b }
-    ensures { result ≡ binary k w a b }
+    ensures value { result ≡ binary k w a b }
+    ensures fits { FitsWidth w result }
 {
     match (a, b) {
         (Elem::Num(a), Elem::Num(b)) => binary_number(k, w, a, b),
@@ -186,10 +191,12 @@ pub fn apply_binary(k: BinKind, w: Width, a: Elem, b: Elem) -> Elem
 
 /// 1 where the comparison of two elements of the width holds and 0 where it does not, of width `I1`; no number where one of
 /// them is none.
+#[tactic(auto, using(crate::proofs::LawLemmas::compared_fits))]
 pub fn apply_cmp(k: CmpKind, w: Width, a: Elem, b: Elem) -> Elem
     requires a_fits { FitsWidth w a }
     requires b_fits { FitsWidth w b }
-    ensures { result ≡ compared k w a b }
+    ensures value { result ≡ compared k w a b }
+    ensures fits { FitsWidth Width.I1 result }
 {
     match (a, b) {
         (Elem::Num(a), Elem::Num(b)) => Elem::Num(comparison_holds(k, w, a, b) as u64),
@@ -198,9 +205,11 @@ pub fn apply_cmp(k: CmpKind, w: Width, a: Elem, b: Elem) -> Elem
 }
 
 /// The element of the width `from` at the width `to`; no number where it is none.
+#[tactic(auto, using(crate::proofs::LawLemmas::converted_fits))]
 pub fn apply_conv(k: ConvKind, from: Width, to: Width, a: Elem) -> Elem
     requires { FitsWidth from a }
-    ensures { result ≡ converted k from to a }
+    ensures value { result ≡ converted k from to a }
+    ensures fits { FitsWidth to result }
 {
     match a {
         Elem::Num(a) => Elem::Num(converted_number(k, from, to, a)),
@@ -210,9 +219,11 @@ pub fn apply_conv(k: ConvKind, from: Width, to: Width, a: Elem) -> Elem
 
 /// `a` where the condition, of width `I1`, is 1, `b` where it is 0, and no number where it is none. The element that is not
 /// chosen may be anything.
+#[tactic(auto, using(crate::proofs::LawLemmas::selected_fits))]
 pub fn apply_select(c: Elem, a: Elem, b: Elem) -> Elem
     requires { FitsWidth Width.I1 c }
-    ensures { result ≡ selected c a b }
+    ensures value { result ≡ selected c a b }
+    ensures fits { (w : Width) → FitsWidth w a → FitsWidth w b → FitsWidth w result }
 {
     match c {
         Elem::Num(0) => b,
@@ -222,10 +233,12 @@ pub fn apply_select(c: Elem, a: Elem, b: Elem) -> Elem
 }
 
 /// The operation by which a reduction joins two elements of the width.
+#[tactic(auto, using(crate::proofs::LawLemmas::combined_fits))]
 pub fn combine(c: Combiner, w: Width, a: Elem, b: Elem) -> Elem
     requires a_fits { FitsWidth w a }
     requires b_fits { FitsWidth w b }
-    ensures { result ≡ combined c w a b }
+    ensures value { result ≡ combined c w a b }
+    ensures fits { FitsWidth w result }
 {
     apply_binary(c.kind(), w, a, b)
 }

@@ -1,7 +1,15 @@
 //! What holds of the arithmetic of integers. A function here does nothing: what it promises is the law.
-ghost use Rattle.xf_type.specs.Laws.{BinaryFits, ComparedFits, ConvertedFits, SelectedFits, CombinedFits, CombinedCommutes, CombinedAssociates, ExtensionReturns, IndexCastReturns};
+ghost use Rattle.xf_type.specs.Laws.{WrappedFits, SignedValueFits, WrappedReturns, SignedValueReturns, BinaryFits, ComparedFits, ConvertedFits, SelectedFits, CombinedFits, CombinedCommutes, CombinedAssociates, ExtensionReturns, IndexCastReturns};
 
-#[tactic(auto, using(crate::proofs::LawLemmas::binary_fits, crate::proofs::LawLemmas::combined_fits))]
+/// A number of a width and its signed value stand for each other.
+pub fn readings_return()
+    ensures wrapped { WrappedFits }
+    ensures signed { SignedValueFits }
+    ensures wrapped_returns { WrappedReturns }
+    ensures signed_returns { SignedValueReturns }
+{
+}
+
 /// Every result is an element of its width.
 pub fn results_fit()
     ensures binary { BinaryFits }
@@ -11,7 +19,6 @@ pub fn results_fit()
     ensures combined { CombinedFits }
 {}
 
-#[tactic(auto, using(crate::proofs::LawLemmas::combined_comm, crate::proofs::LawLemmas::combined_assoc))]
 /// The order in which a reduction joins its elements is free.
 pub fn combining_order_is_free()
     ensures commutes { CombinedCommutes }

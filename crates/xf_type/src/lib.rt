@@ -17,7 +17,7 @@ pub use integer::{
     apply_binary, apply_cmp, apply_conv, apply_select, bits, combine, greatest, signed, wrap,
 };
 pub use kind::{BinKind, CmpKind, Combiner, ConvKind};
-pub use law::{combining_order_is_free, conversions_return, results_fit};
+pub use law::{combining_order_is_free, conversions_return, readings_return, results_fit};
 pub use list::{ByteList, DimList, ListOf, PlaceList, TypeList};
 pub use payload_type::{Dim, Elem, PayloadType, Shape, Width};
 
