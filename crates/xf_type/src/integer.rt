@@ -242,3 +242,6 @@ pub fn combine(c: Combiner, w: Width, a: Elem, b: Elem) -> Elem
 {
     apply_binary(c.kind(), w, a, b)
 }
+
+#[cfg(test)]
+mod tests;

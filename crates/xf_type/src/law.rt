@@ -7,8 +7,7 @@ pub fn readings_return()
     ensures signed { SignedValueFits }
     ensures wrapped_returns { WrappedReturns }
     ensures signed_returns { SignedValueReturns }
-{
-}
+{}
 
 /// Every result is an element of its width.
 pub fn results_fit()
