@@ -1,14 +1,13 @@
 -- The laws of the table of the integers, operation by operation.
-use Rattle.std.proofs.Common.{◌≡◌, ℕ, ◌+◌, ◌-◌, ◌*◌, ◌/◌, ◌%◌, ◌^◌, ◌<◌, ◌≤◌, suc, min, max, refl, ap, sym, ◌∙◌, arith, rules, ℤ, pos, negsuc, bit_and, bit_or, bit_xor, nat_lt, Bool, true, false}
+use Rattle.std.proofs.Common.{◌≡◌, ℕ, ◌+◌, ◌-◌, ◌*◌, ◌%◌, ◌^◌, ◌<◌, min, max, refl, ap, sym, ◌∙◌, arith, ℤ, pos, negsuc, bit_and, bit_or, bit_xor}
 use Rattle.std.proofs.Math.Nat.{add_comm, mul_comm, add_assoc, mul_assoc, mod-add-mod, add-mod-mod}
 use Rattle.std.proofs.lemmas.Nat.{and_comm, or_comm, xor_comm, and_assoc, mul-mod_first, mul-mod_second, or_lt, xor_lt}
 use Rattle.std.proofs.lemmas.Nat.Bits.{same_from_bits, bit_at_or}
 use Rattle.std.proofs.lemmas.Int.{ints, clamps}
 use Rattle.std.proofs.lemmas.Grind.{common_steps}
 use Rattle.std.specs.Int.Bits.{xor_assoc, and_lt}
-use Rattle.std.specs.Int.{int_min, int_max, bit_at}
+use Rattle.std.specs.Int.{int_min, int_max}
 use Rattle.xf_type.specs.declared.payload_type.Width.{Width}
-use Rattle.xf_type.specs.declared.payload_type.Elem.{Elem}
 use Rattle.xf_type.specs.declared.payload_type.Elem.TheVariants.{Num, NoNumber}
 use Rattle.xf_type.specs.declared.kind.BinKind.{BinKind}
 use Rattle.xf_type.specs.declared.kind.BinKind.TheVariants as bin
@@ -17,7 +16,7 @@ use Rattle.xf_type.specs.declared.kind.Combiner.TheVariants.{Addi, Muli, Andi, O
 use Rattle.xf_type.specs.declared.payload_type.Width.TheVariants.{I1, I8, I16, I32, I64, Index}
 use Rattle.xf_type.specs.declared.kind.ConvKind.TheVariants.{Extsi, Extui, Trunci, IndexCast, IndexCastui}
 use Rattle.xf_type.specs.Laws.{WrappedFits, SignedValueFits, WrappedReturns, SignedValueReturns, BinaryFits, ComparedFits, ConvertedFits, SelectedFits, CombinedFits, CombinedCommutes, CombinedAssociates, Returns, ExtensionReturns, IndexCastReturns}
-use Rattle.xf_type.specs.Integers.{bits_of, wrapped, signed_value, FitsWidth, binary_of, binary, kind_of, combined, shift}
+use Rattle.xf_type.specs.Integers.{bits_of, wrapped, signed_value, FitsWidth, binary_of, kind_of, combined}
 
 -- ---- the two readings of a number
 
