@@ -24,6 +24,12 @@ fn a_list_changes_as_its_calls_say(rt: HostRuntime) -> Result<(), Fail> {
     assert_eq!(rt; list.pop(), Some(5));
     assert_eq!(rt; list.pop(), Some(4));
     assert_eq!(rt; list.pop(), None);
+    list.append(ListOf::from_slice(rt.alloc(), &[1, 2])?)?;
+    assert_eq!(rt; list.len(), 2);
+    list.insert(1, 9)?;
+    assert_eq!(rt; list.len(), 3);
+    assert_eq!(rt; list.remove(0), 1);
+    assert_eq!(rt; list.into_vec().as_slice(), [9, 2].as_slice());
     Ok(())
 }
 
