@@ -53,20 +53,17 @@ WRAPPED = [-(1 << 127), -(1 << 63) - 1, -129, -1, 255, (1 << 64) + 1, (1 << 127)
 
 
 def digest(results):
+    """The upper half of a word that depends on each result and its place."""
     total = 0
     for result in results:
         total = (total * 31 + (MARK if result is NONE else result)) % (1 << 64)
-    return total
+    return total >> 32
 
 
-def hexes(numbers):
-    return "[" + ", ".join("0x%x" % n for n in numbers) + "]"
-
-
-def table(name, rows):
+def table(name, rows, spelt=hex):
     print(f"const {name} = [")
     for kind, numbers in rows:
-        print(f"    ({kind}, {hexes(numbers)}),")
+        print(f"    ({kind}, [{', '.join(map(spelt, numbers))}]),")
     print("];")
 
 
@@ -75,7 +72,7 @@ def pairs(bits):
 
 
 table("EDGES", [("Width::" + w, edges(bits)) for w, bits in WIDTHS])
-table("SIGNED", [("Width::" + w, [signed(bits, n) % (1 << 64) for n in edges(bits)]) for w, bits in WIDTHS])
+table("SIGNED", [("Width::" + w, [signed(bits, n) for n in edges(bits)]) for w, bits in WIDTHS], str)
 table("WRAPPED", [("Width::" + w, [n % (1 << bits) for n in WRAPPED]) for w, bits in WIDTHS])
 table("BINARY", [("BinKind::" + k, [digest(f(bits, a, b) for a, b in pairs(bits)) for _, bits in WIDTHS]) for k, f in BINARY.items()])
 table("COMPARED", [("CmpKind::" + k, [digest(int(f(bits, a, b)) for a, b in pairs(bits)) for _, bits in WIDTHS]) for k, f in COMPARE.items()])

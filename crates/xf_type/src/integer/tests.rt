@@ -55,84 +55,36 @@ const EDGES: [(Width, [u64; 8]); 6] = [
     ),
 ];
 
-// The edges read in two's complement, as the bits of an `i64`.
-const SIGNED: [(Width, [u64; 8]); 6] = [
-    (
-        Width::I1,
-        [
-            0x0,
-            0xffffffffffffffff,
-            0xffffffffffffffff,
-            0xffffffffffffffff,
-            0x0,
-            0x0,
-            0xffffffffffffffff,
-            0x0,
-        ],
-    ),
-    (
-        Width::I8,
-        [
-            0x0,
-            0x1,
-            0xffffffffffffffff,
-            0xffffffffffffff80,
-            0x7f,
-            0x7,
-            0x8,
-            0x9,
-        ],
-    ),
-    (
-        Width::I16,
-        [
-            0x0,
-            0x1,
-            0xffffffffffffffff,
-            0xffffffffffff8000,
-            0x7fff,
-            0xf,
-            0x10,
-            0x11,
-        ],
-    ),
-    (
-        Width::I32,
-        [
-            0x0,
-            0x1,
-            0xffffffffffffffff,
-            0xffffffff80000000,
-            0x7fffffff,
-            0x1f,
-            0x20,
-            0x21,
-        ],
-    ),
+// The edges read in two's complement.
+const SIGNED: [(Width, [i64; 8]); 6] = [
+    (Width::I1, [0, -1, -1, -1, 0, 0, -1, 0]),
+    (Width::I8, [0, 1, -1, -128, 127, 7, 8, 9]),
+    (Width::I16, [0, 1, -1, -32768, 32767, 15, 16, 17]),
+    (Width::I32, [0, 1, -1, -2147483648, 2147483647, 31, 32, 33]),
     (
         Width::I64,
         [
-            0x0,
-            0x1,
-            0xffffffffffffffff,
-            0x8000000000000000,
-            0x7fffffffffffffff,
-            0x3f,
-            0x40,
-            0x41,
+            0,
+            1,
+            -1,
+            -9223372036854775808,
+            9223372036854775807,
+            63,
+            64,
+            65,
         ],
     ),
     (
         Width::Index,
         [
-            0x0,
-            0x1,
-            0xffffffffffffffff,
-            0x8000000000000000,
-            0x7fffffffffffffff,
-            0x3f,
-            0x40,
-            0x41,
+            0,
+            1,
+            -1,
+            -9223372036854775808,
+            9223372036854775807,
+            63,
+            64,
+            65,
         ],
     ),
 ];
@@ -179,144 +131,79 @@ const BINARY: [(BinKind, [u64; 6]); 13] = [
     (
         BinKind::Addi,
         [
-            0x6b0911eb8bb14200,
-            0xa88b4dfaad762fd8,
-            0x3c0b2e0ecbfc3818,
-            0x3ab7ce2961cb8098,
-            0x99739b4624a21198,
-            0x99739b4624a21198,
+            0x6b0911eb, 0xa88b4dfa, 0x3c0b2e0e, 0x3ab7ce29, 0x99739b46, 0x99739b46,
         ],
     ),
     (
         BinKind::Subi,
         [
-            0x6b0911eb8bb14200,
-            0x4eec0acc33f4c928,
-            0xedbfe3e9dd1256e8,
-            0x847ac104649f3e68,
-            0x125b874277850d68,
-            0x125b874277850d68,
+            0x6b0911eb, 0x4eec0acc, 0xedbfe3e9, 0x847ac104, 0x125b8742, 0x125b8742,
         ],
     ),
     (
         BinKind::Muli,
         [
-            0xd3a70b12cecae00,
-            0x7508fa3c1b8c2d7d,
-            0xbaaeb05c1d3beefd,
-            0x2c60e2b32946427d,
-            0x3c23d12cb58abb7d,
-            0x3c23d12cb58abb7d,
+            0xd3a70b1, 0x7508fa3c, 0xbaaeb05c, 0x2c60e2b3, 0x3c23d12c, 0x3c23d12c,
         ],
     ),
     (
         BinKind::Andi,
         [
-            0xd3a70b12cecae00,
-            0xfe3dfb1515270773,
-            0x84a483e312405f5b,
-            0xce1cd16561834b2b,
-            0x57804046a4522cb,
-            0x57804046a4522cb,
+            0xd3a70b1, 0xfe3dfb15, 0x84a483e3, 0xce1cd165, 0x5780404, 0x5780404,
         ],
     ),
     (
         BinKind::Ori,
         [
-            0x7843829cb89df000,
-            0x5bd067e538f50465,
-            0x3a7ba9cc5f97d8bd,
-            0x6c3ba2a00048356d,
-            0x93fb9741ba5ceecd,
-            0x93fb9741ba5ceecd,
+            0x7843829c, 0x5bd067e5, 0x3a7ba9cc, 0x6c3ba2a0, 0x93fb9741, 0x93fb9741,
         ],
     ),
     (
         BinKind::Xori,
         [
-            0x6b0911eb8bb14200,
-            0x5d926cd023cdfcf2,
-            0xb5d725e94d577962,
-            0x9e1ed13a9ec4ea42,
-            0x8e83933d5017cc02,
-            0x8e83933d5017cc02,
+            0x6b0911eb, 0x5d926cd0, 0xb5d725e9, 0x9e1ed13a, 0x8e83933d, 0x8e83933d,
         ],
     ),
     (
         BinKind::Shli,
         [
-            0xebe5b4e10d412000,
-            0xdf8677d7d2db08f,
-            0x9b2087ca297ec727,
-            0xcabfaf3750db957,
-            0x70847a4fe0709db7,
-            0x70847a4fe0709db7,
+            0xebe5b4e1, 0xdf8677d, 0x9b2087ca, 0xcabfaf3, 0x70847a4f, 0x70847a4f,
         ],
     ),
     (
         BinKind::Shrui,
         [
-            0xebe5b4e10d412000,
-            0x3d81dce1a693712c,
-            0x2b15bec4ca06fa20,
-            0x76a66885abab8a08,
-            0x1407bb9ce972a9d8,
-            0x1407bb9ce972a9d8,
+            0xebe5b4e1, 0x3d81dce1, 0x2b15bec4, 0x76a66885, 0x1407bb9c, 0x1407bb9c,
         ],
     ),
     (
         BinKind::Shrsi,
         [
-            0xebe5b4e10d412000,
-            0xa89f48f6661c5728,
-            0xa2c05fc5ef159d1c,
-            0xb0725b7213772d04,
-            0xe27bf146513e4cd4,
-            0xe27bf146513e4cd4,
+            0xebe5b4e1, 0xa89f48f6, 0xa2c05fc5, 0xb0725b72, 0xe27bf146, 0xe27bf146,
         ],
     ),
     (
         BinKind::Minsi,
         [
-            0x7843829cb89df000,
-            0xe44a8c449f8c8353,
-            0x1744166b9dbc645b,
-            0x667cf6f19745fe6b,
-            0xd0df721b7831328b,
-            0xd0df721b7831328b,
+            0x7843829c, 0xe44a8c44, 0x1744166b, 0x667cf6f1, 0xd0df721b, 0xd0df721b,
         ],
     ),
     (
         BinKind::Maxsi,
         [
-            0xd3a70b12cecae00,
-            0x75c3d6b5ae8f8885,
-            0xa7dc1743d41bd3bd,
-            0xd3db7d13ca85822d,
-            0xc894292aac70df0d,
-            0xc894292aac70df0d,
+            0xd3a70b1, 0x75c3d6b5, 0xa7dc1743, 0xd3db7d13, 0xc894292a, 0xc894292a,
         ],
     ),
     (
         BinKind::Minui,
         [
-            0xd3a70b12cecae00,
-            0xd6b7c6dd296729c1,
-            0x2ae57b9a263861d9,
-            0x5a88eeb158b7ee09,
-            0xc88f5eb944d30669,
-            0xc88f5eb944d30669,
+            0xd3a70b1, 0xd6b7c6dd, 0x2ae57b9a, 0x5a88eeb1, 0xc88f5eb9, 0xc88f5eb9,
         ],
     ),
     (
         BinKind::Maxui,
         [
-            0x7843829cb89df000,
-            0x83569c1d24b4e217,
-            0x943ab2154b9fd63f,
-            0xdfcf85540913928f,
-            0xd0e43c8cdfcf0b2f,
-            0xd0e43c8cdfcf0b2f,
+            0x7843829c, 0x83569c1d, 0x943ab215, 0xdfcf8554, 0xd0e43c8c, 0xd0e43c8c,
         ],
     ),
 ];
@@ -326,111 +213,61 @@ const COMPARED: [(CmpKind, [u64; 6]); 10] = [
     (
         CmpKind::Eq,
         [
-            0x9612fafb87f74200,
-            0x89b6850427999480,
-            0x89b6850427999480,
-            0x89b6850427999480,
-            0x89b6850427999480,
-            0x89b6850427999480,
+            0x9612fafb, 0x89b68504, 0x89b68504, 0x89b68504, 0x89b68504, 0x89b68504,
         ],
     ),
     (
         CmpKind::Ne,
         [
-            0x6b0911eb8bb14200,
-            0x776587e2ec0eef80,
-            0x776587e2ec0eef80,
-            0x776587e2ec0eef80,
-            0x776587e2ec0eef80,
-            0x776587e2ec0eef80,
+            0x6b0911eb, 0x776587e2, 0x776587e2, 0x776587e2, 0x776587e2, 0x776587e2,
         ],
     ),
     (
         CmpKind::Slt,
         [
-            0x3cf69b24a3369400,
-            0x4378e0c1bb2e515e,
-            0x4378e0c1bb2e515e,
-            0x4378e0c1bb2e515e,
-            0x4378e0c1bb2e515e,
-            0x4378e0c1bb2e515e,
+            0x3cf69b24, 0x4378e0c1, 0x4378e0c1, 0x4378e0c1, 0x4378e0c1, 0x4378e0c1,
         ],
     ),
     (
         CmpKind::Sle,
         [
-            0xd30996202b2dd600,
-            0xcd2f65c5e2c7e5de,
-            0xcd2f65c5e2c7e5de,
-            0xcd2f65c5e2c7e5de,
-            0xcd2f65c5e2c7e5de,
-            0xcd2f65c5e2c7e5de,
+            0xd3099620, 0xcd2f65c5, 0xcd2f65c5, 0xcd2f65c5, 0xcd2f65c5, 0xcd2f65c5,
         ],
     ),
     (
         CmpKind::Sgt,
         [
-            0x2e1276c6e87aae00,
-            0x33eca72130e09e22,
-            0x33eca72130e09e22,
-            0x33eca72130e09e22,
-            0x33eca72130e09e22,
-            0x33eca72130e09e22,
+            0x2e1276c6, 0x33eca721, 0x33eca721, 0x33eca721, 0x33eca721, 0x33eca721,
         ],
     ),
     (
         CmpKind::Sge,
         [
-            0xc42571c27071f000,
-            0xbda32c25587a32a2,
-            0xbda32c25587a32a2,
-            0xbda32c25587a32a2,
-            0xbda32c25587a32a2,
-            0xbda32c25587a32a2,
+            0xc42571c2, 0xbda32c25, 0xbda32c25, 0xbda32c25, 0xbda32c25, 0xbda32c25,
         ],
     ),
     (
         CmpKind::Ult,
         [
-            0x2e1276c6e87aae00,
-            0x7280891c9ed1315e,
-            0x7280891c9ed1315e,
-            0x7280891c9ed1315e,
-            0x7280891c9ed1315e,
-            0x7280891c9ed1315e,
+            0x2e1276c6, 0x7280891c, 0x7280891c, 0x7280891c, 0x7280891c, 0x7280891c,
         ],
     ),
     (
         CmpKind::Ule,
         [
-            0xc42571c27071f000,
-            0xfc370e20c66ac5de,
-            0xfc370e20c66ac5de,
-            0xfc370e20c66ac5de,
-            0xfc370e20c66ac5de,
-            0xfc370e20c66ac5de,
+            0xc42571c2, 0xfc370e20, 0xfc370e20, 0xfc370e20, 0xfc370e20, 0xfc370e20,
         ],
     ),
     (
         CmpKind::Ugt,
         [
-            0x3cf69b24a3369400,
-            0x4e4fec64d3dbe22,
-            0x4e4fec64d3dbe22,
-            0x4e4fec64d3dbe22,
-            0x4e4fec64d3dbe22,
-            0x4e4fec64d3dbe22,
+            0x3cf69b24, 0x4e4fec6, 0x4e4fec6, 0x4e4fec6, 0x4e4fec6, 0x4e4fec6,
         ],
     ),
     (
         CmpKind::Uge,
         [
-            0xd30996202b2dd600,
-            0x8e9b83ca74d752a2,
-            0x8e9b83ca74d752a2,
-            0x8e9b83ca74d752a2,
-            0x8e9b83ca74d752a2,
-            0x8e9b83ca74d752a2,
+            0xd3099620, 0x8e9b83ca, 0x8e9b83ca, 0x8e9b83ca, 0x8e9b83ca, 0x8e9b83ca,
         ],
     ),
 ];
@@ -440,56 +277,31 @@ const CONVERTED: [(ConvKind, [u64; 6]); 5] = [
     (
         ConvKind::Extsi,
         [
-            0xfdadfaeae4b85200,
-            0xce69e16c963de3b8,
-            0x6929a13b9849e1e0,
-            0x7ee0ea8253a67830,
-            0x1cfbfaf841ba4d0,
-            0x1cfbfaf841ba4d0,
+            0xfdadfaea, 0xce69e16c, 0x6929a13b, 0x7ee0ea82, 0x1cfbfaf, 0x1cfbfaf,
         ],
     ),
     (
         ConvKind::Extui,
         [
-            0x3cf8c83683e28500,
-            0xd61c2bdf451e63b8,
-            0xd66a565e08a9e1e0,
-            0x5104aac253a67830,
-            0x1cfbfaf841ba4d0,
-            0x1cfbfaf841ba4d0,
+            0x3cf8c836, 0xd61c2bdf, 0xd66a565e, 0x5104aac2, 0x1cfbfaf, 0x1cfbfaf,
         ],
     ),
     (
         ConvKind::Trunci,
         [
-            0x3cf8c83683e28500,
-            0xd61c2bdf451e63b8,
-            0xd66a565e08a9e1e0,
-            0x5104aac253a67830,
-            0x1cfbfaf841ba4d0,
-            0x1cfbfaf841ba4d0,
+            0x3cf8c836, 0xd61c2bdf, 0xd66a565e, 0x5104aac2, 0x1cfbfaf, 0x1cfbfaf,
         ],
     ),
     (
         ConvKind::IndexCast,
         [
-            0xfdadfaeae4b85200,
-            0xce69e16c963de3b8,
-            0x6929a13b9849e1e0,
-            0x7ee0ea8253a67830,
-            0x1cfbfaf841ba4d0,
-            0x1cfbfaf841ba4d0,
+            0xfdadfaea, 0xce69e16c, 0x6929a13b, 0x7ee0ea82, 0x1cfbfaf, 0x1cfbfaf,
         ],
     ),
     (
         ConvKind::IndexCastui,
         [
-            0x3cf8c83683e28500,
-            0xd61c2bdf451e63b8,
-            0xd66a565e08a9e1e0,
-            0x5104aac253a67830,
-            0x1cfbfaf841ba4d0,
-            0x1cfbfaf841ba4d0,
+            0x3cf8c836, 0xd61c2bdf, 0xd66a565e, 0x5104aac2, 0x1cfbfaf, 0x1cfbfaf,
         ],
     ),
 ];
@@ -526,14 +338,11 @@ fn digest(total: u64, e: Elem) -> u64 {
 fn readings_are_pythons(rt: HostRuntime) {
     for i in 0..6 {
         let (w, edges) = EDGES[i];
+        assert_eq!(rt; bits(w), [1, 8, 16, 32, 64, 64][i], "bits of {w:?}");
         for j in 0..8 {
             let n = low_bits(w, edges[j]);
             assert_eq!(rt; n, edges[j], "edge {j} of {w:?}");
-            assert_eq!(rt;
-                signed(w, n).cast_unsigned(),
-                SIGNED[i].1[j],
-                "edge {j} of {w:?}"
-            );
+            assert_eq!(rt; signed(w, n), SIGNED[i].1[j], "edge {j} of {w:?}");
         }
         for j in 0..7 {
             assert_eq!(rt; wrap(w, WIDE[j]), WRAPPED[i].1[j], "number {j} at {w:?}");
@@ -552,7 +361,7 @@ fn operations_are_pythons(rt: HostRuntime) {
                     total = digest(total, apply_binary(k, w, element(w, a), element(w, b)));
                 }
             }
-            assert_eq!(rt; total, wanted[i], "{k:?} at {w:?}");
+            assert_eq!(rt; total >> 32, wanted[i], "{k:?} at {w:?}");
         }
     }
 }
@@ -568,7 +377,7 @@ fn comparisons_are_pythons(rt: HostRuntime) {
                     total = digest(total, apply_cmp(k, w, element(w, a), element(w, b)));
                 }
             }
-            assert_eq!(rt; total, wanted[i], "{k:?} at {w:?}");
+            assert_eq!(rt; total >> 32, wanted[i], "{k:?} at {w:?}");
         }
     }
 }
@@ -584,7 +393,7 @@ fn conversions_are_pythons(rt: HostRuntime) {
                     total = digest(total, apply_conv(k, from, to, element(from, a)));
                 }
             }
-            assert_eq!(rt; total, wanted[i], "{k:?} from {from:?}");
+            assert_eq!(rt; total >> 32, wanted[i], "{k:?} from {from:?}");
         }
     }
 }
