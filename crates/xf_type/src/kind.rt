@@ -1,0 +1,86 @@
+//! The operations on integers, by the words of the `arith` dialect.
+ghost use Rattle.std.specs.Prelude.{◌≡◌};
+ghost use Rattle.xf_type.specs.Integers.{kind_of};
+
+/// An operation on two integers of one width. All of them wrap to the width.
+#[derive(Clone, Copy, Debug, PartialEq, Eq)]
+pub enum BinKind {
+    Addi,
+    Subi,
+    Muli,
+    Andi,
+    Ori,
+    Xori,
+    Shli,
+    /// Shifts to the right, filling with zeros.
+    Shrui,
+    /// Shifts to the right, filling with the sign.
+    Shrsi,
+    Minsi,
+    Maxsi,
+    Minui,
+    Maxui,
+}
+
+/// A comparison of two integers of one width, signed where the word begins with `S`, unsigned where it begins with `U`.
+#[derive(Clone, Copy, Debug, PartialEq, Eq)]
+pub enum CmpKind {
+    Eq,
+    Ne,
+    Slt,
+    Sle,
+    Sgt,
+    Sge,
+    Ult,
+    Ule,
+    Ugt,
+    Uge,
+}
+
+/// A conversion of an integer to another width.
+#[derive(Clone, Copy, Debug, PartialEq, Eq)]
+pub enum ConvKind {
+    /// Extends with the sign.
+    Extsi,
+    /// Extends with zeros.
+    Extui,
+    /// Keeps the low bits.
+    Trunci,
+    /// Extends with the sign, or keeps the low bits.
+    IndexCast,
+    /// Extends with zeros, or keeps the low bits.
+    IndexCastui,
+}
+
+/// An operation by which a reduction joins its elements: associative and commutative, so that their order is free.
+#[derive(Clone, Copy, Debug, PartialEq, Eq)]
+pub enum Combiner {
+    Addi,
+    Muli,
+    Andi,
+    Ori,
+    Xori,
+    Minsi,
+    Maxsi,
+    Minui,
+    Maxui,
+}
+
+impl Combiner {
+    /// The same operation, as one of two operands.
+    pub fn kind(self) -> BinKind
+        ensures { result ≡ kind_of self }
+    {
+        match self {
+            Combiner::Addi => BinKind::Addi,
+            Combiner::Muli => BinKind::Muli,
+            Combiner::Andi => BinKind::Andi,
+            Combiner::Ori => BinKind::Ori,
+            Combiner::Xori => BinKind::Xori,
+            Combiner::Minsi => BinKind::Minsi,
+            Combiner::Maxsi => BinKind::Maxsi,
+            Combiner::Minui => BinKind::Minui,
+            Combiner::Maxui => BinKind::Maxui,
+        }
+    }
+}
