@@ -1,5 +1,10 @@
+pub mod Lists
+pub mod Words
 pub mod Tree
 pub mod View
 pub mod Count
 pub mod Walk
 pub mod Places
+pub mod Valid
+pub mod Edits
+pub mod Choices

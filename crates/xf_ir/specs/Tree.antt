@@ -1,4 +1,4 @@
--- The payload tree, ds definitions see it (MLIR language reference: operations, regions, blocks).
+-- The payload tree, as definitions see it (MLIR language reference: operations, regions, blocks).
 use Rattle.std.specs.Prelude.{List}
 use Rattle.std.specs.Coded.{Coded, code_by, coded×, coded_list}
 use Rattle.std.proofs.Common.{◌≡◌, refl}

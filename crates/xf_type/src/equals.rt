@@ -1,7 +1,9 @@
 //! Tests whether two values are equal.
 ghost use Rattle.std.specs.Prelude.{◌≡◌, ◌↔◌, IsTrue};
 
-use crate::payload_type::{Dim, Width};
+use crate::attribute::{AffineMap, AttrValue};
+use crate::list::ListOf;
+use crate::payload_type::{Dim, PayloadType, Shape, Width};
 
 /// A value of which a test tells whether another is the same.
 pub trait Equals {
@@ -41,5 +43,60 @@ impl Equals for Dim {
             (Dim::Dynamic, Dim::Dynamic) => true,
             _ => false,
         }
+    }
+}
+
+impl<T: Equals> Equals for ListOf<T> {
+    fn equals(&self, other: &ListOf<T>) -> bool {
+        let left = self.as_slice();
+        let right = other.as_slice();
+        if left.len() != right.len() {
+            return false;
+        }
+        for at in 0..left.len() {
+            if !left[at].equals(&right[at]) {
+                return false;
+            }
+        }
+        true
+    }
+}
+
+impl Equals for Shape {
+    fn equals(&self, other: &Shape) -> bool {
+        self.elem == other.elem && self.dims.equals(&other.dims)
+    }
+}
+
+impl Equals for PayloadType {
+    fn equals(&self, other: &PayloadType) -> bool {
+        match (self, other) {
+            (PayloadType::Scalar(width), PayloadType::Scalar(wanted)) => *width == *wanted,
+            (PayloadType::Tensor(shape), PayloadType::Tensor(wanted)) => shape.equals(wanted),
+            _ => false,
+        }
+    }
+}
+
+impl Equals for AttrValue {
+    fn equals(&self, other: &AttrValue) -> bool {
+        match (self, other) {
+            (AttrValue::Unit, AttrValue::Unit) => true,
+            (
+                AttrValue::Int { width, bits },
+                AttrValue::Int {
+                    width: wanted,
+                    bits: wanted_bits,
+                },
+            ) => *width == *wanted && *bits == *wanted_bits,
+            (AttrValue::Text(bytes), AttrValue::Text(wanted)) => bytes.equals(wanted),
+            _ => false,
+        }
+    }
+}
+
+impl Equals for AffineMap {
+    fn equals(&self, other: &AffineMap) -> bool {
+        self.dims == other.dims && self.results.equals(&other.results)
     }
 }
