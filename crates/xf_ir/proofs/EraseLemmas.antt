@@ -1,11 +1,11 @@
 -- What an erasing walk over lists leaves.
-use Rattle.std.proofs.Common.{◌≡◌, ℕ, zero, suc, ◌+◌, ◌<◌, ◌≤◌, List, [], ◌∷◌, ◌++◌, length, get_or, take, drop, refl, ap, sym, arith, ◌∙◌, append-nil, Bool, true, false, eqb, cond}
+use Rattle.std.proofs.Common.{◌≡◌, ℕ, zero, suc, ◌+◌, ◌<◌, ◌≤◌, List, [], ◌∷◌, ◌++◌, length, get_or, take, drop, refl, ap, arith, ◌∙◌, append-nil, true, false, eqb}
 use Rattle.std.specs.Prelude.{map}
 use Rattle.std.specs.List.{remove}
 use Rattle.std.proofs.lemmas.List.{take_all, drop_all}
 use denote.Param.Weighed.{at_most}
 use Rattle.xf_ir.specs.declared.name.OpName.{OpName}
-use Rattle.xf_ir.specs.Tree.{Ops, no_ops, op, Regions, no_regions, region, Tree, Body, cons}
+use Rattle.xf_ir.specs.Tree.{region, Tree, Body, cons}
 use Rattle.xf_ir.specs.View.{ops_of, regions_of, tree_size, ops_size, regions_size, body_size, trees_fall, bodies_fall}
 use Rattle.xf_ir.specs.Edits.{ops_at, regions_at, tail, tree_erased}
 

@@ -1,15 +1,12 @@
 -- What stays where one operation is taken out: the rules that speak of each operation for itself.
-use Rattle.std.proofs.Common.{◌≡◌, ℕ, ◌+◌, ◌≤◌, List, [], ◌∷◌, ◌++◌, Bool, true, false, eqb, refl, ap, arith}
-use Rattle.std.specs.Prelude.{if◌then◌else◌}
+use Rattle.std.proofs.Common.{◌≡◌, ℕ, List, eqb, refl, ap}
 use Rattle.xf_ir.specs.declared.name.OpName.{OpName}
-use Rattle.xf_ir.specs.declared.name.ValueName.{ValueName}
 use Rattle.xf_ir.specs.declared.kind.Kind.{Kind}
 use Rattle.xf_ir.specs.declared.kind.Kind.TheVariants as kind
 use Rattle.xf_ir.specs.Tree.{Ops, no_ops, op, Regions, no_regions, region}
 use Rattle.xf_ir.specs.Walk.{ops_names, regions_names}
-use Rattle.xf_ir.specs.Lists.{Each}
 use Rattle.xf_ir.specs.Edits.{ops_at, regions_at, tail}
-use Rattle.xf_ir.specs.Valid.{is_container, OpsInner, RegionsInner, FunctionsAlone, symbols_before, symbols_of, block_of, HasRegions, OpsHaveRegions, RegionsHaveRegions, OpsHaveAttributes, RegionsHaveAttributes, OpsInRange, RegionsInRange}
+use Rattle.xf_ir.specs.Valid.{OpsInner, RegionsInner, FunctionsAlone, symbols_before, symbols_of, block_of, HasRegions, OpsHaveRegions, RegionsHaveRegions, OpsHaveAttributes, RegionsHaveAttributes, OpsInRange, RegionsInRange}
 use Rattle.xf_ir.proofs.Lists.{at_cases, Part, none, skip, keep, part_all, part_append, part_behind}
 
 -- ---- names

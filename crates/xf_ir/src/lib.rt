@@ -4,6 +4,7 @@
 mod copy;
 mod edit;
 mod kind;
+mod laws;
 mod name;
 mod op;
 mod values;
@@ -11,6 +12,7 @@ mod walk;
 
 pub use edit::{Edit, apply_edit};
 pub use kind::{Attr, AttrList, Kind};
+pub use laws::{erasing_fits, erasing_keeps_valid, erasing_lowers_count, erasing_lowers_weight, valid_is_scoped};
 pub use name::{OpName, ValueName};
 pub use op::{Block, BlockList, Module, Op, OpList};
 pub use values::ValueList;

@@ -1,9 +1,9 @@
-use Rattle.std.proofs.Common.{◌≡◌, ◌∷◌, ◌++◌, [], ℕ, suc, ◌+◌, ◌-◌, ◌*◌, ◌<◌, ◌≤◌, length, sym, ap, ◌∙◌, arith, List, take, drop, true, false, eqb, get_or, add-one}
+use Rattle.std.proofs.Common.{◌≡◌, sym, ap, ◌∙◌, arith, true, false, eqb, get_or, add-one}
 use Rattle.std.specs.Prelude.{map}
 use Rattle.std.proofs.lemmas.List.Edits.{map_over_more}
-use Rattle.xf_ir.specs.Tree.{Tree, Body}
-use Rattle.xf_ir.specs.Edits.{ops_at, regions_at, tail, tree_erased}
-use Rattle.xf_ir.specs.View.{ops_of, regions_of, ops_size, tree_size, body_size}
+use Rattle.xf_ir.specs.Tree.{Tree}
+use Rattle.xf_ir.specs.Edits.{tree_erased}
+use Rattle.xf_ir.specs.View.{tree_size, body_size}
 use Rattle.xf_ir.proofs.EraseLemmas.{body_erased, regions_of-map, size_at, body_size_at, map_done, get-mapped, none_more, erased_none, erased_at}
 use Rattle.xf_ir.proofs.edit.+erase.Goals as goal
 
