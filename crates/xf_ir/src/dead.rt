@@ -60,3 +60,21 @@ fn first_inside(op: &Op, used: &NameSet) -> Option<OpName>
     }
     None
 }
+
+/// The first operation in preorder of the target's scope that may be erased, or `None` exactly where there is none.
+///
+/// Needs a valid module. Refuses for want of memory alone. Takes time in the number of operations and operands,
+/// each with a look-up in the set of operations that are used, and memory in the size of that set.
+pub fn first_dead(alloc: Global, m: &Module, target: OpName) -> Result<Option<OpName>, NoMemory>
+    requires { IsValid m.now }
+    ensures found { IfOk result (λ o. IfSome o (λ name. MayErase m.now target name)) }
+    ensures first { IfOk result (λ o. IfSome o (λ name. IsFirstDead m.now target name)) }
+    ensures none { IfOk result (λ o. IsNone o → IsNormal m.now target) }
+{
+    let mut used = NameSet::new(alloc);
+    add_uses_inside(&m.root, &mut used)?;
+    match m.find(target) {
+        None => Ok(None),
+        Some(op) => Ok(first_inside(op, &used)),
+    }
+}

@@ -12,6 +12,7 @@ mod op;
 mod values;
 mod walk;
 
+pub use dead::first_dead;
 pub use edit::{Edit, apply_edit};
 pub use kind::{Attr, AttrList, Kind};
 pub use laws::{erasing_fits, erasing_keeps_valid, erasing_lowers_count, erasing_lowers_weight, valid_is_scoped};
