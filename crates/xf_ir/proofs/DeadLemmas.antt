@@ -1,11 +1,9 @@
 -- What the walk for unused operations finds.
-use Rattle.std.proofs.Common.{◌≡◌, ℕ, suc, List, [], ◌∷◌, ◌++◌, length, Bool, true, false, eqb, ltb, ◌||◌, ◌&&◌, not, Option, None, Some, is_some, ◌⊎◌, inl, inr, refl, sym, ap, subst, ◌∙◌}
-use Rattle.std.specs.Prelude.{if◌then◌else◌}
+use Rattle.std.proofs.Common.{◌≡◌, ℕ, suc, List, [], ◌∷◌, ◌++◌, length, Bool, true, false, eqb, ◌||◌, ◌&&◌, not, Option, None, Some, is_some, inl, inr, refl, sym, ap, subst, ◌∙◌}
 use Rattle.std.specs.Cmp.{nat_cmp_total, unsigned_tied}
-use Rattle.std.specs.Ordering.{nat_cmp, eq_by_cmp}
+use Rattle.std.specs.Ordering.{nat_cmp}
 use Rattle.std.specs.FinSet as set
 use Rattle.std.proofs.lemmas.Bool.{cases_Bool, eqb-true, eq-eqb, or_cases, or_from, or_parts}
-use Rattle.xf_type.specs.declared.payload_type.PayloadType.{PayloadType}
 use Rattle.xf_ir.specs.declared.name.OpName.{OpName}
 use Rattle.xf_ir.specs.declared.name.ValueName.{ValueName}
 use Rattle.xf_ir.specs.declared.name.ValueName.TheVariants.{Result, Arg, Free}
@@ -13,14 +11,14 @@ use Rattle.xf_ir.specs.declared.kind.Kind.{Kind}
 use Rattle.xf_ir.specs.declared.kind.Kind.TheVariants as kind
 use Rattle.xf_ir.specs.declared.op.Module.{Module}
 use Rattle.xf_ir.specs.Tree.{Ops, no_ops, op, Regions, no_regions, region, Tree}
-use Rattle.xf_ir.specs.Walk.{ops_names, regions_names, first_of, ops_find, regions_find, tree_find}
+use Rattle.xf_ir.specs.Walk.{ops_names, regions_names, ops_find, regions_find, tree_find}
 use Rattle.xf_ir.specs.Lists.{Each, Once, same_name, is_among}
-use Rattle.xf_ir.specs.Places.{Place, Seen, done, inside, place_of, below, results_of, args_of, sees, AllSeen}
+use Rattle.xf_ir.specs.Places.{Seen, done, inside, results_of, args_of, sees, AllSeen}
 use Rattle.xf_ir.specs.Choices.{ops_operands, regions_operands, tree_operands, scope_of, scope_at, stands_before, MayErase, IsDead, IsNormal, IsFirstDead}
-use Rattle.xf_ir.specs.Used.{with_use, with_uses, goes_unused, ops_first, regions_first}
-use Rattle.xf_ir.specs.Valid.{IsValid, is_container, ends, IsModule, HasRegions, block_of, functions_of, OpsSee, RegionsSee, FunctionsSee}
-use Rattle.xf_ir.proofs.Lists.{name_is, own_name, not_left, not_right, once_left, once_right, once_apart, absent_before, apart_names, each_left, each_right}
-use Rattle.xf_ir.proofs.Found.{tree, first_cases, some_or_none, found_name, found_name_regions, found_named, found_named_regions, lost_name, lost_name_regions, OpsWhere, RegionsWhere, where_found_regions}
+use Rattle.xf_ir.specs.Used.{with_uses, goes_unused, ops_first, regions_first}
+use Rattle.xf_ir.specs.Valid.{IsValid, is_container, ends, IsModule, HasRegions, block_of, OpsSee, RegionsSee, FunctionsSee}
+use Rattle.xf_ir.proofs.Lists.{name_is, own_name, not_left, not_right, once_left, once_right, absent_before, apart_names}
+use Rattle.xf_ir.proofs.Found.{tree, none_of, first_cases, found_name, found_name_regions, found_named_regions, lost_name, lost_name_regions, OpsWhere, RegionsWhere, where_found_regions}
 use Rattle.xf_ir.proofs.ErasedUses.{Gives, Outside}
 use Rattle.xf_ir.proofs.ErasingLaws.{found_inside}
 
@@ -149,10 +147,6 @@ dead_not_used m t v found d =
     not_used t.name (tree_operands m.root) set.empty (set.contains-empty nat_cmp t.name.0) (no_results t.name count (tree_operands m.root) f d.unused)
 
 -- ---- the first that passes a test
-
-none_of : {A : Type 0} (o o' : Option A) → first_of o o' ≡ None → (o ≡ None) × (o' ≡ None)
-none_of None o' h = (refl, h)
-none_of (Some x) o' h = absurd (cc)
 
 before_left : (a b : OpName) (xs ys : List OpName) → is_among b xs ≡ true → stands_before a b (xs ++ ys) ≡ true → stands_before a b xs ≡ true
 before_left a b [] ys i h = absurd (cc)

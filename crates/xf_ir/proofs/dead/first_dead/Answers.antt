@@ -18,19 +18,19 @@ pub returns-clause-found : goal.returns-clause-found
 returns-clause-found c =
     let m = c.args.m.now in
     let u : c.add_uses_inside.new.used ≡ used_of m = c.in_ok-add_uses_inside.ensures ∙ ap (λ s. with_uses s (tree_operands m.root)) c.new-used.ensures in
-    let e : c.first_inside.result ≡ regions_first (goes_unused (used_of m)) (scope_at m c.args.target) = c.first_inside.ensures ∙ ap (λ s. regions_first (goes_unused s) c.in-Some.op.now.regions) u ∙ ap (λ (o : Option Tree). regions_first (goes_unused (used_of m)) (scope_of o)) c.in-Some.ensures in
+    let e : c.first_inside.result ≡ regions_first (goes_unused (used_of m)) (scope_at m c.args.target) = c.first_inside.ensures ∙ ap (λ s. regions_first (goes_unused s) c.in-Some.op.now.regions) u ∙ ap (λ (o : Option Tree). regions_first (goes_unused (used_of m)) (scope_of o)) c.in-Some.ensures.found in
     if_some _ _ (λ name. MayErase m c.args.target name) e (first_may m c.args.target c.requires)
 
 pub returns-clause-first : goal.returns-clause-first
 returns-clause-first c =
     let m = c.args.m.now in
     let u : c.add_uses_inside.new.used ≡ used_of m = c.in_ok-add_uses_inside.ensures ∙ ap (λ s. with_uses s (tree_operands m.root)) c.new-used.ensures in
-    let e : c.first_inside.result ≡ regions_first (goes_unused (used_of m)) (scope_at m c.args.target) = c.first_inside.ensures ∙ ap (λ s. regions_first (goes_unused s) c.in-Some.op.now.regions) u ∙ ap (λ (o : Option Tree). regions_first (goes_unused (used_of m)) (scope_of o)) c.in-Some.ensures in
+    let e : c.first_inside.result ≡ regions_first (goes_unused (used_of m)) (scope_at m c.args.target) = c.first_inside.ensures ∙ ap (λ s. regions_first (goes_unused s) c.in-Some.op.now.regions) u ∙ ap (λ (o : Option Tree). regions_first (goes_unused (used_of m)) (scope_of o)) c.in-Some.ensures.found in
     if_some _ _ (λ name. IsFirstDead m c.args.target name) e (first_is m c.args.target c.requires)
 
 pub returns-clause-none : goal.returns-clause-none
 returns-clause-none c =
     let m = c.args.m.now in
     let u : c.add_uses_inside.new.used ≡ used_of m = c.in_ok-add_uses_inside.ensures ∙ ap (λ s. with_uses s (tree_operands m.root)) c.new-used.ensures in
-    let e : c.first_inside.result ≡ regions_first (goes_unused (used_of m)) (scope_at m c.args.target) = c.first_inside.ensures ∙ ap (λ s. regions_first (goes_unused s) c.in-Some.op.now.regions) u ∙ ap (λ (o : Option Tree). regions_first (goes_unused (used_of m)) (scope_of o)) c.in-Some.ensures in
+    let e : c.first_inside.result ≡ regions_first (goes_unused (used_of m)) (scope_at m c.args.target) = c.first_inside.ensures ∙ ap (λ s. regions_first (goes_unused s) c.in-Some.op.now.regions) u ∙ ap (λ (o : Option Tree). regions_first (goes_unused (used_of m)) (scope_of o)) c.in-Some.ensures.found in
     λ h. none_may m c.args.target c.requires (sym e ∙ if_none c.first_inside.result h)
