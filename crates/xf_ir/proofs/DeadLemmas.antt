@@ -73,13 +73,14 @@ SeenFit n count ss = (v : ValueName) → sees ss v ≡ true → Fits n count v
 fit_result : (name n : OpName) (count count' : ℕ) (v : ValueName) → (eqb n.0 name.0 ≡ true → count' ≡ count) → is_some (results_of n count' v) ≡ true → Fits name count v
 fit_result name n count count' (Result o num) w h t =
     elim (cases_Bool (eqb o.0 n.0)) [
-      inl e ↦ (
-        let a = name_is o name t in
-        let b = name_is o n e in
-        let c : n ≡ name = sym b ∙ a in
-        let d : count' ≡ count = w (subst (λ x. eqb n.0 x.0 ≡ true) c (own_name n)) in
-        subst (λ k. is_some (results_of name k (Result o num)) ≡ true) d (subst (λ x. is_some (results_of x count' (Result o num)) ≡ true) c h))
-    | inr f ↦ absurd (let z = rw f at h in cc) ]
+      | inl e ↦ (
+          let a = name_is o name t in
+          let b = name_is o n e in
+          let c : n ≡ name = sym b ∙ a in
+          let d : count' ≡ count = w (subst (λ x. eqb n.0 x.0 ≡ true) c (own_name n)) in
+          subst (λ k. is_some (results_of name k (Result o num)) ≡ true) d (subst (λ x. is_some (results_of x count' (Result o num)) ≡ true) c h))
+      | inr f ↦ absurd (let z = rw f at h in cc)
+    ]
 fit_result name n count count' (Arg o r num) w h t = absurd (cc)
 fit_result name n count count' (Free num) w h t = absurd (cc)
 
@@ -142,8 +143,8 @@ dead_not_used m t v found d =
     let rs = m.root.regions in
     let w = where_found_regions t.name (Gives count) t rs v.names.once.1 found refl in
     let f : Each (Fits t.name count) (tree_operands m.root) = each_both (Fits t.name count) m.root.operands (regions_operands rs)
-          (all_fit t.name count [] m.root.operands (none_seen t.name count) v.uses.root)
-          (module_fit t.name count m.root.kind rs v.functions.root v.regions.root w v.uses.functions) in
+    (all_fit t.name count [] m.root.operands (none_seen t.name count) v.uses.root)
+    (module_fit t.name count m.root.kind rs v.functions.root v.regions.root w v.uses.functions) in
     not_used t.name (tree_operands m.root) set.empty (set.contains-empty nat_cmp t.name.0) (no_results t.name count (tree_operands m.root) f d.unused)
 
 -- ---- the first that passes a test
@@ -152,10 +153,12 @@ before_left : (a b : OpName) (xs ys : List OpName) → is_among b xs ≡ true �
 before_left a b [] ys i h = absurd (cc)
 before_left a b (x ∷ xs) ys i h =
     elim (cases_Bool (same_name x b)) [
-      inl t ↦ absurd (let z = rw t at h in cc)
-    | inr f ↦ elim (cases_Bool (same_name x a)) [
-        inl t ↦ rw (f, t) refl
-      | inr g ↦ (let r = before_left a b xs ys (rw f at i) (rw (f, g) at h) in rw (f, g, r) refl) ] ]
+      | inl t ↦ absurd (let z = rw t at h in cc)
+      | inr f ↦ elim (cases_Bool (same_name x a)) [
+        | inl t ↦ rw (f, t) refl
+        | inr g ↦ (let r = before_left a b xs ys (rw f at i) (rw (f, g) at h) in rw (f, g, r) refl)
+      ]
+    ]
 
 before_right : (a b : OpName) (xs ys : List OpName) → is_among a xs ≡ false → is_among b xs ≡ false → stands_before a b (xs ++ ys) ≡ true → stands_before a b ys ≡ true
 before_right a b [] ys i j h = h
@@ -179,24 +182,26 @@ module _ (p : Tree → Bool) where
         let ms = regions_names rs in
         let ns = ops_names rest in
         elim (cases_Bool (p (tree m k ds os ts rs))) [
-          inl e ↦ (
-            let h' = rw e at h in
-            let q : m ≡ n = cc in
-            let d : eqb m.0 n.0 ≡ true = subst (λ x. eqb m.0 x.0 ≡ true) q (own_name m) in
-            (tree m k ds os ts rs, rw d refl, e))
-        | inr e ↦ elim (first_cases (regions_first p rs) (ops_first p rest) n (rw e at h)) [
-            inl g ↦ (
-              let r = first_found_regions rs n (once_left ms ns o.1) g in
-              let d = apart_names n m ms (found_name_regions n r.0 rs r.1) (not_left m ms ns o.0) in
-              let f = r.1 in
-              (r.0, rw (d, f) refl, r.2))
-          | inr g ↦ (
-              let r = first_found rest n (once_right ms ns o.1) g.1 in
-              let i = found_name n r.0 rest r.1 in
-              let d = apart_names n m ns i (not_right m ms ns o.0) in
-              let l = lost_name_regions n rs (absent_before n ms ns o.1 i) in
-              let f = r.1 in
-              (r.0, rw (d, l, f) refl, r.2)) ] ]
+          | inl e ↦ (
+              let h' = rw e at h in
+              let q : m ≡ n = cc in
+              let d : eqb m.0 n.0 ≡ true = subst (λ x. eqb m.0 x.0 ≡ true) q (own_name m) in
+              (tree m k ds os ts rs, rw d refl, e))
+          | inr e ↦ elim (first_cases (regions_first p rs) (ops_first p rest) n (rw e at h)) [
+            | inl g ↦ (
+                let r = first_found_regions rs n (once_left ms ns o.1) g in
+                let d = apart_names n m ms (found_name_regions n r.0 rs r.1) (not_left m ms ns o.0) in
+                let f = r.1 in
+                (r.0, rw (d, f) refl, r.2))
+            | inr g ↦ (
+                let r = first_found rest n (once_right ms ns o.1) g.1 in
+                let i = found_name n r.0 rest r.1 in
+                let d = apart_names n m ns i (not_right m ms ns o.0) in
+                let l = lost_name_regions n rs (absent_before n ms ns o.1 i) in
+                let f = r.1 in
+                (r.0, rw (d, l, f) refl, r.2))
+          ]
+        ]
 
     pub first_found_regions : (rs : Regions) (n : OpName) → Once (regions_names rs) → regions_first p rs ≡ Some n → (t : Tree) × (regions_find n rs ≡ Some t) × (p t ≡ true)
     first_found_regions no_regions n o h = absurd (cc)
@@ -204,34 +209,39 @@ module _ (p : Tree → Bool) where
         let ms = ops_names ops in
         let ns = regions_names rest in
         elim (first_cases (ops_first p ops) (regions_first p rest) n h) [
-          inl g ↦ (let r = first_found ops n (once_left ms ns o) g in let f = r.1 in (r.0, rw f refl, r.2))
-        | inr g ↦ (
-            let r = first_found_regions rest n (once_right ms ns o) g.1 in
-            let l = lost_name n ops (absent_before n ms ns o (found_name_regions n r.0 rest r.1)) in
-            let f = r.1 in
-            (r.0, rw (l, f) refl, r.2)) ]
+          | inl g ↦ (let r = first_found ops n (once_left ms ns o) g in let f = r.1 in (r.0, rw f refl, r.2))
+          | inr g ↦ (
+              let r = first_found_regions rest n (once_right ms ns o) g.1 in
+              let l = lost_name n ops (absent_before n ms ns o (found_name_regions n r.0 rest r.1)) in
+              let f = r.1 in
+              (r.0, rw (l, f) refl, r.2))
+        ]
 
   mutual
     pub first_none : (ops : Ops) (x : OpName) (t : Tree) → ops_first p ops ≡ None → ops_find x ops ≡ Some t → p t ≡ false
     first_none no_ops x t h g = absurd (cc)
     first_none (op m k ds os ts rs rest) x t h g =
         elim (cases_Bool (p (tree m k ds os ts rs))) [
-          inl e ↦ absurd (let h' = rw e at h in cc)
-        | inr e ↦ (
-            let n = none_of (regions_first p rs) (ops_first p rest) (rw e at h) in
-            elim (cases_Bool (eqb m.0 x.0)) [
-              inl d ↦ (let g' = rw d at g in let q : tree m k ds os ts rs ≡ t = cc in subst (λ u. p u ≡ false) q e)
-            | inr d ↦ elim (first_cases (regions_find x rs) (ops_find x rest) t (rw d at g)) [
-                inl f ↦ first_none_regions rs x t n.0 f
-              | inr f ↦ first_none rest x t n.1 f.1 ] ]) ]
+          | inl e ↦ absurd (let h' = rw e at h in cc)
+          | inr e ↦ (
+              let n = none_of (regions_first p rs) (ops_first p rest) (rw e at h) in
+              elim (cases_Bool (eqb m.0 x.0)) [
+                | inl d ↦ (let g' = rw d at g in let q : tree m k ds os ts rs ≡ t = cc in subst (λ u. p u ≡ false) q e)
+                | inr d ↦ elim (first_cases (regions_find x rs) (ops_find x rest) t (rw d at g)) [
+                  | inl f ↦ first_none_regions rs x t n.0 f
+                  | inr f ↦ first_none rest x t n.1 f.1
+                ]
+              ])
+        ]
 
     pub first_none_regions : (rs : Regions) (x : OpName) (t : Tree) → regions_first p rs ≡ None → regions_find x rs ≡ Some t → p t ≡ false
     first_none_regions no_regions x t h g = absurd (cc)
     first_none_regions (region args ops rest) x t h g =
         let n = none_of (ops_first p ops) (regions_first p rest) h in
         elim (first_cases (ops_find x ops) (regions_find x rest) t g) [
-          inl f ↦ first_none ops x t n.0 f
-        | inr f ↦ first_none_regions rest x t n.1 f.1 ]
+          | inl f ↦ first_none ops x t n.0 f
+          | inr f ↦ first_none_regions rest x t n.1 f.1
+        ]
 
   mutual
     pub first_before : (ops : Ops) (n x : OpName) (t : Tree) → Once (ops_names ops) → ops_first p ops ≡ Some n → stands_before x n (ops_names ops) ≡ true → ops_find x ops ≡ Some t → p t ≡ false
@@ -240,32 +250,37 @@ module _ (p : Tree → Bool) where
         let ms = regions_names rs in
         let ns = ops_names rest in
         elim (cases_Bool (p (tree m k ds os ts rs))) [
-          inl e ↦ absurd (
-            let h' = rw e at h in
-            let q : m ≡ n = cc in
-            let d : eqb m.0 n.0 ≡ true = subst (λ y. eqb m.0 y.0 ≡ true) q (own_name m) in
-            let z = rw d at b in cc)
-        | inr e ↦ elim (cases_Bool (eqb m.0 x.0)) [
-            inl d ↦ (let g' = rw d at g in let q : tree m k ds os ts rs ≡ t = cc in subst (λ u. p u ≡ false) q e)
-          | inr d ↦ elim (first_cases (regions_first p rs) (ops_first p rest) n (rw e at h)) [
-              inl f ↦ (
-                let r = first_found_regions rs n (once_left ms ns o.1) f in
-                let i = found_name_regions n r.0 rs r.1 in
-                let a = apart_names n m ms i (not_left m ms ns o.0) in
-                let b' = before_left x n ms ns i (rw (a, d) at b) in
-                elim (first_cases (regions_find x rs) (ops_find x rest) t (rw d at g)) [
-                  inl u ↦ first_before_regions rs n x t (once_left ms ns o.1) f b' u
-                | inr u ↦ absurd (let z = not_before x n ms (absent_before x ms ns o.1 (found_name x t rest u.1)) in cc) ])
-            | inr f ↦ (
-                let r = first_found rest n (once_right ms ns o.1) f.1 in
-                let i = found_name n r.0 rest r.1 in
-                let a = apart_names n m ns i (not_right m ms ns o.0) in
-                elim (first_cases (regions_find x rs) (ops_find x rest) t (rw d at g)) [
-                  inl u ↦ first_none_regions rs x t f.0 u
-                | inr u ↦ (
-                    let c = absent_before x ms ns o.1 (found_name x t rest u.1) in
-                    let b' = before_right x n ms ns c (absent_before n ms ns o.1 i) (rw (a, d) at b) in
-                    first_before rest n x t (once_right ms ns o.1) f.1 b' u.1) ]) ] ] ]
+          | inl e ↦ absurd (
+              let h' = rw e at h in
+              let q : m ≡ n = cc in
+              let d : eqb m.0 n.0 ≡ true = subst (λ y. eqb m.0 y.0 ≡ true) q (own_name m) in
+              let z = rw d at b in cc)
+          | inr e ↦ elim (cases_Bool (eqb m.0 x.0)) [
+            | inl d ↦ (let g' = rw d at g in let q : tree m k ds os ts rs ≡ t = cc in subst (λ u. p u ≡ false) q e)
+            | inr d ↦ elim (first_cases (regions_first p rs) (ops_first p rest) n (rw e at h)) [
+              | inl f ↦ (
+                  let r = first_found_regions rs n (once_left ms ns o.1) f in
+                  let i = found_name_regions n r.0 rs r.1 in
+                  let a = apart_names n m ms i (not_left m ms ns o.0) in
+                  let b' = before_left x n ms ns i (rw (a, d) at b) in
+                  elim (first_cases (regions_find x rs) (ops_find x rest) t (rw d at g)) [
+                    | inl u ↦ first_before_regions rs n x t (once_left ms ns o.1) f b' u
+                    | inr u ↦ absurd (let z = not_before x n ms (absent_before x ms ns o.1 (found_name x t rest u.1)) in cc)
+                  ])
+              | inr f ↦ (
+                  let r = first_found rest n (once_right ms ns o.1) f.1 in
+                  let i = found_name n r.0 rest r.1 in
+                  let a = apart_names n m ns i (not_right m ms ns o.0) in
+                  elim (first_cases (regions_find x rs) (ops_find x rest) t (rw d at g)) [
+                    | inl u ↦ first_none_regions rs x t f.0 u
+                    | inr u ↦ (
+                        let c = absent_before x ms ns o.1 (found_name x t rest u.1) in
+                        let b' = before_right x n ms ns c (absent_before n ms ns o.1 i) (rw (a, d) at b) in
+                        first_before rest n x t (once_right ms ns o.1) f.1 b' u.1)
+                  ])
+            ]
+          ]
+        ]
 
     pub first_before_regions : (rs : Regions) (n x : OpName) (t : Tree) → Once (regions_names rs) → regions_first p rs ≡ Some n → stands_before x n (regions_names rs) ≡ true → regions_find x rs ≡ Some t → p t ≡ false
     first_before_regions no_regions n x t o h b g = absurd (cc)
@@ -273,21 +288,24 @@ module _ (p : Tree → Bool) where
         let ms = ops_names ops in
         let ns = regions_names rest in
         elim (first_cases (ops_first p ops) (regions_first p rest) n h) [
-          inl f ↦ (
-            let r = first_found ops n (once_left ms ns o) f in
-            let b' = before_left x n ms ns (found_name n r.0 ops r.1) b in
-            elim (first_cases (ops_find x ops) (regions_find x rest) t g) [
-              inl u ↦ first_before ops n x t (once_left ms ns o) f b' u
-            | inr u ↦ absurd (let z = not_before x n ms (absent_before x ms ns o (found_name_regions x t rest u.1)) in cc) ])
-        | inr f ↦ (
-            let r = first_found_regions rest n (once_right ms ns o) f.1 in
-            let i = found_name_regions n r.0 rest r.1 in
-            elim (first_cases (ops_find x ops) (regions_find x rest) t g) [
-              inl u ↦ first_none ops x t f.0 u
-            | inr u ↦ (
-                let c = absent_before x ms ns o (found_name_regions x t rest u.1) in
-                let b' = before_right x n ms ns c (absent_before n ms ns o i) b in
-                first_before_regions rest n x t (once_right ms ns o) f.1 b' u.1) ]) ]
+          | inl f ↦ (
+              let r = first_found ops n (once_left ms ns o) f in
+              let b' = before_left x n ms ns (found_name n r.0 ops r.1) b in
+              elim (first_cases (ops_find x ops) (regions_find x rest) t g) [
+                | inl u ↦ first_before ops n x t (once_left ms ns o) f b' u
+                | inr u ↦ absurd (let z = not_before x n ms (absent_before x ms ns o (found_name_regions x t rest u.1)) in cc)
+              ])
+          | inr f ↦ (
+              let r = first_found_regions rest n (once_right ms ns o) f.1 in
+              let i = found_name_regions n r.0 rest r.1 in
+              elim (first_cases (ops_find x ops) (regions_find x rest) t g) [
+                | inl u ↦ first_none ops x t f.0 u
+                | inr u ↦ (
+                    let c = absent_before x ms ns o (found_name_regions x t rest u.1) in
+                    let b' = before_right x n ms ns c (absent_before n ms ns o i) b in
+                    first_before_regions rest n x t (once_right ms ns o) f.1 b' u.1)
+              ])
+        ]
 
 -- ---- the first operation that may be erased
 
@@ -298,17 +316,20 @@ mutual
       let ms = regions_names rs in
       let ns = ops_names rest in
       elim (cases_Bool (eqb n.0 target.0)) [
-        inl e ↦ (let h' = rw e at h in let q : tree n k ds os ts rs ≡ s = cc in subst (λ (x : Tree). Once (regions_names x.regions)) q (once_left ms ns o.1))
-      | inr e ↦ elim (first_cases (regions_find target rs) (ops_find target rest) s (rw e at h)) [
-          inl f ↦ once_inside_regions rs target s (once_left ms ns o.1) f
-        | inr f ↦ once_inside rest target s (once_right ms ns o.1) f.1 ] ]
+        | inl e ↦ (let h' = rw e at h in let q : tree n k ds os ts rs ≡ s = cc in subst (λ (x : Tree). Once (regions_names x.regions)) q (once_left ms ns o.1))
+        | inr e ↦ elim (first_cases (regions_find target rs) (ops_find target rest) s (rw e at h)) [
+          | inl f ↦ once_inside_regions rs target s (once_left ms ns o.1) f
+          | inr f ↦ once_inside rest target s (once_right ms ns o.1) f.1
+        ]
+      ]
 
   once_inside_regions : (rs : Regions) (target : OpName) (s : Tree) → Once (regions_names rs) → regions_find target rs ≡ Some s → Once (regions_names s.regions)
   once_inside_regions no_regions target s o h = absurd (cc)
   once_inside_regions (region args ops rest) target s o h =
       elim (first_cases (ops_find target ops) (regions_find target rest) s h) [
-        inl f ↦ once_inside ops target s (once_left (ops_names ops) (regions_names rest) o) f
-      | inr f ↦ once_inside_regions rest target s (once_right (ops_names ops) (regions_names rest) o) f.1 ]
+        | inl f ↦ once_inside ops target s (once_left (ops_names ops) (regions_names rest) o) f
+        | inr f ↦ once_inside_regions rest target s (once_right (ops_names ops) (regions_names rest) o) f.1
+      ]
 
 once_scope : (t : Tree) (target : OpName) → Once (regions_names t.regions) → Once (regions_names (scope_of (tree_find target t)))
 once_scope t target o =
@@ -342,7 +363,9 @@ module _ (m : Module) (target : OpName) (v : IsValid m) where
         dead = record {
           inner = q.0;
           goes = q.1.0;
-          unused = outside_all t.name (length t.results) (tree_operands m.root) (none_used t.name (tree_operands m.root) set.empty q.1.1).1 } }
+          unused = outside_all t.name (length t.results) (tree_operands m.root) (none_used t.name (tree_operands m.root) set.empty q.1.1).1;
+        };
+      }
 
   -- what may be erased passes
   may_pass : (name : OpName) → (e : MayErase m target name) → goes_unused (used_of m) e.tree ≡ false → ⊥

@@ -84,16 +84,20 @@ mutual
   ops_still p ss ss' no_ops k o h = tt
   ops_still p ss ss' (op n x ds os ts rs rest) k o h =
       let more = regions_operands rs ++ ops_operands rest in
-      let b = each_right (Outside p) os more o in
-      (all_still p ss ss' os k (each_left (Outside p) os more o) h.0,
-        (regions_still p ss ss' n 0 rs k (each_left (Outside p) (regions_operands rs) (ops_operands rest) b) h.1.0,
-        ops_still p (done n (length ts) ∷ ss) (done n (length ts) ∷ ss') rest (still_more p ss ss' (done n (length ts)) k) (each_right (Outside p) (regions_operands rs) (ops_operands rest) b) h.1.1))
+      let b = each_right (Outside p) os more o in (
+        all_still p ss ss' os k (each_left (Outside p) os more o) h.0,
+        (
+          regions_still p ss ss' n 0 rs k (each_left (Outside p) (regions_operands rs) (ops_operands rest) b) h.1.0,
+          ops_still p (done n (length ts) ∷ ss) (done n (length ts) ∷ ss') rest (still_more p ss ss' (done n (length ts)) k) (each_right (Outside p) (regions_operands rs) (ops_operands rest) b) h.1.1,
+        ),
+      )
 
   regions_still : (p : Place) (ss ss' : List Seen) (n : OpName) (i : ℕ) (rs : Regions) → Still p ss ss' → Each (Outside p) (regions_operands rs) → RegionsSee ss n i rs → RegionsSee ss' n i rs
   regions_still p ss ss' n i no_regions k o h = tt
-  regions_still p ss ss' n i (region args ops rest) k o h =
-      (ops_still p (inside n i (length args) ∷ ss) (inside n i (length args) ∷ ss') ops (still_more p ss ss' (inside n i (length args)) k) (each_left (Outside p) (ops_operands ops) (regions_operands rest) o) h.0,
-        regions_still p ss ss' n (suc i) rest k (each_right (Outside p) (ops_operands ops) (regions_operands rest) o) h.1)
+  regions_still p ss ss' n i (region args ops rest) k o h = (
+    ops_still p (inside n i (length args) ∷ ss) (inside n i (length args) ∷ ss') ops (still_more p ss ss' (inside n i (length args)) k) (each_left (Outside p) (ops_operands ops) (regions_operands rest) o) h.0,
+    regions_still p ss ss' n (suc i) rest k (each_right (Outside p) (ops_operands ops) (regions_operands rest) o) h.1,
+  )
 
 module _ (name : OpName) (count : ℕ) where
   mutual
@@ -108,17 +112,22 @@ module _ (name : OpName) (count : ℕ) where
         let bo = each_right (Outside p) (regions_operands rs) (ops_operands rest) b in
         at_cases (eqb n.0 name.0) rest (op n x ds os ts (regions_at name tail rs) (ops_at name tail rest)) (OpsSee ss')
         (λ t. ops_still p (d ∷ ss) ss' rest (still_without name n count (length ts) ss ss' (name_is n name t) (w.0 t) k) bo h.1.1)
-        (λ _. (all_still p ss ss' os k (each_left (Outside p) os more o) h.0,
-          (uses_kept ss ss' n 0 rs k w.1.0 br h.1.0,
-          uses_kept_ops (d ∷ ss) (d ∷ ss') rest (still_more p ss ss' d k) w.1.1 bo h.1.1)))
+        (λ _. (
+          all_still p ss ss' os k (each_left (Outside p) os more o) h.0,
+          (
+            uses_kept ss ss' n 0 rs k w.1.0 br h.1.0,
+            uses_kept_ops (d ∷ ss) (d ∷ ss') rest (still_more p ss ss' d k) w.1.1 bo h.1.1,
+          ),
+        ))
 
     uses_kept : (ss ss' : List Seen) (n : OpName) (i : ℕ) (rs : Regions) → Still (results_of name count) ss ss' → RegionsWhere name (Gives count) rs → Each (Outside (results_of name count)) (regions_operands rs) → RegionsSee ss n i rs → RegionsSee ss' n i (regions_at name tail rs)
     uses_kept ss ss' n i no_regions k w o h = tt
     uses_kept ss ss' n i (region args ops rest) k w o h =
         let p = results_of name count in
-        let d = inside n i (length args) in
-        (uses_kept_ops (d ∷ ss) (d ∷ ss') ops (still_more p ss ss' d k) w.0 (each_left (Outside p) (ops_operands ops) (regions_operands rest) o) h.0,
-          uses_kept ss ss' n (suc i) rest k w.1 (each_right (Outside p) (ops_operands ops) (regions_operands rest) o) h.1)
+        let d = inside n i (length args) in (
+          uses_kept_ops (d ∷ ss) (d ∷ ss') ops (still_more p ss ss' d k) w.0 (each_left (Outside p) (ops_operands ops) (regions_operands rest) o) h.0,
+          uses_kept ss ss' n (suc i) rest k w.1 (each_right (Outside p) (ops_operands ops) (regions_operands rest) o) h.1,
+        )
 
   pub functions_see_kept : (fs : Ops) → OpsWhere name (Gives count) fs → Each (Outside (results_of name count)) (ops_operands fs) → FunctionsSee fs → FunctionsSee (ops_at name tail fs)
   functions_see_kept no_ops w o h = tt
@@ -156,16 +165,20 @@ mutual
   ops_same : (p : Place) (holder : Kind) (env env' : Typed) (ops : Ops) → Same p env env' → Each (Outside p) (ops_operands ops) → OpsFit holder env ops → OpsFit holder env' ops
   ops_same p holder env env' no_ops s o h = tt
   ops_same p holder env env' (op n k ds os ts rs rest) s o h =
-      let b = each_right (Outside p) os (regions_operands rs ++ ops_operands rest) o in
-      (row_same p env env' holder k os ts s (each_left (Outside p) os (regions_operands rs ++ ops_operands rest) o) h.0,
-        (regions_same p k env env' n 0 rs s (each_left (Outside p) (regions_operands rs) (ops_operands rest) b) h.1.0,
-        ops_same p holder ((done n (length ts), ts) ∷ env) ((done n (length ts), ts) ∷ env') rest (same_more p env env' (done n (length ts), ts) s) (each_right (Outside p) (regions_operands rs) (ops_operands rest) b) h.1.1))
+      let b = each_right (Outside p) os (regions_operands rs ++ ops_operands rest) o in (
+        row_same p env env' holder k os ts s (each_left (Outside p) os (regions_operands rs ++ ops_operands rest) o) h.0,
+        (
+          regions_same p k env env' n 0 rs s (each_left (Outside p) (regions_operands rs) (ops_operands rest) b) h.1.0,
+          ops_same p holder ((done n (length ts), ts) ∷ env) ((done n (length ts), ts) ∷ env') rest (same_more p env env' (done n (length ts), ts) s) (each_right (Outside p) (regions_operands rs) (ops_operands rest) b) h.1.1,
+        ),
+      )
 
   regions_same : (p : Place) (holder : Kind) (env env' : Typed) (n : OpName) (i : ℕ) (rs : Regions) → Same p env env' → Each (Outside p) (regions_operands rs) → RegionsFit holder env n i rs → RegionsFit holder env' n i rs
   regions_same p holder env env' n i no_regions s o h = tt
-  regions_same p holder env env' n i (region args ops rest) s o h =
-      (ops_same p holder ((inside n i (length args), args) ∷ env) ((inside n i (length args), args) ∷ env') ops (same_more p env env' (inside n i (length args), args) s) (each_left (Outside p) (ops_operands ops) (regions_operands rest) o) h.0,
-        regions_same p holder env env' n (suc i) rest s (each_right (Outside p) (ops_operands ops) (regions_operands rest) o) h.1)
+  regions_same p holder env env' n i (region args ops rest) s o h = (
+    ops_same p holder ((inside n i (length args), args) ∷ env) ((inside n i (length args), args) ∷ env') ops (same_more p env env' (inside n i (length args), args) s) (each_left (Outside p) (ops_operands ops) (regions_operands rest) o) h.0,
+    regions_same p holder env env' n (suc i) rest s (each_right (Outside p) (ops_operands ops) (regions_operands rest) o) h.1,
+  )
 
 module _ (name : OpName) (count : ℕ) where
   mutual
@@ -179,13 +192,18 @@ module _ (name : OpName) (count : ℕ) where
         let bo = each_right (Outside p) (regions_operands rs) (ops_operands rest) b in
         at_cases (eqb n.0 name.0) rest (op n k ds os ts (regions_at name tail rs) (ops_at name tail rest)) (OpsFit holder env')
         (λ t. ops_same p holder ((done n (length ts), ts) ∷ env) env' rest (same_without name n count (length ts) ts env env' (name_is n name t) (w.0 t) s) bo h.1.1)
-        (λ _. (row_same p env env' holder k os ts s (each_left (Outside p) os more o) h.0,
-          (types_kept k env env' n 0 rs s w.1.0 br h.1.0,
-          types_kept_ops holder ((done n (length ts), ts) ∷ env) ((done n (length ts), ts) ∷ env') rest (same_more p env env' (done n (length ts), ts) s) w.1.1 bo h.1.1)))
+        (λ _. (
+          row_same p env env' holder k os ts s (each_left (Outside p) os more o) h.0,
+          (
+            types_kept k env env' n 0 rs s w.1.0 br h.1.0,
+            types_kept_ops holder ((done n (length ts), ts) ∷ env) ((done n (length ts), ts) ∷ env') rest (same_more p env env' (done n (length ts), ts) s) w.1.1 bo h.1.1,
+          ),
+        ))
 
     pub types_kept : (holder : Kind) (env env' : Typed) (n : OpName) (i : ℕ) (rs : Regions) → Same (results_of name count) env env' → RegionsWhere name (Gives count) rs → Each (Outside (results_of name count)) (regions_operands rs) → RegionsFit holder env n i rs → RegionsFit holder env' n i (regions_at name tail rs)
     types_kept holder env env' n i no_regions s w o h = tt
     types_kept holder env env' n i (region args ops rest) s w o h =
-        let p = results_of name count in
-        (types_kept_ops holder ((inside n i (length args), args) ∷ env) ((inside n i (length args), args) ∷ env') ops (same_more p env env' (inside n i (length args), args) s) w.0 (each_left (Outside p) (ops_operands ops) (regions_operands rest) o) h.0,
-          types_kept holder env env' n (suc i) rest s w.1 (each_right (Outside p) (ops_operands ops) (regions_operands rest) o) h.1)
+        let p = results_of name count in (
+          types_kept_ops holder ((inside n i (length args), args) ∷ env) ((inside n i (length args), args) ∷ env') ops (same_more p env env' (inside n i (length args), args) s) w.0 (each_left (Outside p) (ops_operands ops) (regions_operands rest) o) h.0,
+          types_kept holder env env' n (suc i) rest s w.1 (each_right (Outside p) (ops_operands ops) (regions_operands rest) o) h.1,
+        )

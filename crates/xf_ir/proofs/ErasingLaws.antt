@@ -63,17 +63,21 @@ valid_kept m target name v e =
       functions = record {
         root = v.functions.root;
         alone = subst FunctionsAlone block (functions_kept name (functions_of m) v.functions.alone);
-        names = subst (λ o. TextsOnce (symbols_of o)) block (texts_part (symbols_part name (functions_of m)) v.functions.names) };
+        names = subst (λ o. TextsOnce (symbols_of o)) block (texts_part (symbols_part name (functions_of m)) v.functions.names);
+      };
       regions = record { root = regions_kept_here name m.root.kind rs v.regions.root; inner = regions_kept name rs v.regions.inner };
       blocks = record { ends = ends_kept name m.root.kind rs goes v.blocks.ends };
       uses = record {
         root = v.uses.root;
-        functions = subst FunctionsSee block (functions_see_kept name count (functions_of m) (block_where name (Gives count) rs gives) (block_operands (Outside (results_of name count)) rs inner) v.uses.functions) };
+        functions = subst FunctionsSee block (functions_see_kept name count (functions_of m) (block_where name (Gives count) rs gives) (block_operands (Outside (results_of name count)) rs inner) v.uses.functions);
+      };
       types = record {
         root = v.types.root;
-        inner = types_kept name count m.root.kind [] [] m.root.name 0 rs (λ x _. refl) gives inner v.types.inner };
+        inner = types_kept name count m.root.kind [] [] m.root.name 0 rs (λ x _. refl) gives inner v.types.inner;
+      };
       attributes = record { root = v.attributes.root; inner = attributes_kept name rs v.attributes.inner };
-      ranges = record { root = v.ranges.root; inner = ranges_kept name rs v.ranges.inner } }
+      ranges = record { root = v.ranges.root; inner = ranges_kept name rs v.ranges.inner };
+    }
 
 pub fits : (m : Module) (target name : OpName) → IsValid m → MayErase m target name → FitsErase m name
 fits m target name v e = (let k = valid_kept m target name v e in
@@ -99,15 +103,17 @@ mutual
       at_cases (eqb n.0 name.0) rest (op n k ds os ts (regions_at name tail rs) (ops_at name tail rest)) (λ o. ops_count o < ops_count (op n k ds os ts rs rest))
       (λ _. omega arith)
       (λ e. elim (first_cases (regions_find name rs) (ops_find name rest) t (rw e at h)) [
-          inl g ↦ omega (arith, count_falls_regions name t rs g, count_stays name rest)
-        | inr g ↦ omega (arith, count_stays_regions name rs, count_falls name t rest g.1) ])
+        | inl g ↦ omega (arith, count_falls_regions name t rs g, count_stays name rest)
+        | inr g ↦ omega (arith, count_stays_regions name rs, count_falls name t rest g.1)
+      ])
 
   count_falls_regions : (name : OpName) (t : Tree) (rs : Regions) → regions_find name rs ≡ Some t → regions_count (regions_at name tail rs) < regions_count rs
   count_falls_regions name t no_regions h = absurd (cc)
   count_falls_regions name t (region args ops rest) h =
       elim (first_cases (ops_find name ops) (regions_find name rest) t h) [
-        inl g ↦ omega (arith, count_falls name t ops g, count_stays_regions name rest)
-      | inr g ↦ omega (arith, count_stays name ops, count_falls_regions name t rest g.1) ]
+        | inl g ↦ omega (arith, count_falls name t ops g, count_stays_regions name rest)
+        | inr g ↦ omega (arith, count_stays name ops, count_falls_regions name t rest g.1)
+      ]
 
 pub lowers_count : (m : Module) (target name : OpName) → IsValid m → MayErase m target name → tree_count (edited m (Erase name)).root < tree_count m.root
 lowers_count m target name v e = omega (arith, count_falls_regions name e.tree m.root.regions (found_inside m target name v.names e))
@@ -139,15 +145,17 @@ mutual
       at_cases (eqb n.0 name.0) rest (op n k ds os ts (regions_at name tail rs) (ops_at name tail rest)) (λ o. ops_weight o < ops_weight (op n k ds os ts rs rest))
       (λ _. omega (arith, some_weight k))
       (λ e. elim (first_cases (regions_find name rs) (ops_find name rest) t (rw e at h)) [
-          inl g ↦ omega (arith, weight_falls_regions name t rs g, weight_stays name rest)
-        | inr g ↦ omega (arith, weight_stays_regions name rs, weight_falls name t rest g.1) ])
+        | inl g ↦ omega (arith, weight_falls_regions name t rs g, weight_stays name rest)
+        | inr g ↦ omega (arith, weight_stays_regions name rs, weight_falls name t rest g.1)
+      ])
 
   weight_falls_regions : (name : OpName) (t : Tree) (rs : Regions) → regions_find name rs ≡ Some t → regions_weight (regions_at name tail rs) < regions_weight rs
   weight_falls_regions name t no_regions h = absurd (cc)
   weight_falls_regions name t (region args ops rest) h =
       elim (first_cases (ops_find name ops) (regions_find name rest) t h) [
-        inl g ↦ omega (arith, weight_falls name t ops g, weight_stays_regions name rest)
-      | inr g ↦ omega (arith, weight_stays name ops, weight_falls_regions name t rest g.1) ]
+        | inl g ↦ omega (arith, weight_falls name t ops g, weight_stays_regions name rest)
+        | inr g ↦ omega (arith, weight_stays name ops, weight_falls_regions name t rest g.1)
+      ]
 
 -- ---- what holds an operation is found again without it
 
@@ -158,25 +166,27 @@ mutual
       let ms = regions_names rs in
       let ns = ops_names rest in
       elim (cases_Bool (eqb n.0 target.0)) [
-        inl e ↦ (
-          let h' = rw e at h in
-          let q : tree n k ds os ts rs ≡ s = cc in
-          let g' : regions_find name rs ≡ Some t = ap (λ (x : Tree). regions_find name x.regions) q ∙ g in
-          let d = apart_names name n ms (found_name_regions name t rs g') (not_left n ms ns o.0) in
-          rw (d, e) (ap (λ x. Some (tree_erased name x)) q))
-      | inr e ↦ elim (first_cases (regions_find target rs) (ops_find target rest) s (rw e at h)) [
-          inl f ↦ (
-            let i = found_name_regions name t rs (find_inside_regions rs target name s t (once_left ms ns o.1) f g) in
-            let d = apart_names name n ms i (not_left n ms ns o.0) in
-            let l = find_erased_regions rs target name s t (once_left ms ns o.1) f g in
-            rw (d, e, l) refl)
-        | inr f ↦ (
-            let i = found_name name t rest (find_inside rest target name s t (once_right ms ns o.1) f.1 g) in
-            let d = apart_names name n ns i (not_right n ms ns o.0) in
-            let a = absent_before target ms ns o.1 (found_name target s rest f.1) in
-            let b = lost_name_regions target (regions_at name tail rs) (not_part target (names_part_regions name rs) a) in
-            let l = find_erased rest target name s t (once_right ms ns o.1) f.1 g in
-            rw (d, e, b, l) refl) ] ]
+        | inl e ↦ (
+            let h' = rw e at h in
+            let q : tree n k ds os ts rs ≡ s = cc in
+            let g' : regions_find name rs ≡ Some t = ap (λ (x : Tree). regions_find name x.regions) q ∙ g in
+            let d = apart_names name n ms (found_name_regions name t rs g') (not_left n ms ns o.0) in
+            rw (d, e) (ap (λ x. Some (tree_erased name x)) q))
+        | inr e ↦ elim (first_cases (regions_find target rs) (ops_find target rest) s (rw e at h)) [
+          | inl f ↦ (
+              let i = found_name_regions name t rs (find_inside_regions rs target name s t (once_left ms ns o.1) f g) in
+              let d = apart_names name n ms i (not_left n ms ns o.0) in
+              let l = find_erased_regions rs target name s t (once_left ms ns o.1) f g in
+              rw (d, e, l) refl)
+          | inr f ↦ (
+              let i = found_name name t rest (find_inside rest target name s t (once_right ms ns o.1) f.1 g) in
+              let d = apart_names name n ns i (not_right n ms ns o.0) in
+              let a = absent_before target ms ns o.1 (found_name target s rest f.1) in
+              let b = lost_name_regions target (regions_at name tail rs) (not_part target (names_part_regions name rs) a) in
+              let l = find_erased rest target name s t (once_right ms ns o.1) f.1 g in
+              rw (d, e, b, l) refl)
+        ]
+      ]
 
   find_erased_regions : (rs : Regions) (target name : OpName) (s t : Tree) → Once (regions_names rs) → regions_find target rs ≡ Some s → regions_find name s.regions ≡ Some t → regions_find target (regions_at name tail rs) ≡ Some (tree_erased name s)
   find_erased_regions no_regions target name s t o h g = absurd (cc)
@@ -184,18 +194,20 @@ mutual
       let ms = ops_names ops in
       let ns = regions_names rest in
       elim (first_cases (ops_find target ops) (regions_find target rest) s h) [
-        inl f ↦ (let l = find_erased ops target name s t (once_left ms ns o) f g in rw l refl)
-      | inr f ↦ (
-          let a = absent_before target ms ns o (found_name_regions target s rest f.1) in
-          let b = lost_name target (ops_at name tail ops) (not_part target (names_part name ops) a) in
-          let l = find_erased_regions rest target name s t (once_right ms ns o) f.1 g in
-          rw (b, l) refl) ]
+        | inl f ↦ (let l = find_erased ops target name s t (once_left ms ns o) f g in rw l refl)
+        | inr f ↦ (
+            let a = absent_before target ms ns o (found_name_regions target s rest f.1) in
+            let b = lost_name target (ops_at name tail ops) (not_part target (names_part name ops) a) in
+            let l = find_erased_regions rest target name s t (once_right ms ns o) f.1 g in
+            rw (b, l) refl)
+      ]
 
 scope_falls : (t : Tree) (target name : OpName) (s : Tree) → Once (regions_names t.regions) → regions_find name (scope_of (tree_find target t)) ≡ Some s → regions_weight (scope_of (tree_find target (tree_erased name t))) < regions_weight (scope_of (tree_find target t))
 scope_falls t target name s o h =
     elim (cases_Bool (eqb t.name.0 target.0)) [
-      inl e ↦ (let h' = rw e at h in rw e (weight_falls_regions name s t.regions h'))
-    | inr e ↦ (let h' = rw e at h in rw e (deeper (regions_find target t.regions) refl h')) ]
+      | inl e ↦ (let h' = rw e at h in rw e (weight_falls_regions name s t.regions h'))
+      | inr e ↦ (let h' = rw e at h in rw e (deeper (regions_find target t.regions) refl h'))
+    ]
   where
     deeper : (u : Option Tree) → regions_find target t.regions ≡ u → regions_find name (scope_of u) ≡ Some s → regions_weight (scope_of (regions_find target (regions_at name tail t.regions))) < regions_weight (scope_of u)
     deeper None e g = absurd (cc)

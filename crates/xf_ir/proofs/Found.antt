@@ -30,17 +30,20 @@ mutual
   found_name name t no_ops h = absurd (cc)
   found_name name t (op n k ds os ts rs rest) h =
       elim (cases_Bool (eqb n.0 name.0)) [
-        inl e ↦ rw e refl
-      | inr e ↦ elim (first_cases (regions_find name rs) (ops_find name rest) t (rw e at h)) [
-          inl g ↦ (let m = found_name_regions name t rs g in rw (e, among_left name (regions_names rs) (ops_names rest) m) refl)
-        | inr g ↦ (let m = found_name name t rest g.1 in rw (e, among_right name (regions_names rs) (ops_names rest) m) refl) ] ]
+        | inl e ↦ rw e refl
+        | inr e ↦ elim (first_cases (regions_find name rs) (ops_find name rest) t (rw e at h)) [
+          | inl g ↦ (let m = found_name_regions name t rs g in rw (e, among_left name (regions_names rs) (ops_names rest) m) refl)
+          | inr g ↦ (let m = found_name name t rest g.1 in rw (e, among_right name (regions_names rs) (ops_names rest) m) refl)
+        ]
+      ]
 
   pub found_name_regions : (name : OpName) (t : Tree) (rs : Regions) → regions_find name rs ≡ Some t → is_among name (regions_names rs) ≡ true
   found_name_regions name t no_regions h = absurd (cc)
   found_name_regions name t (region args ops rest) h =
       elim (first_cases (ops_find name ops) (regions_find name rest) t h) [
-        inl g ↦ among_left name (ops_names ops) (regions_names rest) (found_name name t ops g)
-      | inr g ↦ among_right name (ops_names ops) (regions_names rest) (found_name_regions name t rest g.1) ]
+        | inl g ↦ among_left name (ops_names ops) (regions_names rest) (found_name name t ops g)
+        | inr g ↦ among_right name (ops_names ops) (regions_names rest) (found_name_regions name t rest g.1)
+      ]
 
 mutual
   pub lost_name : (name : OpName) (ops : Ops) → is_among name (ops_names ops) ≡ false → ops_find name ops ≡ None
@@ -67,23 +70,25 @@ mutual
       let ms = regions_names rs in
       let ns = ops_names rest in
       elim (cases_Bool (eqb n.0 target.0)) [
-        inl e ↦ (
-          let h' = rw e at h in
-          let q : rs ≡ s.regions = cc in
-          let g' : regions_find name rs ≡ Some t = rw q g in
-          let d = apart_names name n ms (found_name_regions name t rs g') (not_left n ms ns o.0) in
-          rw (d, g') refl)
-      | inr e ↦ elim (first_cases (regions_find target rs) (ops_find target rest) s (rw e at h)) [
-          inl f ↦ (
-            let g' = find_inside_regions rs target name s t (once_left ms ns o.1) f g in
+        | inl e ↦ (
+            let h' = rw e at h in
+            let q : rs ≡ s.regions = cc in
+            let g' : regions_find name rs ≡ Some t = rw q g in
             let d = apart_names name n ms (found_name_regions name t rs g') (not_left n ms ns o.0) in
             rw (d, g') refl)
-        | inr f ↦ (
-            let g' = find_inside rest target name s t (once_right ms ns o.1) f.1 g in
-            let i = found_name name t rest g' in
-            let d = apart_names name n ns i (not_right n ms ns o.0) in
-            let l = lost_name_regions name rs (absent_before name ms ns o.1 i) in
-            rw (d, l, g') refl) ] ]
+        | inr e ↦ elim (first_cases (regions_find target rs) (ops_find target rest) s (rw e at h)) [
+          | inl f ↦ (
+              let g' = find_inside_regions rs target name s t (once_left ms ns o.1) f g in
+              let d = apart_names name n ms (found_name_regions name t rs g') (not_left n ms ns o.0) in
+              rw (d, g') refl)
+          | inr f ↦ (
+              let g' = find_inside rest target name s t (once_right ms ns o.1) f.1 g in
+              let i = found_name name t rest g' in
+              let d = apart_names name n ns i (not_right n ms ns o.0) in
+              let l = lost_name_regions name rs (absent_before name ms ns o.1 i) in
+              rw (d, l, g') refl)
+        ]
+      ]
 
   pub find_inside_regions : (rs : Regions) (target name : OpName) (s t : Tree) → Once (regions_names rs) → regions_find target rs ≡ Some s → regions_find name s.regions ≡ Some t → regions_find name rs ≡ Some t
   find_inside_regions no_regions target name s t o h g = absurd (cc)
@@ -91,11 +96,12 @@ mutual
       let ms = ops_names ops in
       let ns = regions_names rest in
       elim (first_cases (ops_find target ops) (regions_find target rest) s h) [
-        inl f ↦ (let g' = find_inside ops target name s t (once_left ms ns o) f g in rw g' refl)
-      | inr f ↦ (
-          let g' = find_inside_regions rest target name s t (once_right ms ns o) f.1 g in
-          let l = lost_name name ops (absent_before name ms ns o (found_name_regions name t rest g')) in
-          rw (l, g') refl) ]
+        | inl f ↦ (let g' = find_inside ops target name s t (once_left ms ns o) f g in rw g' refl)
+        | inr f ↦ (
+            let g' = find_inside_regions rest target name s t (once_right ms ns o) f.1 g in
+            let l = lost_name name ops (absent_before name ms ns o (found_name_regions name t rest g')) in
+            rw (l, g') refl)
+      ]
 
 -- ---- the operation of a name
 
@@ -104,17 +110,20 @@ mutual
   found_named name t no_ops h = absurd (cc)
   found_named name t (op n k ds os ts rs rest) h =
       elim (cases_Bool (eqb n.0 name.0)) [
-        inl e ↦ (let h' = rw e at h in let q : n ≡ t.name = cc in sym q ∙ name_is n name e)
-      | inr e ↦ elim (first_cases (regions_find name rs) (ops_find name rest) t (rw e at h)) [
-          inl g ↦ found_named_regions name t rs g
-        | inr g ↦ found_named name t rest g.1 ] ]
+        | inl e ↦ (let h' = rw e at h in let q : n ≡ t.name = cc in sym q ∙ name_is n name e)
+        | inr e ↦ elim (first_cases (regions_find name rs) (ops_find name rest) t (rw e at h)) [
+          | inl g ↦ found_named_regions name t rs g
+          | inr g ↦ found_named name t rest g.1
+        ]
+      ]
 
   pub found_named_regions : (name : OpName) (t : Tree) (rs : Regions) → regions_find name rs ≡ Some t → t.name ≡ name
   found_named_regions name t no_regions h = absurd (cc)
   found_named_regions name t (region args ops rest) h =
       elim (first_cases (ops_find name ops) (regions_find name rest) t h) [
-        inl g ↦ found_named name t ops g
-      | inr g ↦ found_named_regions name t rest g.1 ]
+        | inl g ↦ found_named name t ops g
+        | inr g ↦ found_named_regions name t rest g.1
+      ]
 
 -- each operation of the name has the property
 abbrev mutual
@@ -150,16 +159,28 @@ mutual
       let ms = regions_names rs in
       let ns = ops_names rest in
       elim (cases_Bool (eqb n.0 name.0)) [
-        inl e ↦ (
-          let h' = rw e at h in
-          let s : tree n k ds os ts rs ≡ t = cc in
-          let a : is_among name (ms ++ ns) ≡ false = subst (λ x. is_among x (ms ++ ns) ≡ false) (name_is n name e) o.0 in
-          (λ _. subst Q (sym s) q, (where_absent_regions name Q rs (not_left name ms ns a), where_absent name Q rest (not_right name ms ns a))))
-      | inr e ↦ elim (first_cases (regions_find name rs) (ops_find name rest) t (rw e at h)) [
-          inl g ↦ (λ f. absurd (cc), (where_found_regions name Q t rs (once_left ms ns o.1) g q,
-            where_absent name Q rest (once_apart name ms ns o.1 (found_name_regions name t rs g))))
-        | inr g ↦ (λ f. absurd (cc), (where_absent_regions name Q rs (absent_before name ms ns o.1 (found_name name t rest g.1)),
-            where_found name Q t rest (once_right ms ns o.1) g.1 q)) ] ]
+        | inl e ↦ (
+            let h' = rw e at h in
+            let s : tree n k ds os ts rs ≡ t = cc in
+            let a : is_among name (ms ++ ns) ≡ false = subst (λ x. is_among x (ms ++ ns) ≡ false) (name_is n name e) o.0 in
+            (λ _. subst Q (sym s) q, (where_absent_regions name Q rs (not_left name ms ns a), where_absent name Q rest (not_right name ms ns a))))
+        | inr e ↦ elim (first_cases (regions_find name rs) (ops_find name rest) t (rw e at h)) [
+          | inl g ↦ (
+            λ f. absurd (cc),
+            (
+              where_found_regions name Q t rs (once_left ms ns o.1) g q,
+              where_absent name Q rest (once_apart name ms ns o.1 (found_name_regions name t rs g)),
+            ),
+          )
+          | inr g ↦ (
+            λ f. absurd (cc),
+            (
+              where_absent_regions name Q rs (absent_before name ms ns o.1 (found_name name t rest g.1)),
+              where_found name Q t rest (once_right ms ns o.1) g.1 q,
+            ),
+          )
+        ]
+      ]
 
   pub where_found_regions : (name : OpName) (Q : Tree → Type 0) (t : Tree) (rs : Regions) → Once (regions_names rs) → regions_find name rs ≡ Some t → Q t → RegionsWhere name Q rs
   where_found_regions name Q t no_regions o h q = tt
@@ -167,8 +188,9 @@ mutual
       let ms = ops_names ops in
       let ns = regions_names rest in
       elim (first_cases (ops_find name ops) (regions_find name rest) t h) [
-        inl g ↦ (where_found name Q t ops (once_left ms ns o) g q, where_absent_regions name Q rest (once_apart name ms ns o (found_name name t ops g)))
-      | inr g ↦ (where_absent name Q ops (absent_before name ms ns o (found_name_regions name t rest g.1)), where_found_regions name Q t rest (once_right ms ns o) g.1 q) ]
+        | inl g ↦ (where_found name Q t ops (once_left ms ns o) g q, where_absent_regions name Q rest (once_apart name ms ns o (found_name name t ops g)))
+        | inr g ↦ (where_absent name Q ops (absent_before name ms ns o (found_name_regions name t rest g.1)), where_found_regions name Q t rest (once_right ms ns o) g.1 q)
+      ]
 
 -- ---- what is not found has no name there
 
@@ -181,11 +203,12 @@ mutual
   none_name name no_ops h = refl
   none_name name (op n k ds os ts rs rest) h =
       elim (cases_Bool (eqb n.0 name.0)) [
-        inl e ↦ absurd (let z = rw e at h in cc)
-      | inr e ↦ (
-          let p = none_of (regions_find name rs) (ops_find name rest) (rw e at h) in
-          or_from (same_name n name) (is_among name (regions_names rs ++ ops_names rest)) e
-          (not_both name (regions_names rs) (ops_names rest) (none_name_regions name rs p.0) (none_name name rest p.1))) ]
+        | inl e ↦ absurd (let z = rw e at h in cc)
+        | inr e ↦ (
+            let p = none_of (regions_find name rs) (ops_find name rest) (rw e at h) in
+            or_from (same_name n name) (is_among name (regions_names rs ++ ops_names rest)) e
+            (not_both name (regions_names rs) (ops_names rest) (none_name_regions name rs p.0) (none_name name rest p.1)))
+      ]
 
   none_name_regions : (name : OpName) (rs : Regions) → regions_find name rs ≡ None → is_among name (regions_names rs) ≡ false
   none_name_regions name no_regions h = refl
@@ -196,8 +219,9 @@ mutual
 pub tree_none_name : (name : OpName) (t : Tree) → tree_find name t ≡ None → is_among name (tree_names t) ≡ false
 tree_none_name name t h =
     elim (cases_Bool (eqb t.name.0 name.0)) [
-      inl e ↦ absurd (let z = rw e at h in cc)
-    | inr e ↦ or_from (same_name t.name name) (is_among name (regions_names t.regions)) e (none_name_regions name t.regions (rw e at h)) ]
+      | inl e ↦ absurd (let z = rw e at h in cc)
+      | inr e ↦ or_from (same_name t.name name) (is_among name (regions_names t.regions)) e (none_name_regions name t.regions (rw e at h))
+    ]
 
 pub tree_lost_name : (name : OpName) (t : Tree) → is_among name (tree_names t) ≡ false → tree_find name t ≡ None
 tree_lost_name name t h =

@@ -52,8 +52,9 @@ pub once_apart : (n : OpName) (xs ys : List OpName) → Once (xs ++ ys) → is_a
 once_apart n [] ys h k = absurd (cc)
 once_apart n (x ∷ xs) ys h k =
     elim (cases_Bool (same_name x n)) [
-      inl t ↦ subst (λ m. is_among m ys ≡ false) (name_is x n t) (not_right x xs ys h.0)
-    | inr f ↦ once_apart n xs ys h.1 (rw f at k) ]
+      | inl t ↦ subst (λ m. is_among m ys ≡ false) (name_is x n t) (not_right x xs ys h.0)
+      | inr f ↦ once_apart n xs ys h.1 (rw f at k)
+    ]
 
 pub among_left : (n : OpName) (xs ys : List OpName) → is_among n xs ≡ true → is_among n (xs ++ ys) ≡ true
 among_left n [] ys h = absurd (cc)

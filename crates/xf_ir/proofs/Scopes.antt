@@ -88,20 +88,29 @@ mutual
   ops_scoped ss (op n k ds os ts rs rest) h o a =
       let ms = regions_names rs in
       let ns = ops_names rest in
-      let b = apart_rest ss n (ms ++ ns) a in
-      (h.0, (fresh_results ss n (length ts) (ms ++ ns) a,
-        (regions_scoped ss n 0 rs h.1.0 (once_left ms ns o.1) (not_left n ms ns o.0) (apart_own ss n ms ns a),
-        ops_scoped (done n (length ts) ∷ ss) rest h.1.1 (once_right ms ns o.1) (not_right n ms ns o.0, apart_right ss ms ns b))))
+      let b = apart_rest ss n (ms ++ ns) a in (
+        h.0,
+        (
+          fresh_results ss n (length ts) (ms ++ ns) a,
+          (
+            regions_scoped ss n 0 rs h.1.0 (once_left ms ns o.1) (not_left n ms ns o.0) (apart_own ss n ms ns a),
+            ops_scoped (done n (length ts) ∷ ss) rest h.1.1 (once_right ms ns o.1) (not_right n ms ns o.0, apart_right ss ms ns b),
+          ),
+        ),
+      )
 
   regions_scoped : (ss : List Seen) (n : OpName) (i : ℕ) (rs : Regions) → RegionsSee ss n i rs → Once (regions_names rs) → is_among n (regions_names rs) ≡ false → Apart ss (n ∷ regions_names rs) → RegionsScoped ss n i rs
   regions_scoped ss n i no_regions h o d a = tt
   regions_scoped ss n i (region args ops rest) h o d a =
       let ms = ops_names ops in
       let ns = regions_names rest in
-      let b = apart_rest ss n (ms ++ ns) a in
-      (fresh_args ss n i (length args) (ms ++ ns) a,
-        (ops_scoped (inside n i (length args) ∷ ss) ops h.0 (once_left ms ns o) (not_left n ms ns d, apart_left ss ms ns b),
-        regions_scoped ss n (suc i) rest h.1 (once_right ms ns o) (not_right n ms ns d) (apart_past ss n ms ns a)))
+      let b = apart_rest ss n (ms ++ ns) a in (
+        fresh_args ss n i (length args) (ms ++ ns) a,
+        (
+          ops_scoped (inside n i (length args) ∷ ss) ops h.0 (once_left ms ns o) (not_left n ms ns d, apart_left ss ms ns b),
+          regions_scoped ss n (suc i) rest h.1 (once_right ms ns o) (not_right n ms ns d) (apart_past ss n ms ns a),
+        ),
+      )
 
 functions_scoped : (fs : Ops) → FunctionsSee fs → Once (ops_names fs) → FunctionsScoped fs
 functions_scoped no_ops h o = tt

@@ -10,3 +10,4 @@ pub mod Edits
 pub mod Choices
 pub mod Laws
 pub mod Used
+pub mod Sample

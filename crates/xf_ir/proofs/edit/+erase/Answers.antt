@@ -30,7 +30,8 @@ erase_in_block-loop-i-preserved t c =
     let other : eqb (get_or xs c.loop-i.i d).name.0 c.args.name.0 ≡ false = ap (λ (x : Tree). eqb x.name.0 c.args.name.0) (sym (c.op.view_is ∙ c.index-op.ensures ∙ e)) ∙ sym c.eq.ensures ∙ c.if-eq.false in
     record {
       items = rw c.erase_inside.ensures (map_over_more (tree_erased c.args.name) xs c.loop-i.ops.items c.loop-i.i c.index_mut.result.now (omega arith) c.loop-i.invariant.items c.index_mut.ensures.value);
-      others = rw add-one (none_more c.args.name xs c.loop-i.i d (omega arith) c.loop-i.invariant.others other) }
+      others = rw add-one (none_more c.args.name xs c.loop-i.i d (omega arith) c.loop-i.invariant.others other);
+    }
 
 pub erase_in_block-returns : goal.erase_in_block-returns
 erase_in_block-returns t c =

@@ -20,4 +20,5 @@ invariant-erase_in_regions-loop-i l = l.regions.items ≡ map (body_erased l.nam
 abbrev pub invariant-erase_in_block-loop-i : goal.invariant-erase_in_block-loop-i
 invariant-erase_in_block-loop-i l = record {
   items : l.ops.items ≡ map (tree_erased l.name) (take l.i l.initial.ops.items) ++ drop l.i l.initial.ops.items;
-  others : NoneBefore l.name l.initial.ops.items l.i }
+  others : NoneBefore l.name l.initial.ops.items l.i;
+}

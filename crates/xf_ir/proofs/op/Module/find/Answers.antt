@@ -14,6 +14,7 @@ back (Some x) h = absurd (cc)
 
 pub returns-clause-absent : goal.returns-clause-absent
 returns-clause-absent c =
-    let t = c.args.self.now.root in
-    (λ h. tree_none_name c.args.op t (sym c.find_in.ensures ∙ copied c.find_in.result h),
-     λ h. back c.find_in.result (c.find_in.ensures ∙ tree_lost_name c.args.op t h))
+    let t = c.args.self.now.root in (
+      λ h. tree_none_name c.args.op t (sym c.find_in.ensures ∙ copied c.find_in.result h),
+      λ h. back c.find_in.result (c.find_in.ensures ∙ tree_lost_name c.args.op t h),
+    )
