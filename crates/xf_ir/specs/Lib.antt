@@ -1,0 +1,13 @@
+pub mod Lists
+pub mod Words
+pub mod Tree
+pub mod View
+pub mod Count
+pub mod Walk
+pub mod Places
+pub mod Valid
+pub mod Edits
+pub mod Choices
+pub mod Laws
+pub mod Used
+pub mod Sample

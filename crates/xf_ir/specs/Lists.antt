@@ -1,0 +1,38 @@
+-- Facts on each item of a list, and lists without repeats.
+use Rattle.std.specs.Prelude.{◌≡◌, ℕ, List, [], ◌∷◌, Bool, true, false, ◌==◌, ◌&&◌, ◌||◌}
+use Rattle.xf_ir.specs.declared.name.OpName.{OpName}
+
+-- each item has the property
+abbrev pub Each : {A : Type 0} → (A → Type 0) → List A → Type 0
+Each P [] = Unit {0}
+Each P (x ∷ xs) = P x × Each P xs
+
+abbrev pub same_name : OpName → OpName → Bool
+same_name a b = a.0 == b.0
+
+-- whether a name is one of these
+abbrev pub is_among : OpName → List OpName → Bool
+is_among n [] = false
+is_among n (m ∷ ms) = same_name m n || is_among n ms
+
+-- no name stands twice
+abbrev pub Once : List OpName → Type 0
+Once [] = Unit {0}
+Once (n ∷ ns) = (is_among n ns ≡ false) × Once ns
+
+-- whether two lists of bytes are equal
+abbrev pub same_bytes : List ℕ → List ℕ → Bool
+same_bytes [] [] = true
+same_bytes [] (y ∷ ys) = false
+same_bytes (x ∷ xs) [] = false
+same_bytes (x ∷ xs) (y ∷ ys) = (x == y) && same_bytes xs ys
+
+-- whether a text is one of these
+abbrev pub is_text_among : List ℕ → List (List ℕ) → Bool
+is_text_among s [] = false
+is_text_among s (t ∷ ts) = same_bytes t s || is_text_among s ts
+
+-- no text stands twice
+abbrev pub TextsOnce : List (List ℕ) → Type 0
+TextsOnce [] = Unit {0}
+TextsOnce (s ∷ ss) = (is_text_among s ss ≡ false) × TextsOnce ss

@@ -1,0 +1,28 @@
+//! The payload tree: operations, blocks and modules, the walks over them, and the edits that change them.
+#![tactic(auto)]
+
+mod copy;
+mod dead;
+mod edit;
+mod kind;
+mod laws;
+mod name;
+mod name_set;
+mod op;
+mod values;
+mod walk;
+
+pub use dead::first_dead;
+pub use edit::{Edit, apply_edit};
+pub use kind::{Attr, AttrList, Kind};
+pub use laws::{
+    erasing_fits, erasing_keeps_valid, erasing_lowers_count, erasing_lowers_weight, valid_is_scoped,
+};
+pub use name::{OpName, ValueName};
+pub use name_set::NameSet;
+pub use op::{Block, BlockList, Module, Op, OpList};
+pub use values::ValueList;
+pub use walk::{NameList, count, walk_post};
+
+#[cfg(test)]
+mod tests;

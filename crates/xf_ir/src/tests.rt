@@ -1,0 +1,185 @@
+//! Each public call on the module of one function, whose sum nothing uses.
+ghost use Rattle.std.specs.Prelude.{◌≡◌, [], ◌∷◌, IfOk, OnOk};
+ghost use Rattle.xf_ir.specs.Tree.{no_regions, region};
+ghost use Rattle.xf_ir.specs.View.{ops_of};
+ghost use Rattle.xf_ir.specs.Valid.{IsValid};
+ghost use Rattle.xf_ir.specs.Sample.{named, one_int, sample_body, sample_function, sample_module};
+
+use super::*;
+use std::alloc::Global;
+use std::test::Fail;
+use xf_type::{
+    AttrValue, BinKind, Duplicate, Equals, ListOf, NoMemory, PayloadType, TypeList, Width,
+};
+
+/// One type of 32 bits.
+fn int_type(alloc: Global) -> Result<TypeList, NoMemory>
+    ensures { IfOk result (λ types. types ≡ one_int) }
+{
+    let mut types = ListOf::new(alloc);
+    types.push(PayloadType::Scalar(Width::I32))?;
+    Ok(types)
+}
+
+/// An operation that holds nothing.
+fn leaf(
+    alloc: Global,
+    name: u64,
+    kind: Kind,
+    operands: &[ValueName],
+    results: TypeList,
+) -> Result<Op, NoMemory>
+    ensures { IfOk result (λ o. o ≡ record { name = named name; kind = kind; attrs = []; operands = operands.now; results = results; regions = no_regions }) }
+{
+    Ok(Op {
+        name: OpName(name),
+        kind,
+        attrs: ListOf::new(alloc),
+        operands: ValueList::from_slice(alloc, operands)?,
+        results,
+        regions: Vec::new(alloc),
+    })
+}
+
+/// An operation that holds one block.
+fn holder(alloc: Global, name: u64, kind: Kind, args: TypeList, ops: OpList) -> Result<Op, NoMemory>
+    ensures { IfOk result (λ o. o ≡ record { name = named name; kind = kind; attrs = []; operands = []; results = []; regions = region args (ops_of ops.items) no_regions }) }
+{
+    let mut regions = Vec::new(alloc);
+    regions.push(Block { args, ops })?;
+    Ok(Op {
+        name: OpName(name),
+        kind,
+        attrs: ListOf::new(alloc),
+        operands: ValueList::new(alloc),
+        results: ListOf::new(alloc),
+        regions,
+    })
+}
+
+/// The operations of the function: a constant, a sum that is unused, and the return of the argument.
+fn body(alloc: Global) -> Result<OpList, NoMemory>
+    ensures { IfOk result (λ ops. ops_of ops.items ≡ sample_body) }
+{
+    let arg = ValueName::Arg {
+        op: OpName(1),
+        region: 0,
+        num: 0,
+    };
+    let two = ValueName::Result {
+        op: OpName(2),
+        num: 0,
+    };
+    let constant = Kind::Constant {
+        width: Width::I32,
+        bits: 2,
+    };
+    let sum = Kind::Binary {
+        kind: BinKind::Addi,
+        width: Width::I32,
+    };
+    let mut ops = Vec::new(alloc);
+    ops.push(leaf(alloc, 2, constant, &[], int_type(alloc)?)?)?;
+    ops.push(leaf(alloc, 3, sum, &[arg, two], int_type(alloc)?)?)?;
+    ops.push(leaf(alloc, 4, Kind::Return, &[arg], ListOf::new(alloc))?)?;
+    Ok(ops)
+}
+
+/// The function alone.
+fn function(alloc: Global) -> Result<OpList, NoMemory>
+    ensures { IfOk result (λ ops. ops_of ops.items ≡ sample_function) }
+{
+    let kind = Kind::Func {
+        symbol: ListOf::from_slice(alloc, b"f")?,
+        private: false,
+        results: int_type(alloc)?,
+    };
+    let mut ops = Vec::new(alloc);
+    ops.push(holder(alloc, 1, kind, int_type(alloc)?, body(alloc)?)?)?;
+    Ok(ops)
+}
+
+/// The module of that function.
+fn sample(alloc: Global) -> Result<Module, NoMemory>
+    ensures is { IfOk result (λ m. m ≡ sample_module) }
+    ensures valid { IfOk result (λ m. IsValid m) }
+{
+    let kind = Kind::Module { symbol: None };
+    let root = holder(alloc, 0, kind, ListOf::new(alloc), function(alloc)?)?;
+    Ok(Module { root, next: 5 })
+}
+
+#[test]
+fn walks_give_names_and_number(rt: HostRuntime) -> Result<(), Fail> {
+    let alloc = rt.alloc();
+    let m = sample(alloc)?;
+    let names = walk_post(alloc, &m.root)?;
+    assert_eq!(rt;
+        names.as_slice(),
+        [OpName(2), OpName(3), OpName(4), OpName(1), OpName(0)].as_slice()
+    );
+    assert_eq!(rt; count(&m.root), 5);
+    for name in [0, 1, 2, 3, 4] {
+        let found = m.find(OpName(name)).map(|op| op.name);
+        assert_eq!(rt; found, Some(OpName(name)));
+    }
+    assert!(rt; m.find(OpName(5)).is_none());
+    Ok(())
+}
+
+/// Erases the first operation that may be erased, and answers its name.
+fn erase_first_dead(alloc: Global, m: &mut Module) -> Result<Option<OpName>, NoMemory>
+    requires { IsValid m.old }
+    ensures { OnOk result (IsValid m.new) }
+{
+    let dead = first_dead(alloc, m, OpName(0))?;
+    if let Some(op) = dead {
+        apply_edit(m, &Edit::Erase { op })?;
+    }
+    Ok(dead)
+}
+
+#[test]
+fn unused_operations_go_from_the_last_one_back(rt: HostRuntime) -> Result<(), Fail> {
+    let alloc = rt.alloc();
+    let mut m = sample(alloc)?;
+    assert_eq!(rt; erase_first_dead(alloc, &mut m)?, Some(OpName(3)));
+    assert_eq!(rt; erase_first_dead(alloc, &mut m)?, Some(OpName(2)));
+    assert_eq!(rt; erase_first_dead(alloc, &mut m)?, None);
+    let names = walk_post(alloc, &m.root)?;
+    assert_eq!(rt;
+        names.as_slice(),
+        [OpName(4), OpName(1), OpName(0)].as_slice()
+    );
+    Ok(())
+}
+
+#[test]
+fn copies_have_the_same_operations(rt: HostRuntime) -> Result<(), Fail> {
+    let alloc = rt.alloc();
+    let m = sample(alloc)?;
+    let copy = m.copy(alloc)?;
+    let names = walk_post(alloc, &copy.root)?;
+    assert_eq!(rt; names.as_slice(), walk_post(alloc, &m.root)?.as_slice());
+    assert_eq!(rt; copy.next, 5);
+    let attr = Attr {
+        name: ListOf::from_slice(alloc, b"note")?,
+        value: AttrValue::Int {
+            width: Width::I8,
+            bits: 7,
+        },
+    };
+    let attr_copy = attr.duplicate(alloc)?;
+    assert!(rt; attr_copy.name.equals(&attr.name) && attr_copy.value.equals(&attr.value));
+    Ok(())
+}
+
+#[test]
+fn a_set_has_the_names_that_went_in(rt: HostRuntime) -> Result<(), Fail> {
+    let mut names = NameSet::new(rt.alloc());
+    assert!(rt; names.insert(OpName(7))?);
+    assert!(rt; !names.insert(OpName(7))?);
+    assert!(rt; names.insert(OpName(3))?);
+    assert!(rt; names.contains(OpName(3)) && !names.contains(OpName(4)));
+    Ok(())
+}
