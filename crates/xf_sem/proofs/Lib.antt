@@ -1,0 +1,4 @@
+pub mod Fits
+pub mod Leads
+pub mod Copying
+pub mod Surroundings

@@ -1,3 +1,5 @@
 pub mod Values
 pub mod Meaning
 pub mod Keeps
+pub mod Surroundings
+pub mod Replacing
