@@ -2,3 +2,5 @@ pub mod Fits
 pub mod Leads
 pub mod Copying
 pub mod Surroundings
+pub mod Replacing
+pub mod Keeping
