@@ -4,3 +4,4 @@ pub mod Copying
 pub mod Surroundings
 pub mod Replacing
 pub mod Keeping
+pub mod Erasing

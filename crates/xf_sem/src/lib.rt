@@ -1,6 +1,8 @@
 //! What a payload module means, and what it means that another module keeps that meaning.
 #![tactic(auto)]
 
+mod laws;
 mod value;
 
+pub use laws::{keeping_composes, keeping_is_reflexive, replacing_keeps, surroundings_keep};
 pub use value::{ElemList, SizeList, Value};

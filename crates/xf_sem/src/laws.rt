@@ -1,0 +1,30 @@
+//! Laws of the meaning, each as the contract of a function that does nothing.
+ghost use Rattle.xf_sem.specs.Keeps.{KeepingIsReflexive, KeepingComposes};
+ghost use Rattle.xf_sem.specs.Surroundings.{SurroundingsKeep};
+ghost use Rattle.xf_sem.specs.Replacing.{ReplacingKeeps};
+
+/// A module keeps its own meaning.
+pub fn keeping_is_reflexive()
+    ensures { KeepingIsReflexive }
+{
+}
+
+/// What keeps the meaning of a module that keeps the meaning of another keeps the meaning of the latter.
+pub fn keeping_composes()
+    ensures { KeepingComposes }
+{
+}
+
+/// An operation may be changed, with the rest of its block, in any surrounding region, loop, branch or call, where the change leads
+/// under every environment that an execution gives there.
+pub fn surroundings_keep()
+    ensures { SurroundingsKeep }
+{
+}
+
+/// An operation may be replaced by operations that are defined wherever it is, under every environment that an execution gives there,
+/// its used results by values that are visible there and hold the same.
+pub fn replacing_keeps()
+    ensures { ReplacingKeeps }
+{
+}
