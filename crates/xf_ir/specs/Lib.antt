@@ -8,3 +8,4 @@ pub mod Places
 pub mod Valid
 pub mod Edits
 pub mod Choices
+pub mod Laws

@@ -1,14 +1,19 @@
 //! The payload tree: operations, blocks and modules, the walks over them, and the edits that change them.
 #![tactic(auto)]
 
+mod copy;
 mod edit;
 mod kind;
+mod laws;
 mod name;
 mod op;
 mod values;
+mod walk;
 
-pub use edit::Edit;
+pub use edit::{Edit, apply_edit};
 pub use kind::{Attr, AttrList, Kind};
+pub use laws::{erasing_fits, erasing_keeps_valid, erasing_lowers_count, erasing_lowers_weight, valid_is_scoped};
 pub use name::{OpName, ValueName};
 pub use op::{Block, BlockList, Module, Op, OpList};
 pub use values::ValueList;
+pub use walk::{NameList, count, walk_post};

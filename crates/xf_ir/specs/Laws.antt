@@ -1,0 +1,30 @@
+-- Laws of valid modules and of erasing what may be erased.
+use Rattle.std.specs.Prelude.{◌+◌, ◌<◌, ◌≤◌}
+use Rattle.xf_ir.specs.declared.name.OpName.{OpName}
+use Rattle.xf_ir.specs.declared.edit.Edit.TheVariants.{Erase}
+use Rattle.xf_ir.specs.declared.op.Module.{Module}
+use Rattle.xf_ir.specs.Count.{tree_count}
+use Rattle.xf_ir.specs.Places.{FunctionsScoped}
+use Rattle.xf_ir.specs.Valid.{IsValid, functions_of}
+use Rattle.xf_ir.specs.Edits.{edited, FitsEdit}
+use Rattle.xf_ir.specs.Choices.{MayErase, weight_at}
+
+-- in a valid module each operand is visible where it stands, and each value is defined once among those that are visible
+abbrev pub ValidIsScoped : Type 0
+ValidIsScoped = (m : Module) → IsValid m → FunctionsScoped (functions_of m)
+
+-- what may be erased is erased by an edit that fits the module
+abbrev pub ErasingFits : Type 0
+ErasingFits = (m : Module) (target name : OpName) → IsValid m → MayErase m target name → FitsEdit m (Erase name)
+
+-- and leaves a valid module
+abbrev pub ErasingKeepsValid : Type 0
+ErasingKeepsValid = (m : Module) (target name : OpName) → IsValid m → MayErase m target name → IsValid (edited m (Erase name))
+
+-- it lowers the weight of the scope
+abbrev pub ErasingLowersWeight : Type 0
+ErasingLowersWeight = (m : Module) (target name : OpName) → IsValid m → MayErase m target name → weight_at (edited m (Erase name)) target + 1 ≤ weight_at m target
+
+-- and the number of operations
+abbrev pub ErasingLowersCount : Type 0
+ErasingLowersCount = (m : Module) (target name : OpName) → IsValid m → MayErase m target name → tree_count (edited m (Erase name)).root < tree_count m.root

@@ -1,0 +1,32 @@
+//! Laws of valid modules, each as the contract of a function that does nothing.
+ghost use Rattle.xf_ir.specs.Laws.{ValidIsScoped, ErasingFits, ErasingKeepsValid, ErasingLowersWeight, ErasingLowersCount};
+
+/// In a valid module each operand is visible where it stands, and each value is defined once among those that are visible.
+pub fn valid_is_scoped()
+    ensures { ValidIsScoped }
+{
+}
+
+/// What may be erased is erased by an edit that fits the module.
+pub fn erasing_fits()
+    ensures { ErasingFits }
+{
+}
+
+/// Erasing what may be erased leaves a valid module.
+pub fn erasing_keeps_valid()
+    ensures { ErasingKeepsValid }
+{
+}
+
+/// Erasing what may be erased lowers the weight of the scope.
+pub fn erasing_lowers_weight()
+    ensures { ErasingLowersWeight }
+{
+}
+
+/// Erasing what may be erased lowers the number of operations.
+pub fn erasing_lowers_count()
+    ensures { ErasingLowersCount }
+{
+}
