@@ -2,7 +2,8 @@
 use Rattle.std.proofs.Common.{◌≡◌, refl, sym, ap, ◌∙◌, subst}
 use Rattle.std.specs.Prelude.{Some, slice_get}
 use Rattle.xf_ir.specs.declared.op.Module.{Module}
-use Rattle.xf_sem.specs.Keeps.{KeepsMeaning, KeepingIsReflexive, KeepingComposes}
+use Rattle.xf_sem.specs.Keeps.{KeepsMeaning}
+use Rattle.xf_sem.specs.Laws.{KeepingIsReflexive, KeepingComposes}
 
 pub keeping_is_reflexive : KeepingIsReflexive
 keeping_is_reflexive m = record { functions = refl; returns = λ number f vs ws h t p. p }

@@ -41,9 +41,3 @@ pub record KeepsMeaning (before after : Module) : Type 0 where
   pub functions : signatures before ≡ signatures after
   pub returns : (number : ℕ) (f : Signature) (vs ws : List Value) → slice_get (signatures before) number ≡ Some f → FitTypes vs f.args
       → (meaning before f.symbol vs).answer ≡ gives ws → (meaning after f.symbol vs).answer ≡ gives ws
-
-abbrev pub KeepingIsReflexive : Type 0
-KeepingIsReflexive = (m : Module) → KeepsMeaning m m
-
-abbrev pub KeepingComposes : Type 0
-KeepingComposes = (first second third : Module) → KeepsMeaning first second → KeepsMeaning second third → KeepsMeaning first third

@@ -3,3 +3,4 @@ pub mod Meaning
 pub mod Keeps
 pub mod Surroundings
 pub mod Replacing
+pub mod Laws

@@ -1,5 +1,5 @@
 //! Laws of the meaning, each as the contract of a function that does nothing.
-ghost use Rattle.xf_sem.specs.Keeps.{KeepingIsReflexive, KeepingComposes};
+ghost use Rattle.xf_sem.specs.Laws.{KeepingIsReflexive, KeepingComposes, ErasingKeeps};
 ghost use Rattle.xf_sem.specs.Surroundings.{SurroundingsKeep};
 ghost use Rattle.xf_sem.specs.Replacing.{ReplacingKeeps};
 
@@ -26,5 +26,11 @@ pub fn surroundings_keep()
 /// its used results by values that are visible there and hold the same.
 pub fn replacing_keeps()
     ensures { ReplacingKeeps }
+{
+}
+
+/// An operation whose results are unused, and that is no terminator, may be erased.
+pub fn erasing_keeps()
+    ensures { ErasingKeeps }
 {
 }
