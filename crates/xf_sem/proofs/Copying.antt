@@ -1,19 +1,24 @@
 -- A copy of operations, under other names and over other values, does the same.
-use Rattle.std.proofs.Common.{◌≡◌, ◌⊎◌, ℕ, zero, suc, List, [], ◌∷◌, ◌++◌, Option, Some, None, Bool, true, false, refl, ap, ◌∙◌, inl, inr}
+use Rattle.std.proofs.Common.{◌≡◌, ◌⊎◌, ℕ, zero, suc, List, [], ◌∷◌, ◌++◌, Option, Some, None, Bool, true, false, refl, ap, ◌∙◌, subst, inl, inr}
 use Rattle.std.specs.Prelude.{length, map, ◌||◌, is_some}
 use Rattle.xf_type.specs.declared.payload_type.PayloadType.{PayloadType}
 use Rattle.xf_ir.specs.declared.name.OpName.{OpName}
 use Rattle.xf_ir.specs.declared.name.ValueName.{ValueName}
 use Rattle.xf_ir.specs.declared.kind.Kind.{Kind}
+use Rattle.xf_ir.specs.declared.kind.Kind.TheVariants as kind
+use Rattle.xf_ir.specs.declared.op.Module.{Module}
 use Rattle.xf_ir.specs.Tree.{Ops, no_ops, op, Regions, no_regions, region}
 use Rattle.xf_ir.specs.Lists.{Each}
-use Rattle.xf_ir.specs.Places.{Place, results_of, args_of, Seen, done, inside, place_of, sees, AllSeen, IsFresh, OpsScoped, RegionsScoped}
+use Rattle.xf_ir.specs.Places.{Place, results_of, args_of, Seen, done, inside, place_of, sees, AllSeen, IsFresh, OpsScoped, RegionsScoped, FunctionsScoped}
+use Rattle.xf_ir.specs.Valid.{functions_of}
 use Rattle.xf_ir.specs.Choices.{ops_operands, regions_operands}
 use Rattle.xf_sem.specs.declared.value.Value.{Value}
-use Rattle.xf_sem.specs.Meaning.{Env, item, item_or, extend, gives, Calls, where_fit, does, ops_run, bodies_of}
+use Rattle.xf_sem.specs.Meaning.{Env, item, item_or, extend, nowhere, gives, Calls, where_fit, does, ops_run, bodies_of, returned, calls_to, call_depth}
+use Rattle.xf_sem.specs.Keeps.{Signature, argument_types, signature_before, signatures_of}
 use Rattle.xf_sem.specs.Surroundings.{Leads, CallsLead}
 use Rattle.xf_sem.specs.Replacing.{ops_moved, regions_moved}
-use Rattle.xf_sem.proofs.Leads.{leads_none, leads_fitting, BodiesLead, first_lead, step_leads}
+use Rattle.xf_sem.specs.Copying.{Follows, OpsCopy, RegionsCopy, FunctionsCopy, CopyingKeeps}
+use Rattle.xf_sem.proofs.Leads.{leads_none, leads_fitting, BodiesLead, first_lead, step_leads, called_lead}
 
 -- ---- tests of what is visible
 
@@ -103,25 +108,6 @@ scoped_use ops ss h = ops_use (Visible ss) Any ops ss (λ v t q. t) h (each_any 
 
 -- ---- copies
 
--- s leads from what one place defines to what the other does
-abbrev pub Follows : (ValueName → ValueName) → Place → Place → Type 0
-Follows s p p' = (v : ValueName) (i : ℕ) → p v ≡ Some i → p' (s v) ≡ Some i
-
-abbrev mutual
-  pub OpsCopy : (ValueName → ValueName) → Ops → Ops → Type 0
-  OpsCopy s no_ops no_ops = Unit {0}
-  OpsCopy s no_ops (op n' k' ds' os' ts' rs' rest') = ⊥
-  OpsCopy s (op n k ds os ts rs rest) no_ops = ⊥
-  OpsCopy s (op n k ds os ts rs rest) (op n' k' ds' os' ts' rs' rest') =
-      ((k ≡ k') × (ts ≡ ts')) × ((map s os ≡ os') × (Follows s (results_of n (length ts)) (results_of n' (length ts')) × (RegionsCopy s n n' 0 rs rs' × OpsCopy s rest rest')))
-
-  pub RegionsCopy : (ValueName → ValueName) → OpName → OpName → ℕ → Regions → Regions → Type 0
-  RegionsCopy s n n' i no_regions no_regions = Unit {0}
-  RegionsCopy s n n' i no_regions (region args' ops' rest') = ⊥
-  RegionsCopy s n n' i (region args ops rest) no_regions = ⊥
-  RegionsCopy s n n' i (region args ops rest) (region args' ops' rest') =
-      (args ≡ args') × (Follows s (args_of n i (length args)) (args_of n' i (length args')) × (OpsCopy s ops ops' × RegionsCopy s n n' (suc i) rest rest'))
-
 -- two environments hold the same values, through s, where P holds
 pub record Agree (P : ValueName → Type 0) (ss : List Seen) (s : ValueName → ValueName) (e e' : Env) : Type 0 where
   pub shown : (v : ValueName) → P v → sees ss (s v) ≡ true
@@ -202,3 +188,46 @@ pub frame : (ops : Ops) (ss : List Seen) (c c' : Calls) (holder : OpName) (e e' 
     → OpsScoped ss ops → CallsLead c c' → ((v : ValueName) → sees ss v ≡ true → e v ≡ e' v) → Leads (ops_run c holder ops e) (ops_run c' holder ops e')
 frame ops ss c c' holder e e' h l a =
     copy_kept ops ops (Visible ss) ss (λ v. v) c c' holder holder e e' (scoped_use ops ss h) h (same_copy ops) l (record { shown = λ v t. t; same = a })
+
+-- ---- copies of functions
+
+copied_lead : (fs fs' : Ops) (s : ValueName → ValueName) (c c' : Calls) → FunctionsScoped fs → FunctionsScoped fs' → FunctionsCopy s fs fs' → CallsLead c c' → CallsLead (returned c fs) (returned c' fs')
+copied_lead no_ops no_ops s c c' h h' y l = λ at at' f vs. leads_none at _
+copied_lead no_ops (op n' k' ds' os' ts' rs' rest') s c c' h h' y l = elim y [ ]
+copied_lead (op n k ds os ts rs rest) no_ops s c c' h h' y l = elim y [ ]
+copied_lead (op n k ds os ts rs rest) (op n' k' ds' os' ts' rs' rest') s c c' h h' y l = λ at at' f vs.
+    let inside_body = copy_kept_regions rs rs' (Visible []) [] s n n' 0 c c' nowhere nowhere (regions_use (Visible []) Any rs [] n 0 (λ v t q. t) h.0 (each_any (regions_operands rs))) h'.0 y.1.0 l
+        (record { shown = λ v t. cc; same = λ v t. refl }) 0 vs in
+    rw (← y.0) (called_lead k f _ _ _ _ vs inside_body (copied_lead rest rest' s c c' h.1 h'.1 y.1.1 l at at' f vs))
+
+copied_calls : (d : ℕ) (fs fs' : Ops) (s : ValueName → ValueName) → FunctionsScoped fs → FunctionsScoped fs' → FunctionsCopy s fs fs' → CallsLead (calls_to d fs) (calls_to d fs')
+copied_calls zero fs fs' s h h' y = λ at at' f vs. leads_none at _
+copied_calls (suc d) fs fs' s h h' y = copied_lead fs fs' s _ _ h h' y (copied_calls d fs fs' s h h' y)
+
+copied_arguments : (rs rs' : Regions) (s : ValueName → ValueName) (n n' : OpName) (i : ℕ) → RegionsCopy s n n' i rs rs' → argument_types rs ≡ argument_types rs'
+copied_arguments no_regions no_regions s n n' i y = refl
+copied_arguments no_regions (region args' ops' rest') s n n' i y = elim y [ ]
+copied_arguments (region args ops rest) no_regions s n n' i y = elim y [ ]
+copied_arguments (region args ops rest) (region args' ops' rest') s n n' i y = y.0
+
+copied_signature : (k k' : Kind) (rs rs' : Regions) (more more' : List Signature) → k ≡ k' → argument_types rs ≡ argument_types rs' → more ≡ more' → signature_before k rs more ≡ signature_before k' rs' more'
+copied_signature k k' rs rs' more more' p a q = subst (λ j. signature_before k rs more ≡ signature_before j rs' more') p (same_kind k)
+  where
+    same_kind : (j : Kind) → signature_before j rs more ≡ signature_before j rs' more'
+    same_kind (kind.Module symbol) = q
+    same_kind (kind.Func symbol private types) = cc
+    same_kind kind.Return = q
+    same_kind (kind.Constant width bits) = q
+    same_kind (kind.Binary which width) = q
+
+copied_signatures : (fs fs' : Ops) (s : ValueName → ValueName) → FunctionsCopy s fs fs' → signatures_of fs ≡ signatures_of fs'
+copied_signatures no_ops no_ops s y = refl
+copied_signatures no_ops (op n' k' ds' os' ts' rs' rest') s y = elim y [ ]
+copied_signatures (op n k ds os ts rs rest) no_ops s y = elim y [ ]
+copied_signatures (op n k ds os ts rs rest) (op n' k' ds' os' ts' rs' rest') s y =
+    copied_signature k k' rs rs' (signatures_of rest) (signatures_of rest') y.0 (copied_arguments rs rs' s n n' 0 y.1.0) (copied_signatures rest rest' s y.1.1)
+
+pub copying_keeps : CopyingKeeps
+copying_keeps m m' s h h' y = record {
+  functions = copied_signatures (functions_of m) (functions_of m') s y;
+  returns = λ number f vs ws e t p. (copied_calls call_depth (functions_of m) (functions_of m') s h h' y m.root.name m'.root.name f.symbol vs).by ws p }

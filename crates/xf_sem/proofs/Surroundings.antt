@@ -19,7 +19,7 @@ use Rattle.xf_sem.specs.Meaning.{Env, item, item_or, extend, nowhere, gives, Bod
 use Rattle.xf_sem.specs.Keeps.{Signature, argument_types, signature_before, signatures_of, signatures, KeepsMeaning}
 use Rattle.xf_sem.specs.Surroundings.{Leads, CallsLead, Site, visible, outside, with_earlier, behind, within, IsVisible, HasRun, IsGiven, OpsWhere, RegionsWhere, FunctionsWhere, NoFunction, LeadsHere, changed_at, MayChange, SurroundingsKeep}
 use Rattle.xf_sem.proofs.Fits.{fit_types_says, item_fits}
-use Rattle.xf_sem.proofs.Leads.{leads_none, leads_if, leads_fitting, given_fits, BodiesLead, first_lead, step_leads}
+use Rattle.xf_sem.proofs.Leads.{leads_none, leads_fitting, given_fits, BodiesLead, first_lead, step_leads, called_lead}
 use Rattle.xf_sem.proofs.Copying.{or_true, some_or}
 
 abbrev made : OpName → Kind → List Attr → List ValueName → List PayloadType → Regions → Tree
@@ -129,13 +129,6 @@ module _ (name : OpName) (change : Ops → Ops) where
         (at_kept_regions rest s c c' e n (suc i) w.1 h.1.1 h'.1.1 q l g)
 
   -- ---- through calls
-
-  called_lead : (k : Kind) (f : List ℕ) (b b' later later' : Body) (vs : List Value) → Leads (b vs) (b' vs) → Leads (later vs) (later' vs) → Leads (called k f b later vs) (called k f b' later' vs)
-  called_lead (kind.Module symbol) f b b' later later' vs h q = q
-  called_lead (kind.Func symbol private types) f b b' later later' vs h q = leads_if (same_bytes symbol f) _ _ _ _ h q
-  called_lead kind.Return f b b' later later' vs h q = q
-  called_lead (kind.Constant width bits) f b b' later later' vs h q = q
-  called_lead (kind.Binary which width) f b b' later later' vs h q = q
 
   returned_lead : (fs : Ops) (c c' : Calls) → NoFunction name fs → FunctionsWhere name (LeadsHere change) fs → FunctionsScoped fs → FunctionsScoped (ops_at name change fs) → CallsLead c c' → CallsLead (returned c fs) (returned c' (ops_at name change fs))
   returned_lead no_ops c c' m w h h' l = λ at at' f vs. leads_none at _

@@ -1,5 +1,6 @@
 //! Laws of the meaning, each as the contract of a function that does nothing.
 ghost use Rattle.xf_sem.specs.Laws.{KeepingIsReflexive, KeepingComposes, ErasingKeeps};
+ghost use Rattle.xf_sem.specs.Copying.{CopyingKeeps};
 ghost use Rattle.xf_sem.specs.Surroundings.{SurroundingsKeep};
 ghost use Rattle.xf_sem.specs.Replacing.{ReplacingKeeps};
 
@@ -32,5 +33,11 @@ pub fn replacing_keeps()
 /// An operation whose results are unused, and that is no terminator, may be erased.
 pub fn erasing_keeps()
     ensures { ErasingKeeps }
+{
+}
+
+/// A copy of a module under other names of operations and values, and with other discardable attributes, keeps its meaning.
+pub fn copying_keeps()
+    ensures { CopyingKeeps }
 {
 }

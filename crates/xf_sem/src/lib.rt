@@ -4,5 +4,5 @@
 mod laws;
 mod value;
 
-pub use laws::{erasing_keeps, keeping_composes, keeping_is_reflexive, replacing_keeps, surroundings_keep};
+pub use laws::{copying_keeps, erasing_keeps, keeping_composes, keeping_is_reflexive, replacing_keeps, surroundings_keep};
 pub use value::{ElemList, SizeList, Value};
