@@ -1,20 +1,18 @@
 -- An operation whose results are unused may be erased.
-use Rattle.std.proofs.Common.{◌≡◌, ◌⊎◌, ℕ, suc, Bool, true, false, Option, Some, eqb, refl, inl, inr}
+use Rattle.std.proofs.Common.{◌≡◌, ℕ, suc, Bool, true, false, eqb, refl}
 use Rattle.std.specs.Prelude.{length, map}
 use Rattle.xf_ir.specs.declared.name.OpName.{OpName}
 use Rattle.xf_ir.specs.declared.kind.Kind.{Kind}
 use Rattle.xf_ir.specs.declared.kind.Kind.TheVariants as kind
-use Rattle.xf_ir.specs.declared.op.Module.{Module}
 use Rattle.xf_ir.specs.Tree.{Ops, no_ops, op, Regions, no_regions, region, Tree}
 use Rattle.xf_ir.specs.Places.{results_of}
-use Rattle.xf_ir.specs.Valid.{IsValid, IsFunction, FunctionsAlone, is_container, ends, functions_of, block_of}
+use Rattle.xf_ir.specs.Valid.{IsFunction, FunctionsAlone, is_container, ends, functions_of, block_of}
 use Rattle.xf_ir.specs.Edits.{tail}
-use Rattle.xf_ir.specs.Choices.{MayErase}
 use Rattle.xf_ir.proofs.Found as found
 use Rattle.xf_ir.proofs.Scopes.{scoped}
 use Rattle.xf_ir.proofs.ErasingLaws.{found_inside, valid_kept}
-use Rattle.xf_sem.specs.Meaning.{extend, does, ops_run, bodies_of}
-use Rattle.xf_sem.specs.Surroundings.{Site, visible, outside, behind, within, OpsWhere, RegionsWhere, FunctionsWhere, NoFunction, LeadsHere, MayChange}
+use Rattle.xf_sem.specs.Meaning.{extend, does, bodies_of}
+use Rattle.xf_sem.specs.Surroundings.{Site, visible, outside, behind, within, OpsWhere, RegionsWhere, FunctionsWhere, NoFunction, LeadsHere}
 use Rattle.xf_sem.specs.Laws.{ErasingKeeps}
 use Rattle.xf_sem.proofs.Leads.{leads_none, leads_from_if, leads_from_then, leads_from_charge}
 use Rattle.xf_sem.proofs.Copying.{frame}
@@ -29,9 +27,11 @@ Goes s (op n k ds os ts rs rest) = ends k ≡ false
 
 erase_leads : (s : Site) (ops : Ops) → Goes s ops → LeadsHere tail s ops
 erase_leads s no_ops g = record { by = λ c c' holder e h h' q l given. leads_none holder _ }
-erase_leads s (op n k ds os ts rs rest) g = record { by = λ c c' holder e h h' q l given.
-    leads_from_charge _ _ _ (leads_from_if (ends k) _ _ _ g (leads_from_then (does c n k ts (bodies_of c n 0 rs e) (map e os)) _ _
-     (λ ws p. frame rest (visible s) c c' holder (extend (results_of n (length ts)) ws e) e h' l (λ v t. unmoved (visible s) (results_of n (length ts)) ws e v h.1.0 t)))) }
+erase_leads s (op n k ds os ts rs rest) g = record {
+  by = λ c c' holder e h h' q l given.
+      leads_from_charge _ _ _ (leads_from_if (ends k) _ _ _ g (leads_from_then (does c n k ts (bodies_of c n 0 rs e) (map e os)) _ _
+      (λ ws p. frame rest (visible s) c c' holder (extend (results_of n (length ts)) ws e) e h' l (λ v t. unmoved (visible s) (results_of n (length ts)) ws e v h.1.0 t))));
+}
 
 -- ---- what is erased is no function and ends no block
 
@@ -41,9 +41,10 @@ Inner t = (is_container t.kind ≡ false) × (ends t.kind ≡ false)
 mutual
   leads_where : (name : OpName) (ops : Ops) (s : Site) → found.OpsWhere name Inner ops → OpsWhere name (LeadsHere tail) s ops
   leads_where name no_ops s h = tt
-  leads_where name (op n k ds os ts rs rest) s h =
-      ((λ e. erase_leads s (op n k ds os ts rs rest) (h.0 e).1),
-       (leads_where_regions name rs s n 0 h.1.0, leads_where name rest (behind s (record { name = n; kind = k; attrs = ds; operands = os; results = ts; regions = rs })) h.1.1))
+  leads_where name (op n k ds os ts rs rest) s h = (
+    (λ e. erase_leads s (op n k ds os ts rs rest) (h.0 e).1),
+    (leads_where_regions name rs s n 0 h.1.0, leads_where name rest (behind s (record { name = n; kind = k; attrs = ds; operands = os; results = ts; regions = rs })) h.1.1),
+  )
 
   leads_where_regions : (name : OpName) (rs : Regions) (s : Site) (n : OpName) (i : ℕ) → found.RegionsWhere name Inner rs → RegionsWhere name (LeadsHere tail) s n i rs
   leads_where_regions name no_regions s n i h = tt

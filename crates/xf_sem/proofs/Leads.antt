@@ -1,5 +1,5 @@
 -- What leads, through the parts of a run.
-use Rattle.std.proofs.Common.{◌≡◌, ℕ, zero, suc, List, [], ◌∷◌, Bool, true, false, refl, subst}
+use Rattle.std.proofs.Common.{◌≡◌, ℕ, zero, suc, List, Bool, true, false, refl, subst}
 use Rattle.std.specs.Prelude.{if◌then◌else◌}
 use Rattle.xf_type.specs.declared.payload_type.PayloadType.{PayloadType}
 use Rattle.xf_ir.specs.declared.name.OpName.{OpName}

@@ -1,5 +1,5 @@
 -- Copies: operations of the same kinds and types under other names, over other values.
-use Rattle.std.specs.Prelude.{◌≡◌, ℕ, suc, length, map, Option, Some}
+use Rattle.std.specs.Prelude.{◌≡◌, ℕ, suc, length, map, Some}
 use Rattle.xf_ir.specs.declared.name.OpName.{OpName}
 use Rattle.xf_ir.specs.declared.name.ValueName.{ValueName}
 use Rattle.xf_ir.specs.declared.op.Module.{Module}

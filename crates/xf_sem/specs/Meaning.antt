@@ -1,9 +1,8 @@
 -- What a module means: what its functions return, and in how many units (MLIR language reference: operations, regions, values).
-use Rattle.std.specs.Prelude.{◌≡◌, ℕ, zero, suc, ◌+◌, List, [], ◌∷◌, length, map, Option, Some, None, Bool, true, false, ◌&&◌, if◌then◌else◌, slice_get, unwrap_or}
+use Rattle.std.specs.Prelude.{ℕ, zero, suc, ◌+◌, List, [], ◌∷◌, length, map, Option, Some, None, ◌&&◌, if◌then◌else◌, slice_get, unwrap_or}
 use Rattle.xf_type.specs.declared.payload_type.PayloadType.{PayloadType}
 use Rattle.xf_type.specs.declared.payload_type.Width.{Width}
 use Rattle.xf_type.specs.declared.payload_type.Width.TheVariants.{I1}
-use Rattle.xf_type.specs.declared.payload_type.Elem.{Elem}
 use Rattle.xf_type.specs.declared.payload_type.Elem.TheVariants.{Num, NoNumber}
 use Rattle.xf_type.specs.declared.kind.BinKind.{BinKind}
 use Rattle.xf_type.specs.Integers.{binary}

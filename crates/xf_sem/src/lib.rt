@@ -4,5 +4,11 @@
 mod laws;
 mod value;
 
-pub use laws::{copying_keeps, erasing_keeps, keeping_composes, keeping_is_reflexive, replacing_keeps, surroundings_keep};
+pub use laws::{
+    copying_keeps, erasing_keeps, fitting_is_tested, keeping_composes, keeping_is_reflexive,
+    replacing_keeps, surroundings_keep,
+};
 pub use value::{ElemList, SizeList, Value};
+
+#[cfg(test)]
+mod tests;
