@@ -105,7 +105,7 @@ on_scalars which width (Scalar left a ∷ Scalar right b ∷ []) =
     if is_same_width left width && is_same_width right width then results (Scalar width (binary which width a b) ∷ []) else is_undefined
 on_scalars which width _ = is_undefined
 
--- the table of the kinds, from the types of an operation's results and the values of its operands; those of no row are undefined
+-- the table of the kinds, from the types of an operation's results and the values of its operands
 abbrev pub acts : Kind → List PayloadType → List Value → Action
 acts (kind.Module symbol) ts vs = is_undefined
 acts (kind.Func symbol private types) ts vs = is_undefined
@@ -119,7 +119,7 @@ performed c n bodies is_undefined = undefined n
 performed c n bodies (enters i vs more) = and_then (bodies i vs) (λ ws. performed c n bodies (more ws))
 performed c n bodies (calls f vs more) = and_then (c n f vs) (λ ws. performed c n bodies (more ws))
 
--- values that do not fit their types are no values of this operation
+-- the run goes on only with values that fit these types; with others the operation is undefined
 abbrev pub where_fit : {A : Type 0} → OpName → List PayloadType → List Value → Run A → Run A
 where_fit n ts vs r = if fit_types vs ts then r else undefined n
 
@@ -128,7 +128,8 @@ elements [] = 0
 elements (Scalar width elem ∷ vs) = elements vs
 elements (Tensor width shape elems ∷ vs) = length elems + elements vs
 
--- an operation's results, with a unit for each of their elements; it is undefined where they do not fit its types
+-- an operation's results, with a unit for each element of a tensor among them; it is undefined where they do not fit its types, as
+-- those of a constant or a binary operation in a valid module always do
 abbrev pub does : Calls → OpName → Kind → List PayloadType → Bodies → List Value → Run (List Value)
 does c n k ts bodies vs = and_then (performed c n bodies (acts k ts vs)) (λ ws. where_fit n ts ws (charge (elements ws) (finish ws)))
 

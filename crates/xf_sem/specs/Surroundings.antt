@@ -64,7 +64,7 @@ pub record HasRun (c : Calls) (e : Env) (t : Tree) : Type 0 where
   pub gave : (does c t.name t.kind t.results (no_body t.name) (map e t.operands)).answer ≡ gives values
   pub held : (v : ValueName) (i : ℕ) → results_of t.name (length t.results) v ≡ Some i → e v ≡ item values i
 
--- an environment that an execution gives at a site: visible values fit their types, and the earlier operations have run
+-- what each environment that an execution gives at a site meets: visible values fit their types, and the earlier operations have run
 pub record IsGiven (c : Calls) (s : Site) (e : Env) : Type 0 where
   pub fits : (v : ValueName) (t : PayloadType) → type_at s.types v ≡ Some t → IsValue (e v) × FitsType (e v) t
   pub earlier : Each (HasRun c e) s.earlier
