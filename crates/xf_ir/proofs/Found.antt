@@ -1,15 +1,15 @@
 -- What look-ups by name find where names occur once.
 use Rattle.std.proofs.Common.{◌≡◌, List, ◌++◌, true, false, eqb, Option, None, Some, ◌⊎◌, inl, inr, refl, sym, subst, ◌∙◌}
-use Rattle.std.proofs.lemmas.Bool.{cases_Bool, or_parts}
+use Rattle.std.proofs.lemmas.Bool.{cases_Bool, or_from, or_parts}
 use Rattle.xf_ir.specs.declared.name.OpName.{OpName}
 use Rattle.xf_type.specs.declared.payload_type.PayloadType.{PayloadType}
 use Rattle.xf_ir.specs.declared.name.ValueName.{ValueName}
 use Rattle.xf_ir.specs.declared.kind.Kind.{Kind}
 use Rattle.xf_ir.specs.declared.kind.Attr.{Attr}
 use Rattle.xf_ir.specs.Tree.{Ops, no_ops, op, Regions, no_regions, region, Tree}
-use Rattle.xf_ir.specs.Walk.{ops_names, regions_names, first_of, ops_find, regions_find}
+use Rattle.xf_ir.specs.Walk.{ops_names, regions_names, tree_names, first_of, ops_find, regions_find, tree_find}
 use Rattle.xf_ir.specs.Lists.{same_name, is_among, Once}
-use Rattle.xf_ir.proofs.Lists.{name_is, not_left, not_right, once_left, once_right, once_apart, among_left, among_right, absent_before, apart_names}
+use Rattle.xf_ir.proofs.Lists.{not_both, name_is, not_left, not_right, once_left, once_right, once_apart, among_left, among_right, absent_before, apart_names}
 
 -- one operation, as a tree
 abbrev pub tree : OpName → Kind → List Attr → List ValueName → List PayloadType → Regions → Tree
@@ -169,3 +169,38 @@ mutual
       elim (first_cases (ops_find name ops) (regions_find name rest) t h) [
         inl g ↦ (where_found name Q t ops (once_left ms ns o) g q, where_absent_regions name Q rest (once_apart name ms ns o (found_name name t ops g)))
       | inr g ↦ (where_absent name Q ops (absent_before name ms ns o (found_name_regions name t rest g.1)), where_found_regions name Q t rest (once_right ms ns o) g.1 q) ]
+
+-- ---- what is not found has no name there
+
+pub none_of : {A : Type 0} (o o' : Option A) → first_of o o' ≡ None → (o ≡ None) × (o' ≡ None)
+none_of None o' h = (refl, h)
+none_of (Some x) o' h = absurd (cc)
+
+mutual
+  none_name : (name : OpName) (ops : Ops) → ops_find name ops ≡ None → is_among name (ops_names ops) ≡ false
+  none_name name no_ops h = refl
+  none_name name (op n k ds os ts rs rest) h =
+      elim (cases_Bool (eqb n.0 name.0)) [
+        inl e ↦ absurd (let z = rw e at h in cc)
+      | inr e ↦ (
+          let p = none_of (regions_find name rs) (ops_find name rest) (rw e at h) in
+          or_from (same_name n name) (is_among name (regions_names rs ++ ops_names rest)) e
+          (not_both name (regions_names rs) (ops_names rest) (none_name_regions name rs p.0) (none_name name rest p.1))) ]
+
+  none_name_regions : (name : OpName) (rs : Regions) → regions_find name rs ≡ None → is_among name (regions_names rs) ≡ false
+  none_name_regions name no_regions h = refl
+  none_name_regions name (region args ops rest) h =
+      let p = none_of (ops_find name ops) (regions_find name rest) h in
+      not_both name (ops_names ops) (regions_names rest) (none_name name ops p.0) (none_name_regions name rest p.1)
+
+pub tree_none_name : (name : OpName) (t : Tree) → tree_find name t ≡ None → is_among name (tree_names t) ≡ false
+tree_none_name name t h =
+    elim (cases_Bool (eqb t.name.0 name.0)) [
+      inl e ↦ absurd (let z = rw e at h in cc)
+    | inr e ↦ or_from (same_name t.name name) (is_among name (regions_names t.regions)) e (none_name_regions name t.regions (rw e at h)) ]
+
+pub tree_lost_name : (name : OpName) (t : Tree) → is_among name (tree_names t) ≡ false → tree_find name t ≡ None
+tree_lost_name name t h =
+    let p = or_parts (same_name t.name name) (is_among name (regions_names t.regions)) h in
+    let l = lost_name_regions name t.regions p.1 in
+    rw (p.0, l) refl

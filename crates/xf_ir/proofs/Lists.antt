@@ -33,6 +33,12 @@ pub not_right : (n : OpName) (xs ys : List OpName) → is_among n (xs ++ ys) ≡
 not_right n [] ys h = h
 not_right n (x ∷ xs) ys h = not_right n xs ys (or_parts (same_name x n) (is_among n (xs ++ ys)) h).1
 
+pub not_both : (n : OpName) (xs ys : List OpName) → is_among n xs ≡ false → is_among n ys ≡ false → is_among n (xs ++ ys) ≡ false
+not_both n [] ys h k = k
+not_both n (x ∷ xs) ys h k =
+    let p = or_parts (same_name x n) (is_among n xs) h in
+    or_from (same_name x n) (is_among n (xs ++ ys)) p.0 (not_both n xs ys p.1 k)
+
 pub once_left : (xs ys : List OpName) → Once (xs ++ ys) → Once xs
 once_left [] ys h = tt
 once_left (x ∷ xs) ys h = (not_left x xs ys h.0, once_left xs ys h.1)

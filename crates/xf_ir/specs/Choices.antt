@@ -1,13 +1,13 @@
 -- The choices of a rewriting step: what may be changed next in a scope.
-use Rattle.std.specs.Prelude.{◌≡◌, ℕ, ◌+◌, List, [], ◌++◌, length, Option, Some, None, false}
+use Rattle.std.specs.Prelude.{◌≡◌, ℕ, ◌+◌, List, [], ◌∷◌, ◌++◌, length, Option, Some, None, Bool, false, true, ◌||◌, if◌then◌else◌}
 use Rattle.xf_ir.specs.declared.name.OpName.{OpName}
 use Rattle.xf_ir.specs.declared.name.ValueName.{ValueName}
 use Rattle.xf_ir.specs.declared.kind.Kind.{Kind}
 use Rattle.xf_ir.specs.declared.kind.Kind.TheVariants as kind
 use Rattle.xf_ir.specs.declared.op.Module.{Module}
 use Rattle.xf_ir.specs.Tree.{Ops, no_ops, op, Regions, no_regions, region, Tree}
-use Rattle.xf_ir.specs.Walk.{tree_find, regions_find}
-use Rattle.xf_ir.specs.Lists.{Each}
+use Rattle.xf_ir.specs.Walk.{tree_find, regions_find, regions_names}
+use Rattle.xf_ir.specs.Lists.{Each, same_name}
 use Rattle.xf_ir.specs.Places.{results_of}
 use Rattle.xf_ir.specs.Valid.{is_container, ends}
 
@@ -51,6 +51,15 @@ pub record MayErase (m : Module) (target name : OpName) : Type 0 where
 -- no operation of the scope may be erased
 abbrev pub IsNormal : Module → OpName → Type 0
 IsNormal m target = (name : OpName) → MayErase m target name → ⊥
+
+-- whether the first of two operations stands among these before the second
+abbrev pub stands_before : OpName → OpName → List OpName → Bool
+stands_before a b [] = false
+stands_before a b (n ∷ ns) = if same_name n b then false else (same_name n a || stands_before a b ns)
+
+-- none that stands before it in the scope may be erased
+abbrev pub IsFirstDead : Module → OpName → OpName → Type 0
+IsFirstDead m target name = (other : OpName) → stands_before other name (regions_names (scope_at m target)) ≡ true → MayErase m target other → ⊥
 
 abbrev pub weight_of : Kind → ℕ
 weight_of (kind.Module symbol) = 2

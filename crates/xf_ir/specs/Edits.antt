@@ -1,5 +1,5 @@
 -- Edits of a module, as changes of its tree.
-use Rattle.std.specs.Prelude.{◌≡◌, Some, ◌==◌, if◌then◌else◌}
+use Rattle.std.specs.Prelude.{◌≡◌, Some, Bool, false, ◌==◌, if◌then◌else◌}
 use Rattle.xf_ir.specs.declared.name.OpName.{OpName}
 use Rattle.xf_ir.specs.declared.edit.Edit.{Edit}
 use Rattle.xf_ir.specs.declared.edit.Edit.TheVariants.{Erase}
@@ -35,6 +35,10 @@ tree_erased name t = tree_at name tail t
 -- the module after an edit
 abbrev pub edited : Module → Edit → Module
 edited m (Erase name) = record m { root = tree_erased name m.root }
+
+-- whether an edit takes memory
+abbrev pub wants_memory : Edit → Bool
+wants_memory (Erase name) = false
 
 -- what an edit names is in the module, the root stays, and after it names occur once and each use is of a visible value
 pub record FitsErase (m : Module) (name : OpName) : Type 0 where

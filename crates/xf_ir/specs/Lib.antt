@@ -9,3 +9,4 @@ pub mod Valid
 pub mod Edits
 pub mod Choices
 pub mod Laws
+pub mod Used

@@ -1,6 +1,6 @@
 //! Edits of a module.
-ghost use Rattle.std.specs.Prelude.{◌≡◌, OnOk, OnErr};
-ghost use Rattle.xf_ir.specs.Edits.{ops_at, regions_at, tail, tree_erased, edited};
+ghost use Rattle.std.specs.Prelude.{◌≡◌, OnOk, OnErr, IsOk, false};
+ghost use Rattle.xf_ir.specs.Edits.{ops_at, regions_at, tail, tree_erased, edited, wants_memory};
 ghost use Rattle.xf_ir.specs.View.{ops_of, regions_of};
 
 use crate::name::OpName;
@@ -55,6 +55,7 @@ fn erase_in_block(ops: &mut Vec<Op>, name: OpName)
 pub fn apply_edit(m: &mut Module, e: &Edit) -> Result<(), NoMemory>
     ensures ok { OnOk result (m.new ≡ edited m.old e.now) }
     ensures err { OnErr result (m.new ≡ m.old) }
+    ensures without_memory { wants_memory e.now ≡ false → IsOk result }
 {
     match *e {
         Edit::Erase { op } => erase_inside(&mut m.root, op),

@@ -1,4 +1,6 @@
 //! What an operation is, with the attributes of its own.
+ghost use Rattle.std.specs.Prelude.{◌≡◌};
+ghost use Rattle.xf_ir.specs.Valid.{is_container, ends};
 
 use xf_type::{AttrValue, BinKind, ByteList, ListOf, TypeList, Width};
 
@@ -37,4 +39,32 @@ pub enum Kind {
         kind: BinKind,
         width: Width,
     },
+}
+
+impl Kind {
+    /// Whether it is a module or a function, which hold operations that stand for themselves.
+    pub fn is_container(&self) -> bool
+        ensures { result ≡ is_container self.now }
+    {
+        match self {
+            Kind::Module { .. } => true,
+            Kind::Func { .. } => true,
+            Kind::Return => false,
+            Kind::Constant { .. } => false,
+            Kind::Binary { .. } => false,
+        }
+    }
+
+    /// Whether it ends a block.
+    pub fn ends_block(&self) -> bool
+        ensures { result ≡ ends self.now }
+    {
+        match self {
+            Kind::Module { .. } => false,
+            Kind::Func { .. } => false,
+            Kind::Return => true,
+            Kind::Constant { .. } => false,
+            Kind::Binary { .. } => false,
+        }
+    }
 }

@@ -1,8 +1,9 @@
 //! Walks over a tree: its names, how many operations it has, and where one is.
-ghost use Rattle.std.specs.Prelude.{◌≡◌, ◌^◌, ◌<◌, ◌++◌, IfOk, OnOk};
+ghost use Rattle.std.specs.Prelude.{◌≡◌, ◌^◌, ◌<◌, ◌++◌, ◌↔◌, false, IsNone, IfOk, OnOk};
 ghost use Rattle.std.specs.Option.{option_copied};
 ghost use Rattle.xf_ir.specs.Count.{tree_count};
-ghost use Rattle.xf_ir.specs.Walk.{tree_post, tree_find};
+ghost use Rattle.xf_ir.specs.Lists.{is_among};
+ghost use Rattle.xf_ir.specs.Walk.{tree_names, tree_post, tree_find};
 
 use crate::name::OpName;
 use crate::op::{Module, Op};
@@ -69,7 +70,8 @@ fn find_in(op: &Op, name: OpName) -> Option<&Op>
 impl Module {
     /// The operation of that name, or `None` exactly where there is none. Takes time in the number of operations.
     pub fn find(&self, op: OpName) -> Option<&Op>
-        ensures { option_copied result ≡ tree_find op self.now.root }
+        ensures found { option_copied result ≡ tree_find op self.now.root }
+        ensures absent { IsNone result ↔ (is_among op (tree_names self.now.root) ≡ false) }
     {
         find_in(&self.root, op)
     }
