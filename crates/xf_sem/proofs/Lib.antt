@@ -1,0 +1,7 @@
+pub mod Fits
+pub mod Leads
+pub mod Copying
+pub mod Surroundings
+pub mod Replacing
+pub mod Keeping
+pub mod Erasing
