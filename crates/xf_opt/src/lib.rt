@@ -1,0 +1,14 @@
+//! The top call: a schedule carried out on a payload, from bytes to bytes.
+#![tactic(auto)]
+
+mod journal;
+mod outcome;
+mod run;
+#[cfg(test)]
+mod tests;
+mod top;
+mod words;
+
+pub use journal::{Entry, Journal};
+pub use outcome::{Outcome, Refusal, Told, tell};
+pub use top::transform_main;
