@@ -87,7 +87,7 @@ impl Fault {
 }
 
 /// Why a text is refused.
-#[derive(Debug, Drop, Error)]
+#[derive(Clone, Copy, Debug, PartialEq, Eq, Error)]
 pub enum TextFault {
     /// The text has this fault.
     #[error("the text has a fault")]
