@@ -83,7 +83,7 @@ fn write_last<S: Sink>(sink: &mut S, path: &str, fault: &Fault) -> Result<(), Si
         (S.written sink.old) (S.written sink.new) }
     ensures count { FailsByCount result (S.faults sink.old) (S.faults sink.new) }
 {
-    let Some((code, place)) = &fault.other else {
+    let Some((last, place)) = &fault.other else {
         unreachable!()
     };
     let mut line = Buffer::new();
@@ -97,7 +97,7 @@ fn write_last<S: Sink>(sink: &mut S, path: &str, fault: &Fault) -> Result<(), Si
             b" ",
             name_of(&fault.code).as_bytes(),
             b", last ",
-            text_of(code).as_bytes(),
+            text_of(last).as_bytes(),
             b" at ",
             line.format(place.line).as_bytes(),
             b":",
