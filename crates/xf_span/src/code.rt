@@ -85,7 +85,7 @@ pub enum Code {
     B4,
     /// A value or a symbol that nothing visible defines.
     B5,
-    /// A mark of an argument that its use contradicts.
+    /// A mark of an argument that its use or its type contradicts.
     B6,
     /// A sequence that includes itself.
     B7,

@@ -3,7 +3,7 @@ ghost use Rattle.std.specs.Prelude.{◌≡◌};
 
 use crate::code::Code;
 use crate::place::Place;
-use std::alloc::AllocError;
+use std::alloc::{AllocError, AllocFailed};
 use thiserror::Error;
 
 /// A fault, and what its line tells.
@@ -122,6 +122,17 @@ impl From<AllocError> for TextFault {
     ghost from_gives = { λ _ e. e ≡ NoMemory };
 
     fn from(_refused: AllocError) -> TextFault {
+        TextFault::NoMemory
+    }
+}
+
+/// What a collection could not take is dropped.
+impl<T: Drop> From<AllocFailed<T>> for TextFault {
+    ghost use Rattle.xf_span.specs.declared.fault.TextFault.TheVariants.{NoMemory};
+
+    ghost from_gives = { λ _ e. e ≡ NoMemory };
+
+    fn from(_refused: AllocFailed<T>) -> TextFault {
         TextFault::NoMemory
     }
 }

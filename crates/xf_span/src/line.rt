@@ -44,7 +44,8 @@ fn write_named<S: Sink>(
     place: Option<Place>,
     fault: &Fault,
 ) -> Result<(), SinkFail>
-    ensures text { WritesText result (head_text path.now place ++ named_text fault.now.code ++ codes "\n")
+    ensures text { WritesText result
+        (head_text path.now place ++ named_text fault.now.code ++ codes "\n")
         (S.written sink.old) (S.written sink.new) }
     ensures count { FailsByCount result (S.faults sink.old) (S.faults sink.new) }
 {
