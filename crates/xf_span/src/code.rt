@@ -29,7 +29,7 @@ pub enum Code {
     A2,
     /// A name that is defined twice.
     A3,
-    /// A stated type that is not the type of its value, or lists of different lengths.
+    /// A stated type that its value does not have, or lists of different lengths.
     A4,
     /// Regions nested too deeply.
     A5,

@@ -3,7 +3,8 @@ ghost use Rattle.std.specs.Prelude.{◌≡◌, ◌++◌, IsSome, codes, decimal}
 ghost use Rattle.std.specs.List.{flat_map};
 ghost use Rattle.xf_host.specs.Writes.{WritesText, FailsByCount};
 ghost use Rattle.xf_span.specs.Code.{code_text};
-ghost use Rattle.xf_span.specs.Line.{HasLine, line_of, head_text, named_text, last_text, place_after};
+ghost use Rattle.xf_span.specs.Line.{HasLine, line_of};
+ghost use Rattle.xf_span.specs.Line.{head_text, named_text, last_text, place_after};
 
 use crate::code::Code;
 use crate::fault::Fault;
@@ -55,7 +56,8 @@ fn write_named<S: Sink>(
 
 /// Writes the line of a fault with a number after its name.
 fn write_numbered<S: Sink>(sink: &mut S, path: &str, fault: &Fault) -> Result<(), SinkFail>
-    ensures text { WritesText result (head_text path.now fault.now.place ++ named_text fault.now.code
+    ensures text { WritesText result
+        (head_text path.now fault.now.place ++ named_text fault.now.code
         ++ codes " " ++ decimal fault.now.number ++ codes "\n")
         (S.written sink.old) (S.written sink.new) }
     ensures count { FailsByCount result (S.faults sink.old) (S.faults sink.new) }
@@ -79,7 +81,8 @@ fn write_numbered<S: Sink>(sink: &mut S, path: &str, fault: &Fault) -> Result<()
 /// Writes the line of a fault that tells of the fault of a last region.
 fn write_last<S: Sink>(sink: &mut S, path: &str, fault: &Fault) -> Result<(), SinkFail>
     requires { IsSome fault.now.other }
-    ensures text { WritesText result (head_text path.now fault.now.place ++ named_text fault.now.code
+    ensures text { WritesText result
+        (head_text path.now fault.now.place ++ named_text fault.now.code
         ++ last_text fault.now.other ++ codes "\n")
         (S.written sink.old) (S.written sink.new) }
     ensures count { FailsByCount result (S.faults sink.old) (S.faults sink.new) }
@@ -116,7 +119,8 @@ fn write_consumed<S: Sink>(
     words: &str,
 ) -> Result<(), SinkFail>
     requires { IsSome fault.now.other }
-    ensures text { WritesText result (head_text path.now fault.now.place ++ named_text fault.now.code
+    ensures text { WritesText result
+        (head_text path.now fault.now.place ++ named_text fault.now.code
         ++ place_after words.now fault.now.other ++ codes "\n")
         (S.written sink.old) (S.written sink.new) }
     ensures count { FailsByCount result (S.faults sink.old) (S.faults sink.new) }
