@@ -1,7 +1,11 @@
 -- How a call of the program ends: its status, what it wrote and what it told.
-use Rattle.std.specs.Prelude.{◌≡◌, ◌≢◌, ◌⊎◌, ℕ, ◌+◌, ◌≤◌, List, [], ◌++◌, length, Option, Some, None, IfSome, codes}
+use Rattle.std.specs.Prelude.{◌≡◌, ◌≢◌, ◌↔◌, ◌⊎◌, ℕ, ◌+◌, ◌≤◌, List, [], ◌++◌, length, Option, Some, None, IfSome, codes}
 use Rattle.xf_host.specs.Count.{HasRisen}
 use Rattle.xf_host.specs.Writes.{Gains, GainsFront}
+use Rattle.xf_span.specs.declared.code.Code.{Code}
+use Rattle.xf_span.specs.declared.code.Code.TheVariants as code
+use Rattle.xf_span.specs.declared.fault.Fault.{Fault}
+use Rattle.xf_span.specs.Fault.{plain_fault}
 use Rattle.xf_ir.specs.declared.op.Module.{Module}
 use Rattle.xf_ir.specs.Valid.{IsValid}
 use Rattle.xf_ir.specs.Choices.{weight_at}
@@ -105,15 +109,28 @@ path_of because.Payload script payload = payload
 path_of because.Script script payload = script
 path_of because.NoMemory script payload = []
 
--- the line of a refusal, behind the path that it names
-abbrev pub tail_of : Refusal → List ℕ
-tail_of because.Words = codes "transform_opt: words not understood\n"
-tail_of because.ScriptRead = codes ": read failed\n"
-tail_of because.PayloadRead = codes ": read failed\n"
-tail_of because.Write = codes "out: write failed\n"
-tail_of because.Payload = codes ": N1 NotBuilt\n"
-tail_of because.Script = codes ": N1 NotBuilt\n"
-tail_of because.NoMemory = codes "out of memory\n"
+-- the code of a refusal
+abbrev pub code_of : Refusal → Code
+code_of because.Words = code.Words
+code_of because.ScriptRead = code.ReadFailed
+code_of because.PayloadRead = code.ReadFailed
+code_of because.Write = code.WriteFailed
+code_of because.Payload = code.N1
+code_of because.Script = code.N1
+code_of because.NoMemory = code.OutOfMemory
+
+abbrev pub fault_of : Refusal → Fault
+fault_of r = plain_fault (code_of r)
+
+-- the fault of a call that ends with this status
+pub record FaultIs (status : ℕ) (fault : Option Fault) : Type 0 where
+  pub none : (status ≡ 0) ↔ (fault ≡ None)
+  pub words : status ≡ 1 → fault ≡ Some (plain_fault code.Words)
+  pub read : status ≡ 2 → fault ≡ Some (plain_fault code.ReadFailed)
+  pub write : status ≡ 3 → fault ≡ Some (plain_fault code.WriteFailed)
+  pub payload : status ≡ 4 → fault ≡ Some (plain_fault code.N1)
+  pub script : status ≡ 5 → fault ≡ Some (plain_fault code.N1)
+  pub memory : status ≡ 9 → fault ≡ Some (plain_fault code.OutOfMemory)
 
 -- how much of a line was written, and that a failure has its count
 abbrev pub TellsLine : Told → List ℕ → Option (List ℕ) → Option (List ℕ) → ℕ → ℕ → Type 0

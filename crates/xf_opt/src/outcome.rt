@@ -1,10 +1,11 @@
 //! How a call ends.
-ghost use Rattle.std.specs.Prelude.{◌≡◌, ◌++◌, ℕ, List};
-ghost use Rattle.xf_host.specs.Writes.{WritesText, FailsByCount};
-ghost use Rattle.xf_opt.specs.Ends.{status_of, path_of, tail_of, TellsLine};
+ghost use Rattle.std.specs.Prelude.{◌≡◌, ℕ, List};
+ghost use Rattle.xf_span.specs.Line.{line_of};
+ghost use Rattle.xf_opt.specs.Ends.{status_of, path_of, code_of, fault_of, TellsLine};
 
 use crate::journal::Journal;
 use xf_host::sink::{Sink, SinkFail};
+use xf_span::{Code, Fault, write_fault};
 
 /// How much of the line of a refusal was written.
 #[derive(Clone, Copy, Debug, PartialEq, Eq)]
@@ -20,8 +21,10 @@ pub struct Outcome {
     /// 0: the text was written; 1: words; 2: a read failed; 3: a write failed; 4: the payload is
     /// refused; 5: the script is refused; 9: want of memory.
     pub status: u8,
+    /// What ended the call; nothing exactly at 0.
+    pub fault: Option<Fault>,
     pub told: Told,
-    /// The choices of the run; empty where the call ended before it.
+    /// The choices of the run; empty where the call ended before it, and at 9 whatever it is.
     pub journal: Journal,
 }
 
@@ -68,36 +71,34 @@ impl Refusal {
         }
     }
 
-    /// What the line says behind the path, or the whole line where it names none.
-    fn tail(self) -> &'static str
-        ensures { result.now ≡ tail_of self }
+    /// The code of the fault.
+    fn code(self) -> Code
+        ensures { result ≡ code_of self }
     {
         match self {
-            Refusal::Words => "transform_opt: words not understood\n",
-            Refusal::ScriptRead => ": read failed\n",
-            Refusal::PayloadRead => ": read failed\n",
-            Refusal::Write => "out: write failed\n",
-            Refusal::Payload => ": N1 NotBuilt\n",
-            Refusal::Script => ": N1 NotBuilt\n",
-            Refusal::NoMemory => "out of memory\n",
+            Refusal::Words => Code::Words,
+            Refusal::ScriptRead => Code::ReadFailed,
+            Refusal::PayloadRead => Code::ReadFailed,
+            Refusal::Write => Code::WriteFailed,
+            Refusal::Payload => Code::N1,
+            Refusal::Script => Code::N1,
+            Refusal::NoMemory => Code::OutOfMemory,
         }
     }
-}
 
-/// Writes two pieces, one after the other.
-fn write_both<S: Sink>(sink: &mut S, first: &[u8], second: &[u8]) -> Result<(), SinkFail>
-    ensures text { WritesText result (first.now ++ second.now) (S.written sink.old) (S.written sink.new) }
-    ensures count { FailsByCount result (S.faults sink.old) (S.faults sink.new) }
-{
-    sink.write(first)?;
-    sink.write(second)
+    /// The fault that ends the call.
+    pub fn fault(self) -> Fault
+        ensures { result ≡ fault_of self }
+    {
+        Fault::plain(self.code())
+    }
 }
 
 /// Writes the line of a refusal; the path is empty where the line names none.
 pub fn tell<E: Sink>(err: &mut E, path: &str, refusal: Refusal) -> Told
-    ensures { TellsLine result (path.now ++ tail_of refusal) (E.written err.old) (E.written err.new) (E.faults err.old) (E.faults err.new) }
+    ensures { TellsLine result (line_of path.now (fault_of refusal)) (E.written err.old) (E.written err.new) (E.faults err.old) (E.faults err.new) }
 {
-    match write_both(err, path.as_bytes(), refusal.tail().as_bytes()) {
+    match write_fault(err, path, &refusal.fault()) {
         Ok(()) => Told::Whole,
         Err(SinkFail::Failed) => Told::Failed,
         Err(SinkFail::NoMemory) => Told::NoMemory,

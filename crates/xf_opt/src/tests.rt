@@ -43,6 +43,7 @@ fn a_dead_addition_goes(rt: HostRuntime) -> Result<(), Fail> {
     let words = words(alloc, &RUN)?;
     let outcome = transform_main(alloc, words.as_slice(), &mut files, &mut out, &mut err);
     assert_eq!(rt; outcome.status, 0);
+    assert!(rt; outcome.fault.is_none());
     assert_eq!(rt; outcome.told, Told::Whole);
     assert_eq!(rt; out.bytes(), PRINTED);
     assert_eq!(rt; err.bytes(), b"".as_slice());

@@ -6,7 +6,7 @@ ghost use Rattle.xf_ir.specs.declared.op.Module.{Module};
 ghost use Rattle.xf_text.specs.Form.{IsFirstForm};
 ghost use Rattle.xf_opt.specs.Words.{texts, command_of};
 ghost use Rattle.xf_opt.specs.Ended.{refusal_at, EndsPlainly, EndsByScript, EndsByPayload, EndsByReads, IsPastReads};
-ghost use Rattle.xf_opt.specs.Ends.{file_limit, IsScriptFile, SpellsFile, IsStatus, OnScript, OnPayload, HasReadFault, JudgesScript, JudgesPayload, Headline, WritesFront, WritesAtMost, OthersStay, TellsEnd};
+ghost use Rattle.xf_opt.specs.Ends.{file_limit, IsScriptFile, SpellsFile, IsStatus, OnScript, OnPayload, HasReadFault, JudgesScript, JudgesPayload, Headline, WritesFront, WritesAtMost, OthersStay, FaultIs, TellsEnd};
 
 use crate::journal::Journal;
 use crate::outcome::{Outcome, Refusal, Told, tell};
@@ -175,6 +175,7 @@ pub fn transform_main<F: Files, S: Sink, E: Sink>(
     ensures unread { result.status ≡ 1 → files.new ≡ files.old }
 
     // What was told.
+    ensures fault { FaultIs result.status result.fault }
     ensures quiet { result.status ≡ 0 → err.new ≡ err.old }
     ensures told { TellsEnd (command_of (texts words.now)) (F.faults files.old) (F.faults files.new) result.status
         result.told (E.written err.old) (E.written err.new) (E.faults err.old) (E.faults err.new) }
@@ -184,6 +185,7 @@ pub fn transform_main<F: Files, S: Sink, E: Sink>(
         let told = tell(err, "", Refusal::Words);
         return Outcome {
             status: 1,
+            fault: Some(Refusal::Words.fault()),
             told,
             journal,
         };
@@ -191,6 +193,7 @@ pub fn transform_main<F: Files, S: Sink, E: Sink>(
     match execute(alloc, command, files, out, &mut journal) {
         Ok(()) => Outcome {
             status: 0,
+            fault: None,
             told: Told::Whole,
             journal,
         },
@@ -198,6 +201,7 @@ pub fn transform_main<F: Files, S: Sink, E: Sink>(
             let told = tell(err, refusal.path(command.script, command.payload), refusal);
             Outcome {
                 status: refusal.status(),
+                fault: Some(refusal.fault()),
                 told,
                 journal,
             }
