@@ -1,11 +1,15 @@
 -- Edits of a module, as changes of its tree.
-use Rattle.std.specs.Prelude.{◌≡◌, Some, Bool, false, ◌==◌, if◌then◌else◌}
+use Rattle.std.specs.Prelude.{◌≡◌, ℕ, ◌+◌, ◌-◌, ◌^◌, List, [], ◌∷◌, Option, None, Some, Bool, true, false, min, nat_lt, ◌==◌, if◌then◌else◌}
 use Rattle.xf_ir.specs.declared.name.OpName.{OpName}
 use Rattle.xf_ir.specs.declared.edit.Edit.{Edit}
-use Rattle.xf_ir.specs.declared.edit.Edit.TheVariants.{Erase}
+use Rattle.xf_ir.specs.declared.edit.Edit.TheVariants.{Insert, Erase}
 use Rattle.xf_ir.specs.declared.op.Module.{Module}
 use Rattle.xf_ir.specs.Tree.{Ops, no_ops, op, Regions, no_regions, region, Tree}
-use Rattle.xf_ir.specs.Walk.{regions_find}
+use Rattle.xf_ir.specs.declared.spot.Spot.{Spot}
+use Rattle.xf_ir.specs.declared.spot.Located.{Located}
+use Rattle.xf_ir.specs.Walk.{regions_find, tree_names}
+use Rattle.xf_ir.specs.Lists.{Each, is_among}
+use Rattle.xf_ir.specs.Spots.{tree_locate, tree_put, IsSpot}
 use Rattle.xf_ir.specs.Valid.{IsNamedOnce, SeesItsUses}
 
 -- where the operation of this name begins the rest of its block, that rest is changed by f
@@ -32,13 +36,41 @@ tree_at name f t = record t { regions = regions_at name f t.regions }
 abbrev pub tree_erased : OpName → Tree → Tree
 tree_erased name t = tree_at name tail t
 
+-- a next name above these names too; it stands still at the end of its 64 bits
+abbrev pub next_above : ℕ → List OpName → ℕ
+next_above next [] = next
+next_above next (n ∷ ns) = next_above (if nat_lt n.0 next then next else min (n.0 + 1) (2 ^ 64 - 1)) ns
+
 -- the module after an edit
 abbrev pub edited : Module → Edit → Module
+edited m (Insert tree at) = record { root = tree_put at tree m.root; next = next_above m.next (tree_names tree) }
 edited m (Erase name) = record m { root = tree_erased name m.root }
+
+abbrev pub put_back : OpName → Option Located → Edit
+put_back name None = Erase name
+put_back name (Some x) = Insert x.tree x.spot
+
+-- the edit that leads back from the edited module
+abbrev pub inverse_of : Module → Edit → Edit
+inverse_of m (Insert tree at) = Erase tree.name
+inverse_of m (Erase name) = put_back name (tree_locate name m.root)
+
+-- the module after edits, one after another
+abbrev pub replayed : Module → List Edit → Module
+replayed m [] = m
+replayed m (e ∷ es) = replayed (edited m e) es
 
 -- whether an edit takes memory
 abbrev pub wants_memory : Edit → Bool
+wants_memory (Insert tree at) = true
 wants_memory (Erase name) = false
+
+-- the tree has new names and its spot is one of the module, and after it names occur once and each use is of a visible value
+pub record FitsInsert (m : Module) (tree : Tree) (at : Spot) : Type 0 where
+  pub new : Each (λ n. is_among n (tree_names m.root) ≡ false) (tree_names tree)
+  pub spot : IsSpot at m.root
+  pub names : IsNamedOnce (edited m (Insert tree at))
+  pub uses : SeesItsUses (edited m (Insert tree at))
 
 -- what an edit names is in the module, the root stays, and after it names occur once and each use is of a visible value
 pub record FitsErase (m : Module) (name : OpName) : Type 0 where
@@ -47,5 +79,7 @@ pub record FitsErase (m : Module) (name : OpName) : Type 0 where
   pub names : IsNamedOnce (edited m (Erase name))
   pub uses : SeesItsUses (edited m (Erase name))
 
+-- the edit may be made in the module
 abbrev pub FitsEdit : Module → Edit → Type 0
+FitsEdit m (Insert tree at) = FitsInsert m tree at
 FitsEdit m (Erase name) = FitsErase m name

@@ -1,12 +1,13 @@
 -- Laws of valid modules and of erasing what may be erased.
-use Rattle.std.specs.Prelude.{◌+◌, ◌<◌, ◌≤◌}
+use Rattle.std.specs.Prelude.{◌≡◌, ◌+◌, ◌<◌, ◌≤◌}
 use Rattle.xf_ir.specs.declared.name.OpName.{OpName}
+use Rattle.xf_ir.specs.declared.edit.Edit.{Edit}
 use Rattle.xf_ir.specs.declared.edit.Edit.TheVariants.{Erase}
 use Rattle.xf_ir.specs.declared.op.Module.{Module}
 use Rattle.xf_ir.specs.Count.{tree_count}
 use Rattle.xf_ir.specs.Places.{FunctionsScoped}
-use Rattle.xf_ir.specs.Valid.{IsValid, functions_of}
-use Rattle.xf_ir.specs.Edits.{edited, FitsEdit}
+use Rattle.xf_ir.specs.Valid.{IsNamedOnce, IsValid, functions_of}
+use Rattle.xf_ir.specs.Edits.{edited, inverse_of, FitsEdit}
 use Rattle.xf_ir.specs.Choices.{MayErase, weight_at}
 
 -- in a valid module each operand is visible where it stands, and each value is defined once among those that are visible
@@ -28,3 +29,7 @@ ErasingLowersWeight = (m : Module) (target name : OpName) → IsValid m → MayE
 -- and the number of operations
 abbrev pub ErasingLowersCount : Type 0
 ErasingLowersCount = (m : Module) (target name : OpName) → IsValid m → MayErase m target name → tree_count (edited m (Erase name)).root < tree_count m.root
+
+-- where names occur once, the inverse of an edit that fits leads back to the module's tree
+abbrev pub InverseLeadsBack : Type 0
+InverseLeadsBack = (m : Module) (e : Edit) → IsNamedOnce m → FitsEdit m e → (edited (edited m e) (inverse_of m e)).root ≡ m.root

@@ -6,6 +6,7 @@ pub mod Count
 pub mod Walk
 pub mod Places
 pub mod Valid
+pub mod Spots
 pub mod Edits
 pub mod Choices
 pub mod Laws

@@ -1,15 +1,20 @@
 //! Edits of a module.
-ghost use Rattle.std.specs.Prelude.{◌≡◌, OnOk, OnErr, IsOk, false};
-ghost use Rattle.xf_ir.specs.Edits.{ops_at, regions_at, tail, tree_erased, edited, wants_memory};
+ghost use Rattle.std.specs.Prelude.{◌≡◌, IfOk, OnOk, OnErr, IsOk, false, min, ◌+◌, ◌-◌, ◌^◌, nat_lt, if◌then◌else◌};
+ghost use Rattle.xf_ir.specs.Edits.{ops_at, regions_at, tail, tree_erased, edited, inverse_of, next_above, wants_memory};
+ghost use Rattle.xf_ir.specs.Walk.{tree_names};
 ghost use Rattle.xf_ir.specs.View.{ops_of, regions_of};
 
 use crate::name::OpName;
 use crate::op::{Block, Module, Op};
+use crate::spot::{Spot, locate, with_tree};
+use std::alloc::Global;
 use xf_type::NoMemory;
 
 /// A change of a module.
-#[derive(Clone, Copy, Debug)]
+#[derive(Drop)]
 pub enum Edit {
+    /// Puts a tree of new names at a spot.
+    Insert { tree: Op, at: Spot },
     /// Takes the operation out, with all that it holds.
     Erase { op: OpName },
 }
@@ -48,17 +53,79 @@ fn erase_in_block(ops: &mut Vec<Op>, name: OpName)
     }
 }
 
+/// A next name that is above the name too, and stands still at the end of its 64 bits.
+fn above(next: u64, name: OpName) -> u64
+    ensures { result ≡ (if nat_lt name.0 next then next else min (name.0 + 1) (2 ^ 64 - 1)) }
+{
+    if name.0 < next {
+        next
+    } else {
+        name.0.saturating_add(1)
+    }
+}
+
+/// The next name above those of the tree.
+fn above_tree(next: u64, op: &Op) -> u64
+    ensures { result ≡ next_above next (tree_names op.now) }
+{
+    let mut next = above(next, op.name);
+    for block in &op.regions {
+        for inner in &block.ops {
+            next = above_tree(next, inner);
+        }
+    }
+    next
+}
+
+/// Puts a tree into the module, whose next name is then above those of the tree.
+fn insert_tree(alloc: Global, m: &mut Module, tree: &Op, at: Spot) -> Result<(), NoMemory>
+    ensures ok { OnOk result (m.new ≡ edited m.old (Edit.Insert tree.now at)) }
+    ensures err { OnErr result (m.new ≡ m.old) }
+{
+    m.root = with_tree(alloc, &m.root, at, tree)?;
+    m.next = above_tree(m.next, tree);
+    Ok(())
+}
+
 /// Changes the module as the edit says. An edit that names nothing in it changes nothing.
 ///
 /// Refuses for want of memory alone, and then leaves the module as it was; erasing takes no memory.
 /// Takes time in the number of operations.
-pub fn apply_edit(m: &mut Module, e: &Edit) -> Result<(), NoMemory>
+pub fn apply_edit(alloc: Global, m: &mut Module, e: &Edit) -> Result<(), NoMemory>
     ensures ok { OnOk result (m.new ≡ edited m.old e.now) }
     ensures err { OnErr result (m.new ≡ m.old) }
     ensures without_memory { wants_memory e.now ≡ false → IsOk result }
 {
-    match *e {
-        Edit::Erase { op } => erase_inside(&mut m.root, op),
+    match e {
+        Edit::Insert { tree, at } => insert_tree(alloc, m, tree, *at),
+        Edit::Erase { op } => {
+            erase_inside(&mut m.root, *op);
+            Ok(())
+        }
     }
-    Ok(())
+}
+
+/// The edit that puts back what erasing the operation takes out.
+fn inverse_of_erase(alloc: Global, m: &Module, op: OpName) -> Result<Edit, NoMemory>
+    ensures { IfOk result (λ back. back ≡ inverse_of m.now (Edit.Erase op)) }
+{
+    Ok(match locate(alloc, &m.root, op)? {
+        None => Edit::Erase { op },
+        Some(found) => Edit::Insert {
+            tree: found.tree,
+            at: found.spot,
+        },
+    })
+}
+
+/// The edit that leads from the edited module back to the tree of this one, if the edit fits it.
+///
+/// Refuses for want of memory alone, which is also where the number of a place is not below 2 ^ 32.
+pub fn inverse(alloc: Global, m: &Module, e: &Edit) -> Result<Edit, NoMemory>
+    ensures { IfOk result (λ back. back ≡ inverse_of m.now e.now) }
+{
+    match e {
+        Edit::Insert { tree, .. } => Ok(Edit::Erase { op: tree.name }),
+        Edit::Erase { op } => inverse_of_erase(alloc, m, *op),
+    }
 }

@@ -1,5 +1,5 @@
 //! Laws of valid modules, each as the contract of a function that does nothing.
-ghost use Rattle.xf_ir.specs.Laws.{ValidIsScoped, ErasingFits, ErasingKeepsValid, ErasingLowersWeight, ErasingLowersCount};
+ghost use Rattle.xf_ir.specs.Laws.{ValidIsScoped, ErasingFits, ErasingKeepsValid, ErasingLowersWeight, ErasingLowersCount, InverseLeadsBack};
 
 /// In a valid module each operand is visible where it stands, and each value is defined once among those that are visible.
 pub fn valid_is_scoped()
@@ -24,4 +24,9 @@ pub fn erasing_lowers_weight()
 /// Erasing what may be erased lowers the number of operations.
 pub fn erasing_lowers_count()
     ensures { ErasingLowersCount }
+{}
+
+/// Where names occur once, the inverse of an edit that fits leads back to the module's tree.
+pub fn inverse_leads_back()
+    ensures { InverseLeadsBack }
 {}

@@ -9,18 +9,21 @@ mod laws;
 mod name;
 mod name_set;
 mod op;
+mod spot;
 mod values;
 mod walk;
 
 pub use dead::first_dead;
-pub use edit::{Edit, apply_edit};
+pub use edit::{Edit, apply_edit, inverse};
 pub use kind::{Attr, AttrList, Kind};
 pub use laws::{
-    erasing_fits, erasing_keeps_valid, erasing_lowers_count, erasing_lowers_weight, valid_is_scoped,
+    erasing_fits, erasing_keeps_valid, erasing_lowers_count, erasing_lowers_weight,
+    inverse_leads_back, valid_is_scoped,
 };
 pub use name::{OpName, ValueName};
 pub use name_set::NameSet;
 pub use op::{Block, BlockList, Module, Op, OpList};
+pub use spot::{Located, Spot};
 pub use values::ValueList;
 pub use walk::{NameList, count, walk_post};
 

@@ -134,7 +134,7 @@ fn erase_first_dead(alloc: Global, m: &mut Module) -> Result<Option<OpName>, NoM
 {
     let dead = first_dead(alloc, m, OpName(0))?;
     if let Some(op) = dead {
-        apply_edit(m, &Edit::Erase { op })?;
+        apply_edit(alloc, m, &Edit::Erase { op })?;
     }
     Ok(dead)
 }
@@ -150,6 +150,77 @@ fn unused_operations_go_from_the_last_one_back(rt: HostRuntime) -> Result<(), Fa
     assert_eq!(rt;
         names.as_slice(),
         [OpName(4), OpName(1), OpName(0)].as_slice()
+    );
+    Ok(())
+}
+
+/// The names of the module's operations in post-order.
+fn names_are(alloc: Global, m: &Module, wanted: &[OpName]) -> Result<bool, NoMemory> {
+    let names = walk_post(alloc, &m.root)?;
+    Ok(names.as_slice() == wanted)
+}
+
+/// A constant, for a new operation.
+fn constant(alloc: Global, name: u64) -> Result<Op, NoMemory> {
+    let kind = Kind::Constant {
+        width: Width::I32,
+        bits: 7,
+    };
+    leaf(alloc, name, kind, &[], int_type(alloc)?)
+}
+
+#[test]
+fn inserting_and_erasing_lead_back(rt: HostRuntime) -> Result<(), Fail> {
+    let alloc = rt.alloc();
+    let mut m = sample(alloc)?;
+    let insert = Edit::Insert {
+        tree: constant(alloc, 9)?,
+        at: Spot {
+            parent: OpName(1),
+            region: 0,
+            at: 2,
+        },
+    };
+    let back = inverse(alloc, &m, &insert)?;
+    apply_edit(alloc, &mut m, &insert)?;
+    assert!(rt;
+        names_are(
+            alloc,
+            &m,
+            &[
+                OpName(2),
+                OpName(3),
+                OpName(9),
+                OpName(4),
+                OpName(1),
+                OpName(0)
+            ]
+        )?
+    );
+    assert_eq!(rt; m.next, 10);
+    let again = inverse(alloc, &m, &back)?;
+    apply_edit(alloc, &mut m, &back)?;
+    assert!(rt;
+        names_are(
+            alloc,
+            &m,
+            &[OpName(2), OpName(3), OpName(4), OpName(1), OpName(0)]
+        )?
+    );
+    apply_edit(alloc, &mut m, &again)?;
+    assert!(rt;
+        names_are(
+            alloc,
+            &m,
+            &[
+                OpName(2),
+                OpName(3),
+                OpName(9),
+                OpName(4),
+                OpName(1),
+                OpName(0)
+            ]
+        )?
     );
     Ok(())
 }

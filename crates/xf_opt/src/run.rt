@@ -35,7 +35,7 @@ pub fn erase_dead(alloc: Global, m: &mut Module, journal: &mut Journal) -> Resul
             kind: ERASING,
             op: name,
         })?;
-        apply_edit(m, &Edit::Erase { op: name })?;
+        apply_edit(alloc, m, &Edit::Erase { op: name })?;
     }
     journal.push(Entry::EndScope)?;
     Ok(())
