@@ -42,7 +42,7 @@ pub enum Kind {
 }
 
 impl Kind {
-    /// Whether it is a module or a function, which hold operations that stand for themselves.
+    /// Whether it is a module or a function.
     pub fn is_container(&self) -> bool
         ensures { result ≡ is_container self.now }
     {
@@ -55,7 +55,7 @@ impl Kind {
         }
     }
 
-    /// Whether it ends a block.
+    /// Whether it is a terminator, which ends a block.
     pub fn ends_block(&self) -> bool
         ensures { result ≡ ends self.now }
     {

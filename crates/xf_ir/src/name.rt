@@ -1,4 +1,6 @@
 //! The names of operations and of values.
+ghost use Rattle.std.specs.Prelude.{◌≡◌};
+ghost use Rattle.xf_ir.specs.declared.name.ValueName.TheVariants.{Free};
 
 /// The name of an operation, a number that a module gives once.
 #[derive(Clone, Copy, Debug, PartialEq, Eq)]
@@ -17,6 +19,8 @@ pub enum ValueName {
 
 /// A value for the unused places of an inline list.
 impl Default for ValueName {
+    ghost is_default = { λ v. v ≡ Free 0 };
+
     fn default() -> ValueName {
         ValueName::Free(0)
     }
