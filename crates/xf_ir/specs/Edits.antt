@@ -1,15 +1,19 @@
 -- Edits of a module, as changes of its tree.
-use Rattle.std.specs.Prelude.{◌≡◌, ℕ, ◌+◌, ◌-◌, ◌^◌, List, [], ◌∷◌, Option, None, Some, Bool, true, false, min, nat_lt, ◌==◌, if◌then◌else◌}
+use Rattle.std.specs.Prelude.{◌≡◌, ℕ, ◌+◌, ◌-◌, ◌^◌, List, [], ◌∷◌, length, map, slice_get, Option, None, Some, Bool, true, false, min, nat_lt, ◌==◌, if◌then◌else◌}
 use Rattle.xf_ir.specs.declared.name.OpName.{OpName}
 use Rattle.xf_ir.specs.declared.edit.Edit.{Edit}
-use Rattle.xf_ir.specs.declared.edit.Edit.TheVariants.{Insert, Erase}
+use Rattle.xf_ir.specs.declared.edit.Edit.TheVariants.{Insert, Erase, ReplaceUses, Replace, Restore}
 use Rattle.xf_ir.specs.declared.op.Module.{Module}
 use Rattle.xf_ir.specs.Tree.{Ops, no_ops, op, Regions, no_regions, region, Tree}
+use Rattle.xf_ir.specs.declared.name.ValueName.{ValueName}
+use Rattle.xf_ir.specs.declared.name.ValueName.TheVariants.{Result, Arg, Free}
+use Rattle.xf_ir.specs.declared.change.Change.{Change}
 use Rattle.xf_ir.specs.declared.spot.Spot.{Spot}
 use Rattle.xf_ir.specs.declared.spot.Located.{Located}
 use Rattle.xf_ir.specs.Walk.{regions_find, tree_names}
 use Rattle.xf_ir.specs.Lists.{Each, is_among}
 use Rattle.xf_ir.specs.Spots.{tree_locate, tree_put, IsSpot}
+use Rattle.xf_ir.specs.Changes.{tree_changed, turned, FitsChanges}
 use Rattle.xf_ir.specs.Valid.{IsNamedOnce, SeesItsUses}
 
 -- where the operation of this name begins the rest of its block, that rest is changed by f
@@ -45,15 +49,25 @@ next_above next (n ∷ ns) = next_above (if nat_lt n.0 next then next else min (
 abbrev pub edited : Module → Edit → Module
 edited m (Insert tree at) = record { root = tree_put at tree m.root; next = next_above m.next (tree_names tree) }
 edited m (Erase name) = record m { root = tree_erased name m.root }
+edited m (ReplaceUses changes) = record m { root = tree_changed changes m.root }
+edited m (Replace name by changes) = record m { root = tree_erased name (tree_changed changes m.root) }
+edited m (Restore tree at by changes) = record m { root = tree_changed changes (tree_put at tree m.root) }
 
 abbrev pub put_back : OpName → Option Located → Edit
 put_back name None = Erase name
 put_back name (Some x) = Insert x.tree x.spot
 
+abbrev pub restore : OpName → List ValueName → List Change → Option Located → Edit
+restore name by changes None = Erase name
+restore name by changes (Some x) = Restore x.tree x.spot by (map turned changes)
+
 -- the edit that leads back from the edited module
 abbrev pub inverse_of : Module → Edit → Edit
 inverse_of m (Insert tree at) = Erase tree.name
 inverse_of m (Erase name) = put_back name (tree_locate name m.root)
+inverse_of m (ReplaceUses changes) = ReplaceUses (map turned changes)
+inverse_of m (Replace name by changes) = restore name by changes (tree_locate name (tree_changed changes m.root))
+inverse_of m (Restore tree at by changes) = Replace tree.name by (map turned changes)
 
 -- the module after edits, one after another
 abbrev pub replayed : Module → List Edit → Module
@@ -64,10 +78,13 @@ replayed m (e ∷ es) = replayed (edited m e) es
 abbrev pub wants_memory : Edit → Bool
 wants_memory (Insert tree at) = true
 wants_memory (Erase name) = false
+wants_memory (ReplaceUses changes) = true
+wants_memory (Replace name by changes) = true
+wants_memory (Restore tree at by changes) = true
 
 -- the tree has new names and its spot is one of the module, and after it names occur once and each use is of a visible value
 pub record FitsInsert (m : Module) (tree : Tree) (at : Spot) : Type 0 where
-  pub new : Each (λ n. is_among n (tree_names m.root) ≡ false) (tree_names tree)
+  pub fresh : Each (λ n. is_among n (tree_names m.root) ≡ false) (tree_names tree)
   pub spot : IsSpot at m.root
   pub names : IsNamedOnce (edited m (Insert tree at))
   pub uses : SeesItsUses (edited m (Insert tree at))
@@ -79,7 +96,53 @@ pub record FitsErase (m : Module) (name : OpName) : Type 0 where
   pub names : IsNamedOnce (edited m (Erase name))
   pub uses : SeesItsUses (edited m (Erase name))
 
+-- the changes fit the module, and after it names occur once and each use is of a visible value
+pub record FitsReplaceUses (m : Module) (changes : List Change) : Type 0 where
+  pub places : FitsChanges m.root changes
+  pub names : IsNamedOnce (edited m (ReplaceUses changes))
+  pub uses : SeesItsUses (edited m (ReplaceUses changes))
+
+-- whether a value is defined in a tree
+abbrev pub is_defined_in : Tree → ValueName → Bool
+is_defined_in t (Result o num) = is_among o (tree_names t)
+is_defined_in t (Arg o r num) = is_among o (tree_names t)
+is_defined_in t (Free num) = false
+
+-- a result of the operation, and the value of its number among these
+pub record IsReplaced (name : OpName) (by : List ValueName) (result value : ValueName) : Type 0 where
+  pub num : ℕ
+  pub result_is : result ≡ Result name num
+  pub value_is : slice_get by num ≡ Some value
+
+-- values in the place of results: as many, and none defined in the tree itself
+pub record FitsValues (tree : Tree) (by : List ValueName) : Type 0 where
+  pub count : length by ≡ length tree.results
+  pub outside : Each (λ v. is_defined_in tree v ≡ false) by
+
+-- the operation is in the module below the root, its values and the changes fit, and after it names occur once and each use is of a visible value
+pub record FitsReplace (m : Module) (name : OpName) (by : List ValueName) (changes : List Change) : Type 0 where
+  pub tree : Tree
+  pub inside : regions_find name m.root.regions ≡ Some tree
+  pub values : FitsValues tree by
+  pub places : FitsChanges m.root changes
+  pub replaced : Each (λ c. IsReplaced name by c.old c.«new») changes
+  pub names : IsNamedOnce (edited m (Replace name by changes))
+  pub uses : SeesItsUses (edited m (Replace name by changes))
+
+-- the tree has new names, its spot is one of the module, its values and the changes fit, and after it names occur once and each use is of a visible value
+pub record FitsRestore (m : Module) (tree : Tree) (at : Spot) (by : List ValueName) (changes : List Change) : Type 0 where
+  pub fresh : Each (λ n. is_among n (tree_names m.root) ≡ false) (tree_names tree)
+  pub spot : IsSpot at m.root
+  pub values : FitsValues tree by
+  pub places : FitsChanges (tree_put at tree m.root) changes
+  pub restored : Each (λ c. IsReplaced tree.name by c.«new» c.old) changes
+  pub names : IsNamedOnce (edited m (Restore tree at by changes))
+  pub uses : SeesItsUses (edited m (Restore tree at by changes))
+
 -- the edit may be made in the module
 abbrev pub FitsEdit : Module → Edit → Type 0
 FitsEdit m (Insert tree at) = FitsInsert m tree at
 FitsEdit m (Erase name) = FitsErase m name
+FitsEdit m (ReplaceUses changes) = FitsReplaceUses m changes
+FitsEdit m (Replace name by changes) = FitsReplace m name by changes
+FitsEdit m (Restore tree at by changes) = FitsRestore m tree at by changes

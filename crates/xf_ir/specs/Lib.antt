@@ -7,6 +7,7 @@ pub mod Walk
 pub mod Places
 pub mod Valid
 pub mod Spots
+pub mod Changes
 pub mod Edits
 pub mod Choices
 pub mod Laws

@@ -1,12 +1,16 @@
 //! Edits of a module.
 ghost use Rattle.std.specs.Prelude.{◌≡◌, IfOk, OnOk, OnErr, IsOk, false, min, ◌+◌, ◌-◌, ◌^◌, nat_lt, if◌then◌else◌};
 ghost use Rattle.xf_ir.specs.Edits.{ops_at, regions_at, tail, tree_erased, edited, inverse_of, next_above, wants_memory};
+ghost use Rattle.xf_ir.specs.Changes.{tree_changed};
+ghost use Rattle.xf_ir.specs.Spots.{tree_put};
 ghost use Rattle.xf_ir.specs.Walk.{tree_names};
 ghost use Rattle.xf_ir.specs.View.{ops_of, regions_of};
 
+use crate::change::{Change, ChangeList, turn, with_changes};
 use crate::name::OpName;
 use crate::op::{Block, Module, Op};
 use crate::spot::{Spot, locate, with_tree};
+use crate::values::ValueList;
 use std::alloc::Global;
 use xf_type::NoMemory;
 
@@ -14,9 +18,31 @@ use xf_type::NoMemory;
 #[derive(Drop)]
 pub enum Edit {
     /// Puts a tree of new names at a spot.
-    Insert { tree: Op, at: Spot },
+    Insert {
+        tree: Op,
+        at: Spot,
+    },
     /// Takes the operation out, with all that it holds.
-    Erase { op: OpName },
+    Erase {
+        op: OpName,
+    },
+    /// Puts other values in the place of uses.
+    ReplaceUses {
+        changes: ChangeList,
+    },
+    /// Puts values in the place of an operation's results at the listed uses, and takes the operation out.
+    Replace {
+        op: OpName,
+        by: ValueList,
+        changes: ChangeList,
+    },
+    /// The inverse of a replacement: puts the tree back, and then makes the listed changes.
+    Restore {
+        tree: Op,
+        at: Spot,
+        by: ValueList,
+        changes: ChangeList,
+    },
 }
 
 /// Takes the operation of that name out of what an operation holds.
@@ -87,6 +113,42 @@ fn insert_tree(alloc: Global, m: &mut Module, tree: &Op, at: Spot) -> Result<(),
     Ok(())
 }
 
+/// Changes uses of the module.
+fn change_uses(alloc: Global, m: &mut Module, changes: &[Change]) -> Result<(), NoMemory>
+    ensures ok { OnOk result (m.new ≡ record m.old { root = tree_changed changes.now m.old.root }) }
+    ensures err { OnErr result (m.new ≡ m.old) }
+{
+    m.root = with_changes(alloc, &m.root, changes)?;
+    Ok(())
+}
+
+/// Changes uses of the module, and takes an operation out.
+fn replace(alloc: Global, m: &mut Module, op: OpName, changes: &[Change]) -> Result<(), NoMemory>
+    ensures ok { OnOk result (m.new ≡ record m.old { root = tree_erased op (tree_changed changes.now m.old.root) }) }
+    ensures err { OnErr result (m.new ≡ m.old) }
+{
+    let mut root = with_changes(alloc, &m.root, changes)?;
+    erase_inside(&mut root, op);
+    m.root = root;
+    Ok(())
+}
+
+/// Puts a tree into the module, and changes uses.
+fn restore(
+    alloc: Global,
+    m: &mut Module,
+    tree: &Op,
+    at: Spot,
+    changes: &[Change],
+) -> Result<(), NoMemory>
+    ensures ok { OnOk result (m.new ≡ record m.old { root = tree_changed changes.now (tree_put at tree.now m.old.root) }) }
+    ensures err { OnErr result (m.new ≡ m.old) }
+{
+    let root = with_tree(alloc, &m.root, at, tree)?;
+    m.root = with_changes(alloc, &root, changes)?;
+    Ok(())
+}
+
 /// Changes the module as the edit says. An edit that names nothing in it changes nothing.
 ///
 /// Refuses for want of memory alone, and then leaves the module as it was; erasing takes no memory.
@@ -102,6 +164,14 @@ pub fn apply_edit(alloc: Global, m: &mut Module, e: &Edit) -> Result<(), NoMemor
             erase_inside(&mut m.root, *op);
             Ok(())
         }
+        Edit::ReplaceUses { changes } => change_uses(alloc, m, changes.as_slice()),
+        Edit::Replace { op, changes, .. } => replace(alloc, m, *op, changes.as_slice()),
+        Edit::Restore {
+            tree,
+            at,
+            changes,
+            ..
+        } => restore(alloc, m, tree, *at, changes.as_slice()),
     }
 }
 
@@ -118,6 +188,28 @@ fn inverse_of_erase(alloc: Global, m: &Module, op: OpName) -> Result<Edit, NoMem
     })
 }
 
+/// The edit that puts back what a replacement takes out, and changes the uses back.
+fn inverse_of_replace(
+    alloc: Global,
+    m: &Module,
+    op: OpName,
+    by: &ValueList,
+    changes: &[Change],
+) -> Result<Edit, NoMemory>
+    ensures { IfOk result (λ back. back ≡ inverse_of m.now (Edit.Replace op by.now changes.now)) }
+{
+    let root = with_changes(alloc, &m.root, changes)?;
+    match locate(alloc, &root, op)? {
+        None => Ok(Edit::Erase { op }),
+        Some(found) => Ok(Edit::Restore {
+            tree: found.tree,
+            at: found.spot,
+            by: ValueList::from_slice(alloc, by.as_slice())?,
+            changes: turn(alloc, changes)?,
+        }),
+    }
+}
+
 /// The edit that leads from the edited module back to the tree of this one, if the edit fits it.
 ///
 /// Refuses for want of memory alone, which is also where the number of a place is not below 2 ^ 32.
@@ -127,5 +219,21 @@ pub fn inverse(alloc: Global, m: &Module, e: &Edit) -> Result<Edit, NoMemory>
     match e {
         Edit::Insert { tree, .. } => Ok(Edit::Erase { op: tree.name }),
         Edit::Erase { op } => inverse_of_erase(alloc, m, *op),
+        Edit::ReplaceUses { changes } => Ok(Edit::ReplaceUses {
+            changes: turn(alloc, changes.as_slice())?,
+        }),
+        Edit::Replace { op, by, changes } => {
+            inverse_of_replace(alloc, m, *op, by, changes.as_slice())
+        }
+        Edit::Restore {
+            tree,
+            by,
+            changes,
+            ..
+        } => Ok(Edit::Replace {
+            op: tree.name,
+            by: ValueList::from_slice(alloc, by.as_slice())?,
+            changes: turn(alloc, changes.as_slice())?,
+        }),
     }
 }

@@ -1,6 +1,7 @@
 //! The payload tree: operations, blocks and modules, the walks over them, and the edits that change them.
 #![tactic(auto)]
 
+mod change;
 mod copy;
 mod dead;
 mod edit;
@@ -13,6 +14,7 @@ mod spot;
 mod values;
 mod walk;
 
+pub use change::{Change, ChangeList};
 pub use dead::first_dead;
 pub use edit::{Edit, apply_edit, inverse};
 pub use kind::{Attr, AttrList, Kind};

@@ -226,6 +226,53 @@ fn inserting_and_erasing_lead_back(rt: HostRuntime) -> Result<(), Fail> {
 }
 
 #[test]
+fn replaced_operations_are_restored(rt: HostRuntime) -> Result<(), Fail> {
+    let alloc = rt.alloc();
+    let mut m = sample(alloc)?;
+    let two = ValueName::Result {
+        op: OpName(2),
+        num: 0,
+    };
+    let arg = ValueName::Arg {
+        op: OpName(1),
+        region: 0,
+        num: 0,
+    };
+    let change = Change {
+        op: OpName(3),
+        operand: 1,
+        old: two,
+        new: arg,
+    };
+    let replace = Edit::Replace {
+        op: OpName(2),
+        by: ValueList::from_slice(alloc, &[arg])?,
+        changes: ListOf::from_slice(alloc, &[change])?,
+    };
+    let back = inverse(alloc, &m, &replace)?;
+    apply_edit(alloc, &mut m, &replace)?;
+    assert!(rt; names_are(alloc, &m, &[OpName(3), OpName(4), OpName(1), OpName(0)])?);
+    let again = inverse(alloc, &m, &back)?;
+    apply_edit(alloc, &mut m, &back)?;
+    assert!(rt;
+        names_are(
+            alloc,
+            &m,
+            &[OpName(2), OpName(3), OpName(4), OpName(1), OpName(0)]
+        )?
+    );
+    assert!(rt; matches!(again, Edit::Replace { .. }));
+    let uses = Edit::ReplaceUses {
+        changes: ListOf::from_slice(alloc, &[change])?,
+    };
+    apply_edit(alloc, &mut m, &uses)?;
+    if let Some(sum) = m.find(OpName(3)) {
+        assert!(rt; sum.operands.as_slice() == [arg, arg].as_slice());
+    }
+    Ok(())
+}
+
+#[test]
 fn copies_have_the_same_operations(rt: HostRuntime) -> Result<(), Fail> {
     let alloc = rt.alloc();
     let m = sample(alloc)?;
