@@ -46,7 +46,7 @@ again (w ∷ ws) tail tensor p h =
     let more = again ws tail (is_tensor w.token.kind bytes) (place_after t.place bytes) h.2 in
     let others = more.plain_is in
     let read : Tokens (behind here t) more.tokens more.last =
-        subst (λ x. Tokens (record { after_tensor = is_tensor w.token.kind bytes; place = place_after t.place bytes; rest = x }) more.tokens more.last) (sym left) more.read in
+    subst (λ x. Tokens (record { after_tensor = is_tensor w.token.kind bytes; place = place_after t.place bytes; rest = x }) more.tokens more.last) (sym left) more.read in
     record { tokens = t ∷ more.tokens; last = more.last; read = (first, read); ends = more.ends; plain_is = ap (λ x. w.token ∷ x) others }
 
 pub laid_again : LaidAgain

@@ -1,8 +1,11 @@
 -- The tokens up to a position, and that a text has one list of tokens or one first fault.
 use Rattle.std.proofs.Common.{◌≡◌, ℕ, ◌<◌, ◌≤◌, Bool, List, [], ◌∷◌, ◌++◌, length, take, drop, refl, sym, ap, subst, ◌∙◌, inl, inr, arith}
 use Rattle.std.specs.Prelude.{◌⊎◌}
+use Rattle.std.specs.Str.Lossy.{utf8_valid_len}
+use Rattle.std.proofs.lemmas.Str.{utf8_valid_len-IsUtf8}
 use Rattle.xf_span.specs.declared.place.Place.{Place}
 use Rattle.xf_span.specs.declared.code.Code.{Code}
+use Rattle.xf_span.specs.declared.code.Code.TheVariants.{L4}
 use Rattle.xf_span.specs.declared.fault.Fault.{Fault}
 use Rattle.xf_span.specs.Fault.{fault_at}
 use Rattle.xf_lex.specs.declared.token.TokenKind.{TokenKind}
@@ -10,7 +13,7 @@ use Rattle.xf_lex.specs.declared.token.Token.{Token}
 use Rattle.xf_lex.specs.declared.front.Front.TheVariants as front
 use Rattle.xf_lex.specs.Bytes.{gap}
 use Rattle.xf_lex.specs.Fronts.{token_at}
-use Rattle.xf_lex.specs.Lexes.{place_after, Position, start, text_at, place_at, front_of, is_tensor, IsFirst, behind, Tokens, Lexes, bytes_before, place_inside, BreaksAt, IsIllFormed, HasFault}
+use Rattle.xf_lex.specs.Lexes.{place_after, first_place, Position, start, text_at, place_at, front_of, is_tensor, IsFirst, behind, Tokens, Lexes, bytes_before, place_inside, BreaksAt, IsIllFormed, HasFault}
 use Rattle.xf_lex.specs.Laws.{OneReading, OneFault, NeverBoth}
 
 -- ---- one more token
@@ -126,20 +129,31 @@ never_both bs ts f h (inl x) =
     absurd cc
 never_both bs ts f h (inr y) = y.no_utf8 h.utf8
 
--- ---- the first fault, as the loop finds it
+-- ---- bytes that are not UTF-8, as the loop finds them
 
--- a reading that ends or breaks late has no earlier fault
-pub no_earlier : (bs : List ℕ) (ts : List Token) (last : Position) (valid : ℕ) → Tokens (start bs) ts last
-    → (front_of last ≡ front.End) ⊎ ((code : Code) × (inside : ℕ) × (front_of last ≡ front.Fault code inside) × (valid ≤ bytes_before bs last inside))
-    → (before : List Token) (q : Position) (code : Code) (inside : ℕ) → Tokens (start bs) before q → front_of q ≡ front.Fault code inside → valid ≤ bytes_before bs q inside
-no_earlier bs ts last valid h (inl e) before q code inside g broken =
+-- tokens that end, or that do not go on behind bytes that are not UTF-8
+pub record EndsLate (bs : List ℕ) (p : Position) : Type 0 where
+  pub code : Code
+  pub inside : ℕ
+  pub broken : front_of p ≡ front.Fault code inside
+  pub late : utf8_valid_len bs ≤ bytes_before bs p inside
+
+no_earlier : (bs : List ℕ) (ts : List Token) (last : Position) → Tokens (start bs) ts last → (front_of last ≡ front.End) ⊎ EndsLate bs last
+    → (before : List Token) (q : Position) (code : Code) (inside : ℕ) → Tokens (start bs) before q → front_of q ≡ front.Fault code inside → utf8_valid_len bs ≤ bytes_before bs q inside
+no_earlier bs ts last h (inl e) before q code inside g broken =
     let last_is = (same_end ts before (start bs) last q h (none_at_end last e) g (none_at_fault q code inside broken)).last in
     let same = sym e ∙ ap front_of last_is ∙ broken in
     absurd cc
-no_earlier bs ts last valid h (inr late) before q code inside g broken =
-    let last_is = (same_end ts before (start bs) last q h (none_at_fault last late.0 late.1 late.2) g (none_at_fault q code inside broken)).last in
-    let same = sym late.2 ∙ ap front_of last_is ∙ broken in
-    let n = same_inside late.0 code late.1 inside same in
-    let le = late.3 in
-    let moved : bytes_before bs last late.1 ≡ bytes_before bs q inside = ap (λ x. bytes_before bs x late.1) last_is ∙ ap (bytes_before bs q) n in
-    omega arith
+no_earlier bs ts last h (inr x) before q code inside g broken =
+    let last_is = (same_end ts before (start bs) last q h (none_at_fault last x.code x.inside x.broken) g (none_at_fault q code inside broken)).last in
+    let n = same_inside x.code code x.inside inside (sym x.broken ∙ ap front_of last_is ∙ broken) in
+    let moved : bytes_before bs last x.inside ≡ bytes_before bs q inside = ap (λ p. bytes_before bs p x.inside) last_is ∙ ap (bytes_before bs q) n in
+    subst (λ k. utf8_valid_len bs ≤ k) moved x.late
+
+pub ill_formed : (bs : List ℕ) (ts : List Token) (last : Position) (f : Fault) → Tokens (start bs) ts last → (front_of last ≡ front.End) ⊎ EndsLate bs last
+    → utf8_valid_len bs < length bs → f ≡ fault_at L4 (place_after first_place (take (utf8_valid_len bs) bs)) → IsIllFormed bs f
+ill_formed bs ts last f h ends short is = record {
+  no_utf8 = λ utf8. let whole = utf8_valid_len-IsUtf8 bs utf8 in omega arith;
+  first = no_earlier bs ts last h ends;
+  fault = is;
+}

@@ -1,3 +1,4 @@
+pub mod Fronts
 pub mod LaidLemmas
 pub mod Lexing
 pub mod Numbers
