@@ -1,5 +1,5 @@
 -- What stands first where a digit does.
-use Rattle.std.proofs.Common.{◌≡◌, ℕ, ◌+◌, ◌-◌, ◌≤◌, Bool, true, false, List, [], ◌∷◌, length, take, drop, get_or, refl, sym, ap, ◌∙◌, add-one, arith}
+use Rattle.std.proofs.Common.{◌≡◌, ℕ, ◌+◌, ◌-◌, ◌≤◌, Bool, true, false, List, [], ◌∷◌, length, take, drop, get_or, ap, ◌∙◌, add-one, arith}
 use Rattle.std.proofs.lemmas.List.{take_all}
 use Rattle.xf_lex.specs.Bytes.{is_digit, is_letter, run}
 use Rattle.xf_lex.specs.Fronts.{integer_of, token_at}

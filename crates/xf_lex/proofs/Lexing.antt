@@ -13,7 +13,7 @@ use Rattle.xf_lex.specs.declared.token.Token.{Token}
 use Rattle.xf_lex.specs.declared.front.Front.TheVariants as front
 use Rattle.xf_lex.specs.Bytes.{gap}
 use Rattle.xf_lex.specs.Fronts.{token_at}
-use Rattle.xf_lex.specs.Lexes.{place_after, first_place, Position, start, text_at, place_at, front_of, is_tensor, IsFirst, behind, Tokens, Lexes, bytes_before, place_inside, BreaksAt, IsIllFormed, HasFault}
+use Rattle.xf_lex.specs.Lexes.{place_after, first_place, Position, start, text_at, front_of, is_tensor, IsFirst, behind, Tokens, bytes_before, place_inside, BreaksAt, IsIllFormed}
 use Rattle.xf_lex.specs.Laws.{OneReading, OneFault, NeverBoth}
 
 -- ---- one more token

@@ -1,5 +1,5 @@
 -- What stands first in a text that begins with no blank and no comment: the longest token there, or what is wrong.
-use Rattle.std.specs.Prelude.{ℕ, zero, suc, ◌+◌, ◌^◌, ◌<◌, ◌≤◌, ⊤, List, [], ◌∷◌, length, take, drop, Bool, true, false, not, ◌==◌, ◌&&◌, ◌||◌, if◌then◌else◌, nat_lt}
+use Rattle.std.specs.Prelude.{ℕ, suc, ◌^◌, ◌<◌, ◌≤◌, ⊤, List, [], ◌∷◌, length, take, drop, Bool, false, not, ◌==◌, ◌&&◌, ◌||◌, if◌then◌else◌, nat_lt}
 use Rattle.std.specs.Str.Parse.{digits_value}
 use Rattle.xf_span.specs.declared.code.Code.TheVariants.{L1, L2, L3}
 use Rattle.xf_lex.specs.declared.token.TokenKind.{TokenKind}

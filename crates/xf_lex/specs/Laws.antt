@@ -4,7 +4,7 @@ use Rattle.std.specs.Str.{IsUtf8}
 use Rattle.xf_span.specs.declared.fault.Fault.{Fault}
 use Rattle.xf_lex.specs.declared.token.Token.{Token}
 use Rattle.xf_lex.specs.Lexes.{Lexes, HasFault}
-use Rattle.xf_lex.specs.Laid.{Plain, plain, Piece, laid, AllStay}
+use Rattle.xf_lex.specs.Laid.{plain, Piece, laid, AllStay}
 
 -- a text has at most one list of tokens
 abbrev pub OneReading : Type 0

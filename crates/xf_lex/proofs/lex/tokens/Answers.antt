@@ -1,7 +1,5 @@
-use Rattle.std.proofs.Common.{◌≡◌, ◌≤◌, ◌<◌, length, take, drop, sym, ap, ◌∙◌, inl, inr, arith}
-use Rattle.std.specs.Str.Lossy.{utf8_valid_len}
+use Rattle.std.proofs.Common.{◌≡◌, length, take, drop, sym, ap, ◌∙◌, inl, inr, arith}
 use Rattle.xf_lex.specs.declared.token.Token.{Token}
-use Rattle.xf_lex.specs.declared.front.Front.TheVariants as front
 use Rattle.xf_lex.specs.Fronts.{token_at}
 use Rattle.xf_lex.specs.Lexes.{Position, start, text_at, front_of}
 use Rattle.xf_lex.proofs.Lexing.{turn, ill_formed}
