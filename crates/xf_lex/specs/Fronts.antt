@@ -85,7 +85,7 @@ token_at after_tensor (b ∷ bs) =
     if is_letter b then Token kind.Word (suc (run is_word_byte bs))
     else (if is_digit b then integer_of (b ∷ take (run is_digit bs) bs)
     else (if b == 34 then string_at bs
-    else (if after_tensor && (b == 60) then shape_at bs
+    else (if (b == 60) && after_tensor then shape_at bs
     else sign_at b bs)))
 
 -- what a front speaks of is within so many bytes

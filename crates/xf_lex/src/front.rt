@@ -191,7 +191,7 @@ pub fn token_at(after_tensor: bool, bytes: &[u8]) -> Front
                 integer_of(&bytes[..run(Class::Digit, rest) + 1])
             } else if b == b'"' {
                 string_at(rest)
-            } else if after_tensor && b == b'<' {
+            } else if b == b'<' && after_tensor {
                 shape_at(rest)
             } else {
                 sign_at(b, rest)
