@@ -175,8 +175,8 @@ fn sign_at(b: u8, rest: &[u8]) -> Front
     }
 }
 
-/// What stands first in a text that begins with no blank and no comment: the longest token, or a fault. `after_tensor`
-/// tells whether the token before is the word `tensor`.
+/// What stands first in a text that begins with no blank and no comment: the longest token, or a
+/// fault. `after_tensor` tells whether the token before is the word `tensor`.
 pub fn token_at(after_tensor: bool, bytes: &[u8]) -> Front
     ensures value { result ≡ token_at after_tensor bytes.now }
     ensures within { IsWithin result (length bytes.now) }

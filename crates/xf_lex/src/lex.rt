@@ -47,9 +47,9 @@ fn ill_formed(bytes: &[u8], valid: usize) -> Fault
     Fault::at(Code::L4, place_after(FIRST, &bytes[..valid]))
 }
 
-/// The tokens of a text, in order, with their bytes and places. It refuses a text with a fault, and answers the first: a
-/// byte that makes no token, a string without its end, an integer above 2^64 - 1, or bytes that are not UTF-8. It takes time
-/// in the length of the text.
+/// The tokens of a text, in order, with their bytes and places. It refuses a text with a fault, and
+/// answers the first: a byte that makes no token, a string without its end, an integer above
+/// 2^64 - 1, or bytes that are not UTF-8. It takes time in the length of the text.
 pub fn tokens(alloc: Global, bytes: &[u8]) -> Result<TokenList, LexFault>
     ensures found { IfOk result (λ tokens. Lexes bytes.now tokens) }
     ensures fault { IfErr result (λ fault. IsRefused bytes.now fault) }

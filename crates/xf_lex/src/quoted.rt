@@ -4,7 +4,8 @@ ghost use Rattle.xf_lex.specs.Fronts.{quoted_in, starts_hex, is_escape, escaped_
 
 use crate::byte_class::is_hex;
 
-/// How many bytes stand before the quote that ends a string, before the end of the line, or else in all.
+/// How many bytes stand before the quote that ends a string, before the end of the line, or else
+/// in all.
 pub fn quoted(bytes: &[u8]) -> usize
     ensures value { result ≡ quoted_in false bytes.now }
     ensures within { result ≤ length bytes.now }

@@ -1,4 +1,5 @@
-//! Texts with their tokens, and texts with their first fault. The values are those of the notation, written by hand.
+//! Texts with their tokens, and texts with their first fault. The values are those of the notation,
+//! written by hand.
 
 use crate::{Token, TokenKind, tokens};
 use std::alloc::Global;

@@ -8,7 +8,8 @@ use xf_type::{ByteList, ListOf};
 pub enum TokenKind {
     /// A word.
     Word,
-    /// `%`, then digits, or a letter or one of `$`, `.`, `_` and `-` with letters, digits and these.
+    /// `%`, then digits, or a letter or one of `$`, `.`, `_` and `-` with letters, digits and these
+    /// behind it.
     Value,
     /// `@` and a word.
     Symbol,
