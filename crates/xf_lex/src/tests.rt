@@ -1,7 +1,7 @@
 //! Texts with their tokens, and texts with their first fault. The values are those of the notation,
 //! written by hand.
 
-use crate::{Token, TokenKind, tokens};
+use crate::{Token, TokenKind, laid_again, one_answer, tokens};
 use std::alloc::Global;
 use std::process::Abort;
 use xf_span::{Code, Fault, LexFault, Place};
@@ -136,6 +136,8 @@ fn strings_integers_and_shapes_are_one_token(rt: HostRuntime) {
 
 #[test]
 fn blanks_and_comments_alone_have_no_tokens(rt: HostRuntime) {
+    one_answer();
+    laid_again();
     let alloc = rt.alloc();
     for text in ["", " \t\r\n", "// a", "////\n//", " // \u{fc} \" \\ +"] {
         assert_tokens(&rt, alloc, text, &[]);
