@@ -1,0 +1,201 @@
+//! What stands first in a text.
+ghost use Rattle.std.specs.Prelude.{◌≡◌, ◌≤◌, ◌<◌, ◌+◌, ◌^◌, length, min};
+ghost use Rattle.std.specs.Char.{digit_value};
+ghost use Rattle.std.specs.Str.Parse.{digits_value};
+ghost use Rattle.xf_lex.specs.Fronts.{string_of, string_at, value_at, named_at, hash_at, shape_at, integer_of, sign_at, token_at, IsWithin};
+
+use crate::byte_class::{Class, is_digit, is_letter, is_mark, is_name_start, run, starts};
+use crate::quoted::{escaped, quoted};
+use crate::token::TokenKind;
+use xf_span::Code;
+
+/// More than the number of any integer.
+const LIMIT: u128 = 1 << 64;
+
+/// What stands first in a text.
+#[derive(Clone, Copy, Debug, PartialEq, Eq)]
+pub enum Front {
+    /// Nothing.
+    End,
+    /// A token, and how many bytes it has.
+    Token(TokenKind, usize),
+    /// What makes no token, and how many bytes stand in front of the one that is at fault.
+    Fault(Code, usize),
+}
+
+/// The string with these bytes between its quotes, if it is closed.
+fn string_of(bytes: &[u8], closed: bool) -> Front
+    ensures value { result ≡ string_of bytes.now closed }
+    ensures within { IsWithin result (length bytes.now + 2) }
+{
+    if !closed {
+        return Front::Fault(Code::L2, 0);
+    }
+    let good = escaped(bytes);
+    if good < bytes.len() {
+        Front::Fault(Code::L1, good + 1)
+    } else {
+        Front::Token(TokenKind::Text, bytes.len() + 2)
+    }
+}
+
+/// What a quote begins, by what stands behind it.
+fn string_at(bytes: &[u8]) -> Front
+    ensures value { result ≡ string_at bytes.now }
+    ensures within { IsWithin result (length bytes.now + 1) }
+{
+    let (inside, behind) = bytes.split_at(quoted(bytes));
+    string_of(inside, starts(b'"', behind))
+}
+
+/// What a `%` begins, by what stands behind it.
+fn value_at(bytes: &[u8]) -> Front
+    ensures value { result ≡ value_at bytes.now }
+    ensures within { IsWithin result (length bytes.now + 1) }
+{
+    match bytes {
+        [] => Front::Fault(Code::L1, 0),
+        [b, rest @ ..] => {
+            if is_digit(*b) {
+                Front::Token(TokenKind::Value, run(Class::Digit, rest) + 2)
+            } else if is_name_start(*b) {
+                Front::Token(TokenKind::Value, run(Class::NameByte, rest) + 2)
+            } else {
+                Front::Fault(Code::L1, 0)
+            }
+        }
+    }
+}
+
+/// What the first byte of a kind of token begins that goes on with a word.
+fn named_at(kind: TokenKind, bytes: &[u8]) -> Front
+    ensures value { result ≡ named_at kind bytes.now }
+    ensures within { IsWithin result (length bytes.now + 1) }
+{
+    match bytes {
+        [] => Front::Fault(Code::L1, 0),
+        [b, rest @ ..] => {
+            if is_letter(*b) {
+                Front::Token(kind, run(Class::WordByte, rest) + 2)
+            } else {
+                Front::Fault(Code::L1, 0)
+            }
+        }
+    }
+}
+
+/// What a `#` begins, by what stands behind it.
+fn hash_at(bytes: &[u8]) -> Front
+    ensures value { result ≡ hash_at bytes.now }
+    ensures within { IsWithin result (length bytes.now + 1) }
+{
+    match bytes {
+        [] => Front::Fault(Code::L1, 0),
+        [b, rest @ ..] => {
+            if is_digit(*b) {
+                Front::Token(TokenKind::Hash, run(Class::Digit, rest) + 2)
+            } else {
+                named_at(TokenKind::Hash, bytes)
+            }
+        }
+    }
+}
+
+/// What a `<` after the word `tensor` begins, by what stands behind it.
+fn shape_at(bytes: &[u8]) -> Front
+    ensures value { result ≡ shape_at bytes.now }
+    ensures within { IsWithin result (length bytes.now + 1) }
+{
+    let count = run(Class::ShapeByte, bytes);
+    if starts(b'>', &bytes[count..]) {
+        Front::Token(TokenKind::Shape, count + 2)
+    } else {
+        Front::Fault(Code::L1, 0)
+    }
+}
+
+/// What a digit counts; a byte that is none counts 36.
+fn digit_value(b: u8) -> u128
+    ensures value { result ≡ digit_value b }
+    ensures small { result ≤ 36 }
+{
+    match b {
+        b'0'..=b'9' => u128::from(b - b'0'),
+        b'A'..=b'Z' => u128::from(b - b'A') + 10,
+        b'a'..=b'z' => u128::from(b - b'a') + 10,
+        _ => 36,
+    }
+}
+
+/// The number that decimal digits write, or `LIMIT` where it is that or more.
+fn number_of(digits: &[u8]) -> u128
+    ensures { result ≡ min (digits_value 10 digits.now) (2 ^ 64) }
+{
+    let mut value = 0;
+    for b in digits {
+        value = (value * 10 + digit_value(*b)).min(LIMIT);
+    }
+    value
+}
+
+/// What digits are.
+fn integer_of(digits: &[u8]) -> Front
+    requires { 0 < length digits.now }
+    ensures value { result ≡ integer_of digits.now }
+    ensures within { IsWithin result (length digits.now) }
+{
+    if number_of(digits) < LIMIT {
+        Front::Token(TokenKind::Integer, digits.len())
+    } else {
+        Front::Fault(Code::L3, 0)
+    }
+}
+
+/// What a byte begins that is no letter, no digit and no quote, by what stands behind it.
+fn sign_at(b: u8, rest: &[u8]) -> Front
+    ensures value { result ≡ sign_at b rest.now }
+    ensures within { IsWithin result (length rest.now + 1) }
+{
+    if b == b'%' {
+        value_at(rest)
+    } else if b == b'@' {
+        named_at(TokenKind::Symbol, rest)
+    } else if b == b'^' {
+        named_at(TokenKind::BlockName, rest)
+    } else if b == b'!' {
+        named_at(TokenKind::DialectType, rest)
+    } else if b == b'#' {
+        hash_at(rest)
+    } else if b == b'-' && starts(b'>', rest) {
+        Front::Token(TokenKind::Arrow, 2)
+    } else if is_mark(b) {
+        Front::Token(TokenKind::Mark(b), 1)
+    } else {
+        Front::Fault(Code::L1, 0)
+    }
+}
+
+/// What stands first in a text that begins with no blank and no comment: the longest token, or a
+/// fault. `after_tensor` tells whether the token before is the word `tensor`.
+pub fn token_at(after_tensor: bool, bytes: &[u8]) -> Front
+    ensures value { result ≡ token_at after_tensor bytes.now }
+    ensures within { IsWithin result (length bytes.now) }
+{
+    match bytes {
+        [] => Front::End,
+        [b, rest @ ..] => {
+            let b = *b;
+            if is_letter(b) {
+                Front::Token(TokenKind::Word, run(Class::WordByte, rest) + 1)
+            } else if is_digit(b) {
+                integer_of(&bytes[..run(Class::Digit, rest) + 1])
+            } else if b == b'"' {
+                string_at(rest)
+            } else if b == b'<' && after_tensor {
+                shape_at(rest)
+            } else {
+                sign_at(b, rest)
+            }
+        }
+    }
+}
