@@ -7,7 +7,7 @@ use Rattle.xf_ir.specs.declared.edit.Edit.TheVariants.{Erase}
 use Rattle.xf_ir.specs.declared.op.Module.{Module}
 use Rattle.xf_ir.specs.Tree.{Ops, no_ops, op, Regions, no_regions, region, Tree}
 use Rattle.xf_ir.specs.Walk.{regions_find}
-use Rattle.xf_ir.specs.Valid.{is_container}
+use Rattle.xf_ir.specs.Kinds.{is_container}
 use Rattle.xf_ir.specs.Edits.{edited, ops_at, regions_at, tail}
 use Rattle.xf_ir.specs.Choices.{MayErase}
 use Rattle.xf_ir.proofs.ErasingLaws.{found_inside, valid_kept, lowers_count}

@@ -12,7 +12,8 @@ use Rattle.xf_ir.specs.declared.kind.Kind.TheVariants as kind
 use Rattle.xf_ir.specs.declared.kind.Attr.{Attr}
 use Rattle.xf_ir.specs.Tree.{Ops, no_ops, op, Regions, no_regions, region}
 use Rattle.xf_ir.specs.Places.{inside}
-use Rattle.xf_ir.specs.Valid.{Typed, ends, type_at, EndsHere, OpsEnd, HasRegions, RegionsHaveRegions, OpsHaveRegions, OpsFit, RegionsFit, FitsRow, RegionsEnd}
+use Rattle.xf_ir.specs.Valid.{Typed, type_at, EndsHere, OpsEnd, HasRegions, RegionsHaveRegions, OpsHaveRegions, OpsFit, RegionsFit, FitsRow, RegionsEnd}
+use Rattle.xf_ir.specs.Kinds.{ends}
 use Rattle.xf_text.specs.Spells.{i32}
 use Rattle.xf_text.specs.Form.{IsFirstKind, FirstOps, FirstFunctions, IsFirstHead, FirstBlock}
 use Rattle.xf_text.proofs.PrintingSteps.{Steps, last, number, added, steps_ops}

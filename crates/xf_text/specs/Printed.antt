@@ -18,7 +18,8 @@ use Rattle.xf_ir.specs.declared.kind.Kind.TheVariants as kind
 use Rattle.xf_ir.specs.declared.op.Module.{Module}
 use Rattle.xf_ir.specs.Tree.{Ops, no_ops, op, Regions, no_regions, region}
 use Rattle.xf_ir.specs.Places.{Place, results_of, args_of}
-use Rattle.xf_ir.specs.Valid.{functions_of, returned_types}
+use Rattle.xf_ir.specs.Valid.{functions_of}
+use Rattle.xf_ir.specs.Kinds.{returned_types}
 
 -- ---- words
 
