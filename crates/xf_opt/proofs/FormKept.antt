@@ -30,11 +30,8 @@ first_block_kept name no_regions h = tt
 first_block_kept name (region args ops rest) h = (h.0, (h.1.0, first_ops_kept name ops h.1.1))
 
 head_is_container : (k : Kind) → IsFirstHead k → is_container k ≡ true
-head_is_container (kind.Module symbol) h = absurd h
 head_is_container (kind.Func symbol private results) h = refl
-head_is_container kind.Return h = absurd h
-head_is_container (kind.Constant width bits) h = absurd h
-head_is_container (kind.Binary which width) h = absurd h
+head_is_container _ h = absurd h
 
 kind_or : Kind → Option Tree → Kind
 kind_or k None = k

@@ -47,7 +47,7 @@ fn write_kind(
         }
         Kind::Constant { width, bits } => {
             line.extend_from_slice(b"arith.constant ")?;
-            write_signed(*width, *bits, line)?;
+            write_signed(*width, *bits as u64, line)?;
             line.extend_from_slice(b" : ")?;
             write_width(*width, line)
         }
@@ -58,8 +58,7 @@ fn write_kind(
             line.extend_from_slice(b" : ")?;
             write_width(*width, line)
         }
-        Kind::Module { .. } => Ok(()),
-        Kind::Func { .. } => Ok(()),
+        _ => Ok(()),
     }
 }
 
