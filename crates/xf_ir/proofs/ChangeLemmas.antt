@@ -1,16 +1,16 @@
 -- Changed uses, and the changes back.
-use Rattle.std.proofs.Common.{◌≡◌, ℕ, zero, suc, ◌+◌, List, [], ◌∷◌, ◌++◌, Option, Some, None, true, false, eqb, inl, inr, refl, sym, ap, ◌∙◌, subst, arith}
+use Rattle.std.proofs.Common.{◌≡◌, ℕ, suc, ◌+◌, List, [], ◌∷◌, ◌++◌, Option, Some, None, true, eqb, inl, inr, refl, sym, ap, ◌∙◌, subst, arith}
 use Rattle.std.specs.Prelude.{map, slice_get}
-use Rattle.std.proofs.lemmas.Bool.{cases_Bool, or_parts, eqb-true}
+use Rattle.std.proofs.lemmas.Bool.{cases_Bool, eqb-true}
 use Rattle.xf_ir.specs.declared.name.OpName.{OpName}
 use Rattle.xf_ir.specs.declared.name.ValueName.{ValueName}
 use Rattle.xf_ir.specs.declared.change.Change.{Change}
 use Rattle.xf_ir.specs.Tree.{Ops, no_ops, op, Regions, no_regions, region, Tree, Body, cons}
 use Rattle.xf_ir.specs.View.{ops_of, regions_of}
-use Rattle.xf_ir.specs.Walk.{ops_names, regions_names, tree_names, tree_find, ops_find, regions_find}
-use Rattle.xf_ir.specs.Lists.{Each, same_name, is_among, Once}
+use Rattle.xf_ir.specs.Walk.{ops_names, regions_names, tree_names, tree_find, ops_find}
+use Rattle.xf_ir.specs.Lists.{Each, same_name, Once}
 use Rattle.xf_ir.specs.Changes.{is_place, value_changed, operands_changed, ops_changed, regions_changed, tree_changed, body_changed, turned, operand_of}
-use Rattle.xf_ir.proofs.Lists.{name_is, own_name}
+use Rattle.xf_ir.proofs.Lists.{name_is, own_name, each_map}
 use Rattle.xf_ir.proofs.Found.{tree, OpsWhere, RegionsWhere, where_found}
 
 pub ops_of-changed : (cs : List Change) (ts : List Tree) → ops_of (map (tree_changed cs) ts) ≡ ops_changed cs (ops_of ts)
@@ -36,10 +36,6 @@ pub tree_names_changed : (cs : List Change) (t : Tree) → tree_names (tree_chan
 tree_names_changed cs t = ap (λ (ns : List OpName). t.name ∷ ns) (names_changed_regions cs t.regions)
 
 -- ---- the changes back
-
-each_map : {A : Type 0} (P Q : A → Type 0) (xs : List A) → ((x : A) → P x → Q x) → Each P xs → Each Q xs
-each_map P Q [] f h = tt
-each_map P Q (x ∷ xs) f h = (f x h.0, each_map P Q xs f h.1)
 
 -- each change of operand i of the operation has the value as its old one
 abbrev OldAt : List Change → OpName → ℕ → ValueName → Type 0

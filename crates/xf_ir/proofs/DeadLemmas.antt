@@ -7,21 +7,22 @@ use Rattle.std.proofs.lemmas.Bool.{cases_Bool, eqb-true, eq-eqb, or_cases, or_fr
 use Rattle.xf_ir.specs.declared.name.OpName.{OpName}
 use Rattle.xf_ir.specs.declared.name.ValueName.{ValueName}
 use Rattle.xf_ir.specs.declared.name.ValueName.TheVariants.{Result, Arg, Free}
-use Rattle.xf_ir.specs.declared.kind.Kind.{Kind}
-use Rattle.xf_ir.specs.declared.kind.Kind.TheVariants as kind
 use Rattle.xf_ir.specs.declared.op.Module.{Module}
 use Rattle.xf_ir.specs.Tree.{Ops, no_ops, op, Regions, no_regions, region, Tree}
 use Rattle.xf_ir.specs.Walk.{ops_names, regions_names, ops_find, regions_find, tree_find}
 use Rattle.xf_ir.specs.Lists.{Each, Once, same_name, is_among}
 use Rattle.xf_ir.specs.Places.{Seen, done, inside, results_of, args_of, sees, AllSeen}
-use Rattle.xf_ir.specs.Choices.{ops_operands, regions_operands, tree_operands, scope_of, scope_at, stands_before, MayErase, IsDead, IsNormal, IsFirstDead}
-use Rattle.xf_ir.specs.Used.{with_uses, goes_unused, ops_first, regions_first}
-use Rattle.xf_ir.specs.Valid.{IsValid, IsModule, HasRegions, block_of, OpsSee, RegionsSee, FunctionsSee}
 use Rattle.xf_ir.specs.Kinds.{is_container, ends}
-use Rattle.xf_ir.proofs.Lists.{name_is, own_name, not_left, not_right, once_left, once_right, absent_before, apart_names}
+use Rattle.xf_ir.specs.Uses.{ops_operands, regions_operands, tree_operands}
+use Rattle.xf_ir.specs.Choices.{bare, scope_of, scope_at, stands_before, MayErase, IsDead, IsNormal, IsFirstDead}
+use Rattle.xf_ir.specs.Used.{with_uses, goes_unused, ops_first, regions_first}
+use Rattle.xf_ir.specs.Valid.{IsValid, block_of, OpsSee, RegionsSee, FunctionsSee}
+use Rattle.xf_ir.proofs.Lists.{name_is, own_name, not_left, not_right, once_left, once_right, absent_before, apart_names, each_both}
 use Rattle.xf_ir.proofs.Found.{tree, none_of, first_cases, found_name, found_name_regions, found_named_regions, lost_name, lost_name_regions, OpsWhere, RegionsWhere, where_found_regions}
 use Rattle.xf_ir.proofs.ErasedUses.{Gives, Outside}
-use Rattle.xf_ir.proofs.ErasingLaws.{found_inside}
+use Rattle.xf_ir.proofs.Root.{one_block}
+use Rattle.xf_ir.proofs.Bare.{once_bare}
+use Rattle.xf_ir.proofs.ErasingLaws.{found_inside, block_where}
 
 -- ---- the operations that are used
 
@@ -94,10 +95,6 @@ all_fit : (name : OpName) (count : ℕ) (ss : List Seen) (vs : List ValueName) �
 all_fit name count ss [] f h = tt
 all_fit name count ss (v ∷ vs) f h = (f v h.0, all_fit name count ss vs f h.1)
 
-each_both : {A : Type 0} (P : A → Type 0) (xs ys : List A) → Each P xs → Each P ys → Each P (xs ++ ys)
-each_both P [] ys h k = k
-each_both P (x ∷ xs) ys h k = (h.0, each_both P xs ys h.1 k)
-
 module _ (name : OpName) (count : ℕ) where
   mutual
     ops_fit : (ss : List Seen) (ops : Ops) → SeenFit name count ss → OpsWhere name (Gives count) ops → OpsSee ss ops → Each (Fits name count) (ops_operands ops)
@@ -123,12 +120,9 @@ module _ (name : OpName) (count : ℕ) where
       (each_both (Fits name count) (regions_operands rs) (ops_operands rest) (regions_fit [] n 0 rs none_seen w.1.0 h.1.0) (functions_fit rest w.1.1 h.1.1))
 
   -- the one block of a module has all that its regions have
-  module_fit : (k : Kind) (rs : Regions) → IsModule k → HasRegions k rs → RegionsWhere name (Gives count) rs → FunctionsSee (block_of rs) → Each (Fits name count) (regions_operands rs)
-  module_fit k no_regions i r w h = tt
-  module_fit (kind.Module symbol) (region args ops rest) i r w h =
-      each_both (Fits name count) (ops_operands ops) (regions_operands rest) (functions_fit ops w.0 h) (subst (λ x. Each (Fits name count) (regions_operands x)) (sym r.1) tt)
-  module_fit (kind.Func symbol private results) (region args ops rest) i r w h = absurd i
-  module_fit _ (region args ops rest) i r w h = absurd i
+  module_fit : (rs : Regions) → rs ≡ region [] (block_of rs) no_regions → RegionsWhere name (Gives count) rs → FunctionsSee (block_of rs) → Each (Fits name count) (regions_operands rs)
+  module_fit rs e w h =
+      subst (λ x. Each (Fits name count) (regions_operands x)) (sym e) (each_both (Fits name count) (ops_operands (block_of rs)) [] (functions_fit (block_of rs) (block_where name (Gives count) rs w) h) tt)
 
 no_results : (n : OpName) (count : ℕ) (vs : List ValueName) → Each (Fits n count) vs → Each (Outside (results_of n count)) vs → Each (λ v. is_result n v ≡ false) vs
 no_results n count [] f o = tt
@@ -143,7 +137,7 @@ dead_not_used m t v found d =
     let w = where_found_regions t.name (Gives count) t rs v.names.once.1 found refl in
     let f : Each (Fits t.name count) (tree_operands m.root) = each_both (Fits t.name count) m.root.operands (regions_operands rs)
     (all_fit t.name count [] m.root.operands (none_seen t.name count) v.uses.root)
-    (module_fit t.name count m.root.kind rs v.functions.root v.regions.root w v.uses.functions) in
+    (module_fit t.name count rs (one_block m.root.kind v.functions.root _ _ rs v.regions.0) w v.uses.functions) in
     not_used t.name (tree_operands m.root) set.empty (set.contains-empty nat_cmp t.name.0) (no_results t.name count (tree_operands m.root) f d.unused)
 
 -- ---- the first that passes a test
@@ -353,7 +347,7 @@ fails a b c h p q r = (let z = rw (p, q, r) at h in cc)
 module _ (m : Module) (target : OpName) (v : IsValid m) where
   pub first_may : (name : OpName) → regions_first (goes_unused (used_of m)) (scope_at m target) ≡ Some name → MayErase m target name
   first_may name h =
-      let r = first_found_regions (goes_unused (used_of m)) (scope_at m target) name (once_scope m.root target v.names.once.1) h in
+      let r = first_found_regions (goes_unused (used_of m)) (scope_at m target) name (once_scope (bare m.root) target (once_bare m.root v.names.once.1)) h in
       let t = r.0 in
       let q = passes (is_container t.kind) (ends t.kind) (set.contains (used_of m) t.name.0) r.2 in
       record {
@@ -369,14 +363,18 @@ module _ (m : Module) (target : OpName) (v : IsValid m) where
   -- what may be erased passes
   may_pass : (name : OpName) → (e : MayErase m target name) → goes_unused (used_of m) e.tree ≡ false → ⊥
   may_pass name e h =
-      let f = found_inside m target name v.names e in
-      let n = found_named_regions name e.tree m.root.regions f in
-      let g = subst (λ x. regions_find x m.root.regions ≡ Some e.tree) (sym n) f in
-      fails (is_container e.tree.kind) (ends e.tree.kind) (set.contains (used_of m) e.tree.name.0) h e.dead.inner e.dead.goes (dead_not_used m e.tree v g e.dead)
+      let w = found_inside m target name v.names e in
+      let t = w.0 in
+      let n = found_named_regions name t m.root.regions w.1 in
+      let g = subst (λ x. regions_find x m.root.regions ≡ Some t) (sym n) w.1 in
+      let b : IsDead m (bare t) = subst (IsDead m) w.2 e.dead in
+      let d : IsDead m t = record { inner = b.inner; goes = b.goes; unused = b.unused } in
+      let k : goes_unused (used_of m) t ≡ false = subst (λ x. goes_unused (used_of m) x ≡ false) w.2 h in
+      fails (is_container t.kind) (ends t.kind) (set.contains (used_of m) t.name.0) k d.inner d.goes (dead_not_used m t v g d)
 
   pub none_may : regions_first (goes_unused (used_of m)) (scope_at m target) ≡ None → IsNormal m target
   none_may h name e = may_pass name e (first_none_regions (goes_unused (used_of m)) (scope_at m target) name e.tree h e.inside)
 
   pub first_is : (name : OpName) → regions_first (goes_unused (used_of m)) (scope_at m target) ≡ Some name → IsFirstDead m target name
   first_is name h other b e =
-      may_pass other e (first_before_regions (goes_unused (used_of m)) (scope_at m target) name other e.tree (once_scope m.root target v.names.once.1) h b e.inside)
+      may_pass other e (first_before_regions (goes_unused (used_of m)) (scope_at m target) name other e.tree (once_scope (bare m.root) target (once_bare m.root v.names.once.1)) h b e.inside)

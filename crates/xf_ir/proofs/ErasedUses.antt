@@ -1,54 +1,18 @@
--- What stays where one operation is taken out that ends no block and whose results are unused: ends of blocks, visible uses and their types.
-use Rattle.std.proofs.Common.{◌≡◌, ℕ, suc, List, [], ◌∷◌, ◌++◌, length, Bool, true, false, eqb, ◌||◌, None, is_some, inl, inr, refl, ap, subst, ◌∙◌}
+-- What stays where one operation is taken out whose results are unused: visible uses and their types.
+use Rattle.std.proofs.Common.{◌≡◌, ℕ, suc, List, [], ◌∷◌, ◌++◌, length, Bool, true, false, eqb, ◌||◌, None, is_some, inl, inr, refl, ap, ◌∙◌}
 use Rattle.std.specs.Prelude.{map}
 use Rattle.std.proofs.lemmas.Bool.{or_cases}
 use Rattle.xf_type.specs.declared.payload_type.PayloadType.{PayloadType}
 use Rattle.xf_ir.specs.declared.name.OpName.{OpName}
 use Rattle.xf_ir.specs.declared.name.ValueName.{ValueName}
-use Rattle.xf_ir.specs.declared.kind.Kind.{Kind}
 use Rattle.xf_ir.specs.Tree.{Ops, no_ops, op, Regions, no_regions, region, Tree}
 use Rattle.xf_ir.specs.Lists.{Each}
 use Rattle.xf_ir.specs.Edits.{ops_at, regions_at, tail}
 use Rattle.xf_ir.specs.Places.{Place, Seen, done, inside, place_of, results_of, sees, AllSeen}
-use Rattle.xf_ir.specs.Choices.{ops_operands, regions_operands}
-use Rattle.xf_ir.specs.Valid.{EndsHere, OpsEnd, RegionsEnd, OpsSee, RegionsSee, FunctionsSee, Typed, type_or, type_at, FitsRow, OpsFit, RegionsFit}
-use Rattle.xf_ir.specs.Kinds.{ends, is_endless}
+use Rattle.xf_ir.specs.Uses.{ops_operands, regions_operands}
+use Rattle.xf_ir.specs.Valid.{OpsSee, RegionsSee, FunctionsSee, Typed, type_or, type_at}
 use Rattle.xf_ir.proofs.Lists.{name_is, at_cases, each_left, each_right}
 use Rattle.xf_ir.proofs.Found.{OpsWhere, RegionsWhere}
-
--- ---- ends of blocks
-
-abbrev pub Goes : Tree → Type 0
-Goes t = ends t.kind ≡ false
-
-ends_here : (name : OpName) (holder k : Kind) (rest : Ops) → OpsWhere name Goes rest → OpsEnd holder rest → EndsHere holder k rest → EndsHere holder k (ops_at name tail rest)
-ends_here name holder k no_ops w h e = e
-ends_here name holder k (op n k' ds os ts rs no_ops) w h e =
-    at_cases (eqb n.0 name.0) no_ops (op n k' ds os ts (regions_at name tail rs) no_ops) (EndsHere holder k)
-    (λ t. (λ z. absurd (cc), λ _. h.0.1 (w.0 t))) (λ _. e)
-ends_here name holder k (op n k' ds os ts rs (op n2 k2 ds2 os2 ts2 rs2 rest)) w h e =
-    at_cases (eqb n.0 name.0) (op n2 k2 ds2 os2 ts2 rs2 rest) (op n k' ds os ts (regions_at name tail rs) (ops_at name tail (op n2 k2 ds2 os2 ts2 rs2 rest))) (EndsHere holder k)
-    (λ _. e) (λ _. e)
-
-still_filled : (name : OpName) (holder : Kind) (ops : Ops) → OpsWhere name Goes ops → OpsEnd holder ops → (ops ≡ no_ops → is_endless holder ≡ true) → ops_at name tail ops ≡ no_ops → is_endless holder ≡ true
-still_filled name holder no_ops w h f = f
-still_filled name holder (op n k ds os ts rs rest) w h f =
-    at_cases (eqb n.0 name.0) rest (op n k ds os ts (regions_at name tail rs) (ops_at name tail rest)) (λ o. o ≡ no_ops → is_endless holder ≡ true)
-    (λ t e. (let z : EndsHere holder k no_ops = subst (λ o. EndsHere holder k o) e h.0 in z.1 (w.0 t)))
-    (λ _ e. absurd (cc))
-
-mutual
-  ends_kept_ops : (name : OpName) (holder : Kind) (ops : Ops) → OpsWhere name Goes ops → OpsEnd holder ops → OpsEnd holder (ops_at name tail ops)
-  ends_kept_ops name holder no_ops w h = tt
-  ends_kept_ops name holder (op n k ds os ts rs rest) w h =
-      at_cases (eqb n.0 name.0) rest (op n k ds os ts (regions_at name tail rs) (ops_at name tail rest)) (OpsEnd holder)
-      (λ _. h.1.1)
-      (λ _. (ends_here name holder k rest w.1.1 h.1.1 h.0, (ends_kept name k rs w.1.0 h.1.0, ends_kept_ops name holder rest w.1.1 h.1.1)))
-
-  pub ends_kept : (name : OpName) (holder : Kind) (rs : Regions) → RegionsWhere name Goes rs → RegionsEnd holder rs → RegionsEnd holder (regions_at name tail rs)
-  ends_kept name holder no_regions w h = tt
-  ends_kept name holder (region args ops rest) w h =
-      (still_filled name holder ops w.0 h.1.0 h.0, (ends_kept_ops name holder ops w.0 h.1.0, ends_kept name holder rest w.1 h.1.1))
 
 -- ---- visible uses
 
@@ -147,64 +111,15 @@ module _ (name : OpName) (count : ℕ) where
 abbrev pub Same : Place → Typed → Typed → Type 0
 Same p env env' = (v : ValueName) → Outside p v → type_at env v ≡ type_at env' v
 
-same_more : (p : Place) (env env' : Typed) (x : Seen × List PayloadType) → Same p env env' → Same p (x ∷ env) (x ∷ env')
+pub same_more : (p : Place) (env env' : Typed) (x : Seen × List PayloadType) → Same p env env' → Same p (x ∷ env) (x ∷ env')
 same_more p env env' x k v o = ap (type_or (place_of x.0 v) x.1) (k v o)
 
-same_without : (name n : OpName) (count count' : ℕ) (ts : List PayloadType) (env env' : Typed) → n ≡ name → count' ≡ count → Same (results_of name count) env env' → Same (results_of name count) ((done n count', ts) ∷ env) env'
+pub same_without : (name n : OpName) (count count' : ℕ) (ts : List PayloadType) (env env' : Typed) → n ≡ name → count' ≡ count → Same (results_of name count) env env' → Same (results_of name count) ((done n count', ts) ∷ env) env'
 same_without name n count count' ts env env' e f k v o =
     let q : results_of n count' v ≡ None = ap (λ x. results_of x count' v) e ∙ ap (λ c. results_of name c v) f ∙ o in
     ap (λ z. type_or z ts (type_at env v)) q ∙ k v o
 
-types_same : (p : Place) (env env' : Typed) (vs : List ValueName) → Same p env env' → Each (Outside p) vs → map (type_at env) vs ≡ map (type_at env') vs
+pub types_same : (p : Place) (env env' : Typed) (vs : List ValueName) → Same p env env' → Each (Outside p) vs → map (type_at env) vs ≡ map (type_at env') vs
 types_same p env env' [] k o = refl
 types_same p env env' (v ∷ vs) k o = (let a = k v o.0 in let b = types_same p env env' vs k o.1 in cc)
 
-row_same : (p : Place) (env env' : Typed) (holder k : Kind) (vs : List ValueName) (ts : List PayloadType) → Same p env env' → Each (Outside p) vs → FitsRow holder k (map (type_at env) vs) ts → FitsRow holder k (map (type_at env') vs) ts
-row_same p env env' holder k vs ts s o h = subst (λ xs. FitsRow holder k xs ts) (types_same p env env' vs s o) h
-
-mutual
-  ops_same : (p : Place) (holder : Kind) (env env' : Typed) (ops : Ops) → Same p env env' → Each (Outside p) (ops_operands ops) → OpsFit holder env ops → OpsFit holder env' ops
-  ops_same p holder env env' no_ops s o h = tt
-  ops_same p holder env env' (op n k ds os ts rs rest) s o h =
-      let b = each_right (Outside p) os (regions_operands rs ++ ops_operands rest) o in (
-        row_same p env env' holder k os ts s (each_left (Outside p) os (regions_operands rs ++ ops_operands rest) o) h.0,
-        (
-          regions_same p k env env' n 0 rs s (each_left (Outside p) (regions_operands rs) (ops_operands rest) b) h.1.0,
-          ops_same p holder ((done n (length ts), ts) ∷ env) ((done n (length ts), ts) ∷ env') rest (same_more p env env' (done n (length ts), ts) s) (each_right (Outside p) (regions_operands rs) (ops_operands rest) b) h.1.1,
-        ),
-      )
-
-  regions_same : (p : Place) (holder : Kind) (env env' : Typed) (n : OpName) (i : ℕ) (rs : Regions) → Same p env env' → Each (Outside p) (regions_operands rs) → RegionsFit holder env n i rs → RegionsFit holder env' n i rs
-  regions_same p holder env env' n i no_regions s o h = tt
-  regions_same p holder env env' n i (region args ops rest) s o h = (
-    ops_same p holder ((inside n i (length args), args) ∷ env) ((inside n i (length args), args) ∷ env') ops (same_more p env env' (inside n i (length args), args) s) (each_left (Outside p) (ops_operands ops) (regions_operands rest) o) h.0,
-    regions_same p holder env env' n (suc i) rest s (each_right (Outside p) (ops_operands ops) (regions_operands rest) o) h.1,
-  )
-
-module _ (name : OpName) (count : ℕ) where
-  mutual
-    types_kept_ops : (holder : Kind) (env env' : Typed) (ops : Ops) → Same (results_of name count) env env' → OpsWhere name (Gives count) ops → Each (Outside (results_of name count)) (ops_operands ops) → OpsFit holder env ops → OpsFit holder env' (ops_at name tail ops)
-    types_kept_ops holder env env' no_ops s w o h = tt
-    types_kept_ops holder env env' (op n k ds os ts rs rest) s w o h =
-        let p = results_of name count in
-        let more = regions_operands rs ++ ops_operands rest in
-        let b = each_right (Outside p) os more o in
-        let br = each_left (Outside p) (regions_operands rs) (ops_operands rest) b in
-        let bo = each_right (Outside p) (regions_operands rs) (ops_operands rest) b in
-        at_cases (eqb n.0 name.0) rest (op n k ds os ts (regions_at name tail rs) (ops_at name tail rest)) (OpsFit holder env')
-        (λ t. ops_same p holder ((done n (length ts), ts) ∷ env) env' rest (same_without name n count (length ts) ts env env' (name_is n name t) (w.0 t) s) bo h.1.1)
-        (λ _. (
-          row_same p env env' holder k os ts s (each_left (Outside p) os more o) h.0,
-          (
-            types_kept k env env' n 0 rs s w.1.0 br h.1.0,
-            types_kept_ops holder ((done n (length ts), ts) ∷ env) ((done n (length ts), ts) ∷ env') rest (same_more p env env' (done n (length ts), ts) s) w.1.1 bo h.1.1,
-          ),
-        ))
-
-    pub types_kept : (holder : Kind) (env env' : Typed) (n : OpName) (i : ℕ) (rs : Regions) → Same (results_of name count) env env' → RegionsWhere name (Gives count) rs → Each (Outside (results_of name count)) (regions_operands rs) → RegionsFit holder env n i rs → RegionsFit holder env' n i (regions_at name tail rs)
-    types_kept holder env env' n i no_regions s w o h = tt
-    types_kept holder env env' n i (region args ops rest) s w o h =
-        let p = results_of name count in (
-          types_kept_ops holder ((inside n i (length args), args) ∷ env) ((inside n i (length args), args) ∷ env') ops (same_more p env env' (inside n i (length args), args) s) w.0 (each_left (Outside p) (ops_operands ops) (regions_operands rest) o) h.0,
-          types_kept holder env env' n (suc i) rest s w.1 (each_right (Outside p) (ops_operands ops) (regions_operands rest) o) h.1,
-        )

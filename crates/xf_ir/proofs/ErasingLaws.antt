@@ -1,5 +1,6 @@
 -- Erasing an operation that may be erased fits a valid module, leaves it valid, and lowers its weight and its count.
-use Rattle.std.proofs.Common.{◌≡◌, ◌+◌, ◌<◌, ◌≤◌, [], length, eqb, Option, None, Some, inl, inr, refl, sym, ap, subst, ◌∙◌, arith}
+use Rattle.std.proofs.Common.{◌≡◌, ◌+◌, ◌<◌, ◌≤◌, ℕ, List, [], length, Bool, true, false, eqb, Option, None, Some, inl, inr, refl, sym, ap, subst, ◌∙◌, arith}
+use Rattle.std.specs.Prelude.{map}
 use Rattle.std.proofs.lemmas.Bool.{cases_Bool}
 use Rattle.xf_ir.specs.declared.name.OpName.{OpName}
 use Rattle.xf_ir.specs.declared.name.ValueName.{ValueName}
@@ -10,15 +11,28 @@ use Rattle.xf_ir.specs.declared.op.Module.{Module}
 use Rattle.xf_ir.specs.Tree.{Ops, no_ops, op, Regions, no_regions, region, Tree}
 use Rattle.xf_ir.specs.Count.{ops_count, regions_count, tree_count}
 use Rattle.xf_ir.specs.Walk.{ops_names, regions_names, ops_find, regions_find, tree_find}
-use Rattle.xf_ir.specs.Lists.{Each, Once, TextsOnce}
+use Rattle.xf_ir.specs.Kinds.{is_container, is_generic, ends}
+use Rattle.xf_ir.specs.Lists.{Each, Once, is_among}
 use Rattle.xf_ir.specs.Places.{results_of}
+use Rattle.xf_ir.specs.Uses.{ops_operands, regions_operands, tree_operands}
 use Rattle.xf_ir.specs.Edits.{ops_at, regions_at, tail, tree_erased, edited, FitsErase}
-use Rattle.xf_ir.specs.Choices.{ops_operands, regions_operands, tree_operands, scope_of, MayErase, weight_of, ops_weight, regions_weight, weight_at}
-use Rattle.xf_ir.specs.Valid.{IsValid, IsNamedOnce, FunctionsAlone, symbols_of, block_of, functions_of, FunctionsSee}
+use Rattle.xf_ir.specs.Choices.{bare, scope_of, MayErase, weight_of, ops_weight, regions_weight, weight_at}
+use Rattle.xf_ir.specs.Placed.{Placed, type_at, top, root_holder, Everywhere}
+use Rattle.xf_ir.specs.Calls.{signature, function_of, signatures, has_its_callee, has_short_chains}
+use Rattle.xf_ir.specs.RuleBlocks.{has_its_regions, ends_its_blocks}
+use Rattle.xf_ir.specs.RuleTypes.{has_its_types}
+use Rattle.xf_ir.specs.RuleAttributes.{has_its_attributes, has_types_in_range}
+use Rattle.xf_ir.specs.RuleLinalg.{has_its_maps, has_its_iterators, has_its_reduction, has_its_extents, fits_its_body}
+use Rattle.xf_ir.specs.RuleSlices.{has_its_slices}
+use Rattle.xf_ir.specs.Valid.{IsValid, IsNamedOnce, IsModule, FunctionsAlone, BlocksAlone, block_of, functions_of, FunctionsSee}
 use Rattle.xf_ir.proofs.Lists.{at_cases, each_left, each_right, each_part, once_part, texts_part, not_part, not_left, not_right, once_left, once_right, absent_before, apart_names, keep}
 use Rattle.xf_ir.proofs.Found.{first_cases, found_name, found_name_regions, found_named_regions, lost_name, lost_name_regions, find_inside, find_inside_regions, tree, OpsWhere, RegionsWhere, where_found_regions}
-use Rattle.xf_ir.proofs.Erased.{names_part, names_part_regions, functions_kept, symbols_part, block_at, regions_kept_here, regions_kept, attributes_kept, ranges_kept}
-use Rattle.xf_ir.proofs.ErasedUses.{Goes, ends_kept, Gives, Outside, functions_see_kept, types_kept}
+use Rattle.xf_ir.proofs.Erased.{names_part, names_part_regions, blocks_kept as alone_kept, symbols_part_in, block_at, Goes}
+use Rattle.xf_ir.proofs.ErasedUses.{Gives, Outside, functions_see_kept}
+use Rattle.xf_ir.proofs.Obeys.{Passes, blocks_obey, each_blocks}
+use Rattle.xf_ir.proofs.Kept.{RegionsApart, OpsStay, BlocksStay, Step, blocks_kept}
+use Rattle.xf_ir.proofs.KeptRules.{Inner, blocks_stay, signature_kept, regions_step, blocks_step, types_step, attributes_step, callees_step, chains_step, maps_step, iterators_step, reductions_step, extents_step, bodies_step, ranges_step, slices_step}
+use Rattle.xf_ir.proofs.Bare.{Whole, found_whole, found_apart, bare_erased, below_bare, once_bare}
 
 -- ---- what is found in a scope is found in the module
 
@@ -31,12 +45,19 @@ in_scope t target name s o h =
     deeper None e g = absurd (cc)
     deeper (Some x) e g = find_inside_regions t.regions target name x s o e g
 
-pub found_inside : (m : Module) (target name : OpName) → IsNamedOnce m → (e : MayErase m target name) → regions_find name m.root.regions ≡ Some e.tree
-found_inside m target name o e = in_scope m.root target name e.tree o.once.1 e.inside
+-- an operation of the scope, as the module holds it
+pub found_inside : (m : Module) (target name : OpName) → IsNamedOnce m → (e : MayErase m target name) → Whole (regions_find name m.root.regions) e.tree
+found_inside m target name o e =
+    found_whole m.root.regions name e.tree o.once.1 (below_bare m.root e.tree name (in_scope (bare m.root) target name e.tree (once_bare m.root o.once.1) e.inside))
+
+-- and it stands in no body
+stands_apart : (m : Module) (target name : OpName) → IsNamedOnce m → MayErase m target name → RegionsApart name m.root.regions
+stands_apart m target name o e =
+    found_apart m.root.regions name e.tree o.once.1 (below_bare m.root e.tree name (in_scope (bare m.root) target name e.tree (once_bare m.root o.once.1) e.inside))
 
 -- ---- the module stays valid
 
-block_where : (name : OpName) (Q : Tree → Type 0) (rs : Regions) → RegionsWhere name Q rs → OpsWhere name Q (block_of rs)
+pub block_where : (name : OpName) (Q : Tree → Type 0) (rs : Regions) → RegionsWhere name Q rs → OpsWhere name Q (block_of rs)
 block_where name Q no_regions w = tt
 block_where name Q (region args ops rest) w = w.0
 
@@ -44,44 +65,108 @@ block_operands : (P : ValueName → Type 0) (rs : Regions) → Each P (regions_o
 block_operands P no_regions h = tt
 block_operands P (region args ops rest) h = each_left P (ops_operands ops) (regions_operands rest) h
 
+no_generic : (k : Kind) → IsModule k → is_generic k ≡ true → ⊥
+no_generic (kind.Module symbol) i g = (cc)
+no_generic _ i g = (cc)
+
 names_kept : (m : Module) (name : OpName) → IsNamedOnce m → IsNamedOnce (edited m (Erase name))
 names_kept m name n = (let p = keep {x = m.root.name} (names_part_regions name m.root.regions) in
     record { once = once_part p n.once; below = each_part (λ x. x.0 < m.next) p n.below })
 
+first_alone : (rs : Regions) → BlocksAlone rs → FunctionsAlone (block_of rs)
+first_alone no_regions a = tt
+first_alone (region args ops rest) a = a.0
+
+first_stay : (name : OpName) (rs : Regions) → BlocksStay name rs → OpsStay name (block_of rs)
+first_stay name no_regions t = tt
+first_stay name (region args ops rest) t = t.0
+
+-- the rules along the tree stay, one by one
+module _ (m : Module) (target name : OpName) (v : IsValid m) (e : MayErase m target name) where
+  abbrev after : Module
+  after = edited m (Erase name)
+
+  whole : Whole (regions_find name m.root.regions) e.tree
+  whole = found_inside m target name v.names e
+
+  -- each operation of the name has what the operation has
+  of_name : (Q : Tree → Type 0) → ((t : Tree) → e.tree ≡ bare t → Q t) → RegionsWhere name Q m.root.regions
+  of_name Q f = (let w = whole in where_found_regions name Q w.0 m.root.regions v.names.once.1 w.1 (f w.0 w.2))
+
+  goes : RegionsWhere name Goes m.root.regions
+  goes = of_name Goes (λ t q. subst (λ (x : Tree). ends x.kind ≡ false) q e.dead.goes)
+
+  gives : RegionsWhere name (Gives (length e.tree.results)) m.root.regions
+  gives = of_name (Gives (length e.tree.results)) (λ t q. ap (λ (x : Tree). length x.results) (sym q))
+
+  stay : BlocksStay name m.root.regions
+  stay = blocks_stay name m.root.regions v.functions.alone (of_name Inner (λ t q. subst (λ (x : Tree). is_container x.kind ≡ false) q e.dead.inner))
+
+  unused : Each (Outside (results_of name (length e.tree.results))) (tree_operands m.root)
+  unused =
+      let w = whole in
+      let n : e.tree.name ≡ name = ap (λ (x : Tree). x.name) w.2 ∙ found_named_regions name w.0 m.root.regions w.1 in
+      subst (λ x. Each (Outside (results_of x (length e.tree.results))) (tree_operands m.root)) n e.dead.unused
+
+  inner : Each (Outside (results_of name (length e.tree.results))) (regions_operands m.root.regions)
+  inner = each_right (Outside (results_of name (length e.tree.results))) m.root.operands (regions_operands m.root.regions) unused
+
+  sees_kept : FunctionsSee (functions_of after)
+  sees_kept =
+      let count = length e.tree.results in
+      subst FunctionsSee (sym (block_at name tail m.root.regions))
+      (functions_see_kept name count (functions_of m) (block_where name (Gives count) m.root.regions gives) (block_operands (Outside (results_of name count)) m.root.regions inner) v.uses.functions)
+
+  -- a rule stays that the step keeps
+  kept : (passes passes' : Placed → Bool) → Step name (Passes passes) (Passes passes') → Everywhere passes m → Everywhere passes' after
+  kept passes passes' step h =
+      let P = Passes passes in
+      let P' = Passes passes' in
+      let root = root_holder m.root in
+      (
+        step.turn top (map (type_at []) m.root.operands) m.root no_ops root_apart goes h.0,
+        each_blocks P' root (regions_at name tail m.root.regions)
+        (blocks_kept name (length e.tree.results) P P' step root m.root.regions stay v.names.once.1 gives goes (stands_apart m target name v.names e) inner (blocks_obey P root m.root.regions h.1)),
+      )
+    where
+      root_apart : is_generic m.root.kind ≡ true → is_among name (regions_names m.root.regions) ≡ false
+      root_apart g = absurd (no_generic m.root.kind v.functions.root g)
+
+  same_signatures : (s : List ℕ) → signatures after s ≡ signatures m s
+  same_signatures s =
+      ap (λ fs. signature (function_of s fs)) (block_at name tail m.root.regions) ∙ signature_kept name s (functions_of m) (first_stay name m.root.regions stay)
+
+  pub valid_after : IsValid (edited m (Erase name))
+  valid_after = record {
+    names = names_kept m name v.names;
+    functions = record {
+      root = v.functions.root;
+      alone = alone_kept name m.root.regions v.functions.alone;
+      names = texts_part (symbols_part_in name m.root.regions) v.functions.names;
+    };
+    regions = kept has_its_regions has_its_regions (regions_step name) v.regions;
+    blocks = kept ends_its_blocks ends_its_blocks (blocks_step name) v.blocks;
+    uses = record { root = v.uses.root; functions = sees_kept };
+    types = kept (has_its_types (signatures m)) (has_its_types (signatures after)) (types_step name (signatures m) (signatures after) same_signatures) v.types;
+    attributes = kept has_its_attributes has_its_attributes (attributes_step name) v.attributes;
+    callees = kept (has_its_callee (signatures m)) (has_its_callee (signatures after)) (callees_step name (signatures m) (signatures after) same_signatures) v.callees;
+    chains = subst (λ fs. Everywhere (has_short_chains fs) after) (sym (block_at name tail m.root.regions))
+    (kept (has_short_chains (functions_of m)) (has_short_chains (ops_at name tail (functions_of m))) (chains_step name (functions_of m) (first_stay name m.root.regions stay)) v.chains);
+    maps = kept has_its_maps has_its_maps (maps_step name) v.maps;
+    iterators = kept has_its_iterators has_its_iterators (iterators_step name) v.iterators;
+    reductions = kept has_its_reduction has_its_reduction (reductions_step name) v.reductions;
+    extents = kept has_its_extents has_its_extents (extents_step name) v.extents;
+    bodies = kept fits_its_body fits_its_body (bodies_step name) v.bodies;
+    ranges = kept has_types_in_range has_types_in_range (ranges_step name) v.ranges;
+    slices = kept has_its_slices has_its_slices (slices_step name) v.slices;
+  }
+
 pub valid_kept : (m : Module) (target name : OpName) → IsValid m → MayErase m target name → IsValid (edited m (Erase name))
-valid_kept m target name v e =
-    let rs = m.root.regions in
-    let found = found_inside m target name v.names e in
-    let count = length e.tree.results in
-    let goes = where_found_regions name Goes e.tree rs v.names.once.1 found e.dead.goes in
-    let gives = where_found_regions name (Gives count) e.tree rs v.names.once.1 found refl in
-    let unused : Each (Outside (results_of name count)) (tree_operands m.root) = subst (λ n. Each (Outside (results_of n count)) (tree_operands m.root)) (found_named_regions name e.tree rs found) e.dead.unused in
-    let inner = each_right (Outside (results_of name count)) m.root.operands (regions_operands rs) unused in
-    let block = sym (block_at name tail rs) in
-    record {
-      names = names_kept m name v.names;
-      functions = record {
-        root = v.functions.root;
-        alone = subst FunctionsAlone block (functions_kept name (functions_of m) v.functions.alone);
-        names = subst (λ o. TextsOnce (symbols_of o)) block (texts_part (symbols_part name (functions_of m)) v.functions.names);
-      };
-      regions = record { root = regions_kept_here name m.root.kind rs v.regions.root; inner = regions_kept name rs v.regions.inner };
-      blocks = record { ends = ends_kept name m.root.kind rs goes v.blocks.ends };
-      uses = record {
-        root = v.uses.root;
-        functions = subst FunctionsSee block (functions_see_kept name count (functions_of m) (block_where name (Gives count) rs gives) (block_operands (Outside (results_of name count)) rs inner) v.uses.functions);
-      };
-      types = record {
-        root = v.types.root;
-        inner = types_kept name count m.root.kind [] [] m.root.name 0 rs (λ x _. refl) gives inner v.types.inner;
-      };
-      attributes = record { root = v.attributes.root; inner = attributes_kept name rs v.attributes.inner };
-      ranges = record { root = v.ranges.root; inner = ranges_kept name rs v.ranges.inner };
-    }
+valid_kept m target name v e = valid_after m target name v e
 
 pub fits : (m : Module) (target name : OpName) → IsValid m → MayErase m target name → FitsErase m name
-fits m target name v e = (let k = valid_kept m target name v e in
-    record { tree = e.tree; inside = found_inside m target name v.names e; names = k.names; uses = k.uses })
+fits m target name v e = (let k = valid_kept m target name v e in let w = found_inside m target name v.names e in
+    record { tree = w.0; inside = w.1; names = k.names; uses = k.uses })
 
 -- ---- the count falls
 
@@ -116,13 +201,13 @@ mutual
       ]
 
 pub lowers_count : (m : Module) (target name : OpName) → IsValid m → MayErase m target name → tree_count (edited m (Erase name)).root < tree_count m.root
-lowers_count m target name v e = omega (arith, count_falls_regions name e.tree m.root.regions (found_inside m target name v.names e))
+lowers_count m target name v e = (let w = found_inside m target name v.names e in omega (arith, count_falls_regions name w.0 m.root.regions w.1))
 
 -- ---- the weight of a scope falls
 
 some_weight : (k : Kind) → 1 ≤ weight_of k
-some_weight (kind.Module symbol) = omega arith
-some_weight (kind.Func symbol private results) = omega arith
+some_weight (kind.Constant width bits) = omega arith
+some_weight (kind.Dense shape numbers) = omega arith
 some_weight _ = omega arith
 
 mutual
@@ -212,4 +297,6 @@ scope_falls t target name s o h =
     deeper (Some x) e g = (let l = find_erased_regions t.regions target name x s o e g in rw l (weight_falls_regions name s x.regions g))
 
 pub lowers_weight : (m : Module) (target name : OpName) → IsValid m → MayErase m target name → weight_at (edited m (Erase name)) target + 1 ≤ weight_at m target
-lowers_weight m target name v e = omega (arith, scope_falls m.root target name e.tree v.names.once.1 e.inside)
+lowers_weight m target name v e =
+    let q = ap (λ t. regions_weight (scope_of (tree_find target t))) (bare_erased name m.root) in
+    omega (arith, q, scope_falls (bare m.root) target name e.tree (once_bare m.root v.names.once.1) e.inside)

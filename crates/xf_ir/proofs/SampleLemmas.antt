@@ -1,21 +1,8 @@
--- The sample module is valid.
-use Rattle.std.proofs.Common.{[], refl, lit<}
-use Rattle.xf_ir.specs.declared.kind.Kind.{Kind}
-use Rattle.xf_ir.specs.Valid.{IsValid, HasOwnAttributes, HasAttributes}
+-- The sample module is valid, since no operation of it breaks a rule.
+use Rattle.std.proofs.Common.{refl}
+use Rattle.xf_ir.specs.Valid.{IsValid}
 use Rattle.xf_ir.specs.Sample.{sample_module}
-
--- without discardable attributes those of the kind are left
-plain : (k : Kind) → HasOwnAttributes k → HasAttributes k []
-plain k h = record { own = h; names = tt; different = tt; values = tt }
+use Rattle.xf_ir.proofs.ViolationLaw.{clean_valid}
 
 pub sample_valid : IsValid sample_module
-sample_valid = record {
-  names = record { once = (refl, (refl, (refl, (refl, (refl, tt))))); below = (lit< tt, (lit< tt, (lit< tt, (lit< tt, (lit< tt, tt))))) };
-  functions = record { root = tt; alone = (tt, ((((refl, (tt, (refl, (tt, (refl, (tt, tt)))))), tt), tt))); names = (refl, tt) };
-  regions = record { root = (refl, refl); inner = ((refl, (((refl, (tt, (refl, (tt, (refl, (tt, tt)))))), tt), tt)), tt) };
-  blocks = record { ends = (λ _. refl, (((λ h. h, λ _. refl), ((λ e. absurd (cc), ((refl, (tt, (refl, (tt, ((λ _. refl, λ e. absurd (cc)), (tt, tt)))))), tt)), tt)), tt)) };
-  uses = record { root = tt; functions = (tt, (((tt, (tt, ((refl, (refl, tt)), (tt, ((refl, tt), (tt, tt)))))), tt), tt)) };
-  types = record { root = (refl, refl); inner = (((refl, refl), ((((refl, refl), (tt, ((refl, refl), (tt, ((refl, refl), (tt, tt)))))), tt), tt)), tt) };
-  attributes = record { root = plain _ tt; inner = ((plain _ (refl, tt), (((plain _ (lit< tt), (tt, (plain _ tt, (tt, (plain _ tt, (tt, tt)))))), tt), tt)), tt) };
-  ranges = record { root = tt; inner = (tt, ((tt, ((tt, tt), (((tt, tt), (((tt, tt), (tt, (tt, ((tt, tt), (tt, (tt, (tt, (tt, (tt, tt))))))))), tt)), tt))), tt)) };
-}
+sample_valid = clean_valid sample_module refl

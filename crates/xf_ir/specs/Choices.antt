@@ -1,7 +1,6 @@
 -- The choices of a rewriting step: what may be changed next in a scope.
-use Rattle.std.specs.Prelude.{◌≡◌, ℕ, ◌+◌, List, [], ◌∷◌, ◌++◌, length, Option, Some, None, Bool, false, true, ◌||◌, if◌then◌else◌}
+use Rattle.std.specs.Prelude.{◌≡◌, ℕ, ◌+◌, List, [], ◌∷◌, length, Option, Some, None, Bool, false, true, ◌||◌, if◌then◌else◌}
 use Rattle.xf_ir.specs.declared.name.OpName.{OpName}
-use Rattle.xf_ir.specs.declared.name.ValueName.{ValueName}
 use Rattle.xf_ir.specs.declared.kind.Kind.{Kind}
 use Rattle.xf_ir.specs.declared.kind.Kind.TheVariants as kind
 use Rattle.xf_ir.specs.declared.op.Module.{Module}
@@ -9,20 +8,8 @@ use Rattle.xf_ir.specs.Tree.{Ops, no_ops, op, Regions, no_regions, region, Tree}
 use Rattle.xf_ir.specs.Walk.{tree_find, regions_find, regions_names}
 use Rattle.xf_ir.specs.Lists.{Each, same_name}
 use Rattle.xf_ir.specs.Places.{results_of}
-use Rattle.xf_ir.specs.Kinds.{is_container, ends}
-
--- the operands of all operations, in preorder
-abbrev mutual
-  pub ops_operands : Ops → List ValueName
-  ops_operands no_ops = []
-  ops_operands (op n k ds os ts rs rest) = os ++ (regions_operands rs ++ ops_operands rest)
-
-  pub regions_operands : Regions → List ValueName
-  regions_operands no_regions = []
-  regions_operands (region args ops rest) = ops_operands ops ++ regions_operands rest
-
-abbrev pub tree_operands : Tree → List ValueName
-tree_operands t = t.operands ++ regions_operands t.regions
+use Rattle.xf_ir.specs.Kinds.{is_container, ends, is_generic}
+use Rattle.xf_ir.specs.Uses.{tree_operands}
 
 -- the number of the choice that erases an operation
 abbrev pub erasing : ℕ
@@ -34,13 +21,26 @@ pub record IsDead (m : Module) (t : Tree) : Type 0 where
   pub goes : ends t.kind ≡ false
   pub unused : Each (λ v. results_of t.name (length t.results) v ≡ None) (tree_operands m.root)
 
+-- without the bodies of linalg.generic
+abbrev mutual
+  pub ops_bare : Ops → Ops
+  ops_bare no_ops = no_ops
+  ops_bare (op n k ds os ts rs rest) = op n k ds os ts (if is_generic k then no_regions else regions_bare rs) (ops_bare rest)
+
+  pub regions_bare : Regions → Regions
+  regions_bare no_regions = no_regions
+  regions_bare (region args ops rest) = region args (ops_bare ops) (regions_bare rest)
+
+abbrev pub bare : Tree → Tree
+bare t = record t { regions = if is_generic t.kind then no_regions else regions_bare t.regions }
+
 abbrev pub scope_of : Option Tree → Regions
 scope_of None = no_regions
 scope_of (Some t) = t.regions
 
--- the scope of a target: what it holds
+-- the scope of a target: all operations strictly inside it, without those inside the body of a linalg.generic
 abbrev pub scope_at : Module → OpName → Regions
-scope_at m target = scope_of (tree_find target m.root)
+scope_at m target = scope_of (tree_find target (bare m.root))
 
 -- an operation of the scope may be erased
 pub record MayErase (m : Module) (target name : OpName) : Type 0 where
@@ -76,6 +76,6 @@ abbrev mutual
   regions_weight no_regions = 0
   regions_weight (region args ops rest) = ops_weight ops + regions_weight rest
 
--- the weight of a scope: 1 for each constant and 2 for each other operation
+-- the weight of a scope: 1 for each constant, scalar or dense, and 2 for each other operation
 abbrev pub weight_at : Module → OpName → ℕ
 weight_at m target = regions_weight (scope_at m target)

@@ -1,5 +1,5 @@
 -- What the kinds of operations are among one another (MLIR: the pages of builtin, func, arith, scf, tensor and linalg).
-use Rattle.std.specs.Prelude.{ℕ, List, [], Bool, true, false}
+use Rattle.std.specs.Prelude.{List, [], Bool, true, false}
 use Rattle.xf_type.specs.declared.payload_type.PayloadType.{PayloadType}
 use Rattle.xf_ir.specs.declared.kind.Kind.{Kind}
 use Rattle.xf_ir.specs.declared.kind.Kind.TheVariants as kind
@@ -50,7 +50,7 @@ ends_for _ k = false
 abbrev pub is_endless : Kind → Bool
 is_endless k = is_module k
 
--- whether the blocks of the holder are bodies of linalg, which belong to no scope
+-- whether its block is a body of linalg, which belongs to no scope
 abbrev pub is_generic : Kind → Bool
 is_generic (kind.Generic maps iterators) = true
 is_generic _ = false
@@ -59,3 +59,13 @@ is_generic _ = false
 abbrev pub returned_types : Kind → List PayloadType
 returned_types (kind.Func symbol private results) = results
 returned_types _ = []
+
+-- whether it is an operation of the arith dialect
+abbrev pub is_arith : Kind → Bool
+is_arith (kind.Constant width bits) = true
+is_arith (kind.Dense shape numbers) = true
+is_arith (kind.Binary which width) = true
+is_arith (kind.Compare which width) = true
+is_arith (kind.Select width) = true
+is_arith (kind.Convert which from to) = true
+is_arith _ = false

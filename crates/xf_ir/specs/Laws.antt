@@ -1,5 +1,5 @@
 -- Laws of valid modules and of erasing what may be erased.
-use Rattle.std.specs.Prelude.{◌≡◌, ◌+◌, ◌<◌, ◌≤◌}
+use Rattle.std.specs.Prelude.{◌≡◌, ◌+◌, ◌<◌, ◌≤◌, ◌↔◌, None}
 use Rattle.xf_ir.specs.declared.name.OpName.{OpName}
 use Rattle.xf_ir.specs.declared.edit.Edit.{Edit}
 use Rattle.xf_ir.specs.declared.edit.Edit.TheVariants.{Erase}
@@ -8,11 +8,16 @@ use Rattle.xf_ir.specs.Count.{tree_count}
 use Rattle.xf_ir.specs.Places.{FunctionsScoped}
 use Rattle.xf_ir.specs.Valid.{IsNamedOnce, IsValid, functions_of}
 use Rattle.xf_ir.specs.Edits.{edited, inverse_of, FitsEdit}
+use Rattle.xf_ir.specs.Violations.{first_violation}
 use Rattle.xf_ir.specs.Choices.{MayErase, weight_at}
 
 -- in a valid module each operand is visible where it stands, and each value is defined once among those that are visible
 abbrev pub ValidIsScoped : Type 0
 ValidIsScoped = (m : Module) → IsValid m → FunctionsScoped (functions_of m)
+
+-- a module is valid exactly where no operation breaks a rule
+abbrev pub ValidHasNoViolation : Type 0
+ValidHasNoViolation = (m : Module) → IsValid m ↔ (first_violation m ≡ None)
 
 -- what may be erased is erased by an edit that fits the module
 abbrev pub ErasingFits : Type 0

@@ -1,5 +1,5 @@
 -- Facts on each item of a list, and lists without repeats.
-use Rattle.std.specs.Prelude.{◌≡◌, ℕ, List, [], ◌∷◌, Bool, true, false, ◌==◌, ◌&&◌, ◌||◌}
+use Rattle.std.specs.Prelude.{◌≡◌, ℕ, List, [], ◌∷◌, Bool, true, false, ◌==◌, ◌&&◌, ◌||◌, not}
 use Rattle.xf_ir.specs.declared.name.OpName.{OpName}
 
 -- each item has the property
@@ -14,6 +14,25 @@ same_name a b = a.0 == b.0
 abbrev pub is_among : OpName → List OpName → Bool
 is_among n [] = false
 is_among n (m ∷ ms) = same_name m n || is_among n ms
+
+-- whether each item passes
+abbrev pub every : {A : Type 0} → (A → Bool) → List A → Bool
+every p [] = true
+every p (x ∷ xs) = p x && every p xs
+
+-- whether some item passes
+abbrev pub some : {A : Type 0} → (A → Bool) → List A → Bool
+some p [] = false
+some p (x ∷ xs) = p x || some p xs
+
+abbrev pub is_empty : {A : Type 0} → List A → Bool
+is_empty [] = true
+is_empty (x ∷ xs) = false
+
+-- what stands behind the first item
+abbrev pub behind_first : {A : Type 0} → List A → List A
+behind_first [] = []
+behind_first (x ∷ xs) = xs
 
 -- no name stands twice
 abbrev pub Once : List OpName → Type 0
@@ -36,3 +55,7 @@ is_text_among s (t ∷ ts) = same_bytes t s || is_text_among s ts
 abbrev pub TextsOnce : List (List ℕ) → Type 0
 TextsOnce [] = Unit {0}
 TextsOnce (s ∷ ss) = (is_text_among s ss ≡ false) × TextsOnce ss
+
+abbrev pub texts_once : List (List ℕ) → Bool
+texts_once [] = true
+texts_once (s ∷ ss) = not (is_text_among s ss) && texts_once ss

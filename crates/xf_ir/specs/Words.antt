@@ -1,6 +1,6 @@
 -- Words: what symbols and names of attributes are made of (MLIR language reference: bare-id).
-use Rattle.std.specs.Prelude.{◌≡◌, ℕ, List, [], ◌∷◌, Bool, true, ◌==◌, ◌&&◌, ◌||◌, nat_le}
-use Rattle.xf_ir.specs.Lists.{Each}
+use Rattle.std.specs.Prelude.{◌≡◌, ℕ, List, [], ◌∷◌, Bool, true, false, ◌==◌, ◌&&◌, ◌||◌, nat_le}
+use Rattle.xf_ir.specs.Lists.{Each, every}
 
 abbrev pub between : ℕ → ℕ → ℕ → Bool
 between a z b = nat_le a b && nat_le b z
@@ -20,3 +20,7 @@ is_word_byte b = (is_letter b || is_digit b) || ((b == 36) || (b == 46))
 abbrev pub IsWord : List ℕ → Type 0
 IsWord [] = ⊥
 IsWord (b ∷ bs) = (is_letter b ≡ true) × Each (λ c. is_word_byte c ≡ true) bs
+
+abbrev pub is_word : List ℕ → Bool
+is_word [] = false
+is_word (b ∷ bs) = is_letter b && every is_word_byte bs

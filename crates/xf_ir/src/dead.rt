@@ -1,8 +1,10 @@
 //! Operations whose results nothing uses.
-ghost use Rattle.std.specs.Prelude.{◌≡◌, IsNone, IfSome, IfOk, OnOk};
+ghost use Rattle.std.specs.Prelude.{◌≡◌, IsNone, IfSome, IfOk, OnOk, option_map, option_copied};
 ghost use Rattle.xf_ir.specs.declared.name.OpName.{OpName};
 ghost use Rattle.xf_ir.specs.Valid.{IsValid};
-ghost use Rattle.xf_ir.specs.Choices.{tree_operands, MayErase, IsNormal, IsFirstDead};
+ghost use Rattle.xf_ir.specs.Choices.{bare, MayErase, IsNormal, IsFirstDead};
+ghost use Rattle.xf_ir.specs.Uses.{tree_operands};
+ghost use Rattle.xf_ir.specs.Walk.{tree_find};
 ghost use Rattle.xf_ir.specs.Used.{with_uses, goes_unused, regions_first};
 
 use crate::name::{OpName, ValueName};
@@ -44,10 +46,33 @@ fn may_go(op: &Op, used: &NameSet) -> bool
     !stays && !used.contains(op.name)
 }
 
-/// The first operation inside another that may go where these are used, in preorder.
-fn first_inside(op: &Op, used: &NameSet) -> Option<OpName>
-    ensures { result ≡ regions_first (goes_unused used.now) op.now.regions }
+/// The first operation of the name in the tree without the bodies of `linalg.generic`, in preorder.
+fn find_outside_bodies(op: &Op, name: OpName) -> Option<&Op>
+    ensures { option_map bare (option_copied result) ≡ tree_find name (bare op.now) }
 {
+    if op.name == name {
+        return Some(op);
+    }
+    if op.kind.is_generic() {
+        return None;
+    }
+    for block in &op.regions {
+        for inner in &block.ops {
+            if let Some(found) = find_outside_bodies(inner, name) {
+                return Some(found);
+            }
+        }
+    }
+    None
+}
+
+/// The first operation inside another that may go where these are used, in preorder, without those in bodies of `linalg.generic`.
+fn first_inside(op: &Op, used: &NameSet) -> Option<OpName>
+    ensures { result ≡ regions_first (goes_unused used.now) (bare op.now).regions }
+{
+    if op.kind.is_generic() {
+        return None;
+    }
     for block in &op.regions {
         for inner in &block.ops {
             if may_go(inner, used) {
@@ -73,7 +98,7 @@ pub fn first_dead(alloc: Global, m: &Module, target: OpName) -> Result<Option<Op
 {
     let mut used = NameSet::new(alloc);
     add_uses_inside(&m.root, &mut used)?;
-    match m.find(target) {
+    match find_outside_bodies(&m.root, target) {
         None => Ok(None),
         Some(op) => Ok(first_inside(op, &used)),
     }

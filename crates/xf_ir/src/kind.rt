@@ -1,6 +1,6 @@
 //! What an operation is, with the attributes of its own.
 ghost use Rattle.std.specs.Prelude.{◌≡◌};
-ghost use Rattle.xf_ir.specs.Kinds.{is_container, ends};
+ghost use Rattle.xf_ir.specs.Kinds.{is_container, ends, is_generic};
 
 use xf_type::{
     AffineMap, AttrValue, BinKind, ByteList, CmpKind, ConvKind, ListOf, Shape, TypeList, Width,
@@ -167,6 +167,16 @@ impl Kind {
             Kind::Return => true,
             Kind::Yield => true,
             Kind::LinalgYield => true,
+            _ => false,
+        }
+    }
+
+    /// Whether its block is a body of linalg.
+    pub fn is_generic(&self) -> bool
+        ensures { result ≡ is_generic self.now }
+    {
+        match self {
+            Kind::Generic { .. } => true,
             _ => false,
         }
     }

@@ -1,9 +1,14 @@
 //! Laws of valid modules, each as the contract of a function that does nothing.
-ghost use Rattle.xf_ir.specs.Laws.{ValidIsScoped, ErasingFits, ErasingKeepsValid, ErasingLowersWeight, ErasingLowersCount, InverseLeadsBack};
+ghost use Rattle.xf_ir.specs.Laws.{ValidIsScoped, ValidHasNoViolation, ErasingFits, ErasingKeepsValid, ErasingLowersWeight, ErasingLowersCount, InverseLeadsBack};
 
 /// In a valid module each operand is visible where it stands, and each value is defined once among those that are visible.
 pub fn valid_is_scoped()
     ensures { ValidIsScoped }
+{}
+
+/// A module is valid exactly where no operation breaks a rule.
+pub fn valid_has_no_violation()
+    ensures { ValidHasNoViolation }
 {}
 
 /// What may be erased is erased by an edit that fits the module.

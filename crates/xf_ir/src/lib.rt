@@ -10,6 +10,7 @@ mod laws;
 mod name;
 mod name_set;
 mod op;
+mod spelling;
 mod spot;
 mod values;
 mod walk;
@@ -23,7 +24,7 @@ pub use kind::{
 };
 pub use laws::{
     erasing_fits, erasing_keeps_valid, erasing_lowers_count, erasing_lowers_weight,
-    inverse_leads_back, valid_is_scoped,
+    inverse_leads_back, valid_has_no_violation, valid_is_scoped,
 };
 pub use name::{OpName, ValueName};
 pub use name_set::NameSet;

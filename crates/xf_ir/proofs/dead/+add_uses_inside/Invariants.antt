@@ -1,6 +1,6 @@
 use Rattle.std.proofs.Common.{◌≡◌, ◌+◌, drop}
 use Rattle.xf_ir.specs.View.{ops_of, regions_of}
-use Rattle.xf_ir.specs.Choices.{ops_operands, regions_operands, tree_operands}
+use Rattle.xf_ir.specs.Uses.{ops_operands, regions_operands, tree_operands}
 use Rattle.xf_ir.specs.Used.{with_uses}
 use Rattle.xf_ir.proofs.dead.+add_uses_inside.Given as goal
 
