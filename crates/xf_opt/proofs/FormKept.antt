@@ -1,5 +1,5 @@
 -- Erasing what may be erased leaves a module of the first form.
-use Rattle.std.proofs.Common.{◌≡◌, ◌⊎◌, Option, Some, None, Bool, true, false, refl, ap, ◌==◌, inl, inr, arith}
+use Rattle.std.proofs.Common.{◌≡◌, ◌⊎◌, Option, Some, None, Bool, true, false, refl, ap, subst, ◌==◌, inl, inr, arith}
 use Rattle.xf_ir.specs.declared.name.OpName.{OpName}
 use Rattle.xf_ir.specs.declared.kind.Kind.{Kind}
 use Rattle.xf_ir.specs.declared.kind.Kind.TheVariants as kind
@@ -55,6 +55,7 @@ form_kept m target name f e = record {
   valid = valid_kept m target name f.valid e;
   symbol = f.symbol;
   attributes = f.attributes;
-  functions = functions_kept name m.root.regions e.tree (found_inside m target name f.valid.names e) e.dead.inner f.functions;
+  functions = (let whole = found_inside m target name f.valid.names e in
+      functions_kept name m.root.regions whole.0 whole.1 (subst (λ (t : Tree). is_container t.kind ≡ false) whole.2 e.dead.inner) f.functions);
   bounded = let less = lowers_count m target name f.valid e in let all = f.bounded in omega arith;
 }

@@ -11,7 +11,7 @@ use Rattle.xf_ir.specs.Tree.{Ops, no_ops, op, Regions, no_regions, region}
 use Rattle.xf_ir.specs.Lists.{Each}
 use Rattle.xf_ir.specs.Places.{Place, results_of, args_of, Seen, done, inside, place_of, sees, AllSeen, IsFresh, OpsScoped, RegionsScoped, FunctionsScoped}
 use Rattle.xf_ir.specs.Valid.{functions_of}
-use Rattle.xf_ir.specs.Choices.{ops_operands, regions_operands}
+use Rattle.xf_ir.specs.Uses.{ops_operands, regions_operands}
 use Rattle.xf_sem.specs.declared.value.Value.{Value}
 use Rattle.xf_sem.specs.Meaning.{Env, item_or, extend, nowhere, Calls, ops_run, bodies_of, returned, calls_to, call_depth}
 use Rattle.xf_sem.specs.Keeps.{Signature, argument_types, signature_before, signatures_of}

@@ -1,12 +1,12 @@
 -- An operation whose results are unused may be erased.
-use Rattle.std.proofs.Common.{◌≡◌, ℕ, suc, Bool, true, false, eqb, refl}
+use Rattle.std.proofs.Common.{◌≡◌, ℕ, suc, Bool, true, false, eqb, refl, subst}
 use Rattle.std.specs.Prelude.{length, map}
 use Rattle.xf_ir.specs.declared.name.OpName.{OpName}
 use Rattle.xf_ir.specs.declared.kind.Kind.{Kind}
 use Rattle.xf_ir.specs.declared.kind.Kind.TheVariants as kind
 use Rattle.xf_ir.specs.Tree.{Ops, no_ops, op, Regions, no_regions, region, Tree}
 use Rattle.xf_ir.specs.Places.{results_of}
-use Rattle.xf_ir.specs.Valid.{IsFunction, FunctionsAlone, functions_of, block_of}
+use Rattle.xf_ir.specs.Valid.{IsFunction, FunctionsAlone, BlocksAlone, functions_of, block_of}
 use Rattle.xf_ir.specs.Kinds.{is_container, ends}
 use Rattle.xf_ir.specs.Edits.{tail}
 use Rattle.xf_ir.proofs.Found as found
@@ -57,7 +57,7 @@ functions_lead name (op n k ds os ts rs rest) h = (leads_where_regions name rs o
 
 container : (k : Kind) → IsFunction k → is_container k ≡ true
 container (kind.Func symbol private types) f = refl
-container _ f = elim f [ ]
+container _ f = absurd (cc)
 
 other_name : (b : Bool) (k : Kind) → IsFunction k → (b ≡ true → is_container k ≡ false) → b ≡ false
 other_name true k f h = let no = h refl in let yes = container k f in cc
@@ -67,6 +67,10 @@ no_function : (name : OpName) (fs : Ops) → FunctionsAlone fs → found.OpsWher
 no_function name no_ops a h = tt
 no_function name (op n k ds os ts rs rest) a h = (other_name (eqb n.0 name.0) k a.0 (λ e. (h.0 e).0), no_function name rest a.1.1 h.1.1)
 
+functions_alone : (rs : Regions) → BlocksAlone rs → FunctionsAlone (block_of rs)
+functions_alone no_regions a = tt
+functions_alone (region args ops rest) a = a.0
+
 inner_block : (name : OpName) (rs : Regions) → found.RegionsWhere name Inner rs → found.OpsWhere name Inner (block_of rs)
 inner_block name no_regions h = tt
 inner_block name (region args ops rest) h = h.0
@@ -74,7 +78,10 @@ inner_block name (region args ops rest) h = h.0
 pub erasing_keeps : ErasingKeeps
 erasing_keeps m target name valid may =
     let once = valid.names.once in
-    let inner = inner_block name m.root.regions (found.where_found_regions name Inner may.tree m.root.regions once.1 (found_inside m target name valid.names may) (may.dead.inner, may.dead.goes)) in
+    let whole = found_inside m target name valid.names may in
+    let stays = subst (λ (t : Tree). is_container t.kind ≡ false) whole.2 may.dead.inner in
+    let goes = subst (λ (t : Tree). ends t.kind ≡ false) whole.2 may.dead.goes in
+    let inner = inner_block name m.root.regions (found.where_found_regions name Inner whole.0 m.root.regions once.1 whole.1 (stays, goes)) in
     surroundings_keep m name tail
-    (record { inner = no_function name (functions_of m) valid.functions.alone inner; before = scoped m valid; after = scoped _ (valid_kept m target name valid may) })
+    (record { inner = no_function name (functions_of m) (functions_alone m.root.regions valid.functions.alone) inner; before = scoped m valid; after = scoped _ (valid_kept m target name valid may) })
     (functions_lead name (functions_of m) inner)

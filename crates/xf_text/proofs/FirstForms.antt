@@ -9,16 +9,25 @@ use Rattle.xf_type.specs.declared.kind.BinKind.TheVariants.{Addi}
 use Rattle.xf_ir.specs.declared.name.OpName.{OpName}
 use Rattle.xf_ir.specs.declared.name.ValueName.{ValueName}
 use Rattle.xf_ir.specs.declared.name.ValueName.TheVariants.{Result, Arg, Free}
+use Rattle.xf_ir.specs.declared.kind.Attr.{Attr}
 use Rattle.xf_ir.specs.declared.kind.Kind.{Kind}
 use Rattle.xf_ir.specs.declared.kind.Kind.TheVariants as kind
-use Rattle.xf_ir.specs.Lists.{Each, is_among, Once, same_bytes}
-use Rattle.xf_ir.specs.Words.{IsWord}
+use Rattle.xf_ir.specs.declared.op.Module.{Module}
+use Rattle.xf_ir.specs.Lists.{Each, every, is_among, Once, same_bytes}
+use Rattle.xf_ir.specs.Words.{is_word_byte, IsWord, is_word}
 use Rattle.xf_ir.specs.Tree.{Ops, no_ops, op, no_regions}
 use Rattle.xf_ir.specs.Count.{ops_count}
 use Rattle.xf_ir.specs.Walk.{ops_names, tree_names}
 use Rattle.xf_ir.specs.Places.{below, Seen, done, inside, sees}
-use Rattle.xf_ir.specs.Valid.{IsValid, IsNamedOnce, FitsRange, OpsInner, OpsHaveRegions, EndsHere, OpsEnd, OpsSee, Typed, type_or, type_at, OpsFit, OpsHaveAttributes, OpsInRange}
-use Rattle.xf_ir.specs.Kinds.{ends}
+use Rattle.xf_ir.specs.Types.{known}
+use Rattle.xf_ir.specs.Placed.{Typed, type_or, type_at, Holder, root_holder, placed}
+use Rattle.xf_ir.specs.RuleBlocks.{block_ends}
+use Rattle.xf_ir.specs.RuleTypes.{takes_gives}
+use Rattle.xf_ir.specs.RuleAttributes.{type_fits}
+use Rattle.xf_ir.specs.Valid.{IsValid, IsNamedOnce, HoldsFunctions, OpsInner}
+use Rattle.xf_ir.proofs.Obeys.{OpsObey, each_blocks}
+use Rattle.xf_ir.proofs.FirstBroken.{Local, no_violation}
+use Rattle.xf_ir.proofs.ViolationLaw.{clean_valid}
 use Rattle.xf_text.specs.Written.{Name, Literal, Line, constant, sum, Written, file_tokens}
 use Rattle.xf_text.specs.Spells.{i32, op_name, negative_bits, positive_bits, literal_bits, Scope, resolved, named, params_named, return_op, lines_meant, module_of}
 use Rattle.xf_text.specs.Form.{FirstOps, IsFirstForm}
@@ -154,70 +163,63 @@ known_named n ss env scope more (Some name) h e =
 
 -- ---- the operations of a block
 
--- all that a valid module asks of the operations of its function, which return an i32 and are numbered from n on
-record Sound (symbol : List ℕ) (ss : List Seen) (env : Typed) (n k : ℕ) (ops : Ops) : Type 0 where
+-- what holds the operations: a function that returns an i32
+abbrev here : List ℕ → Holder
+here symbol = record { kind = kind.Func symbol false (i32 ∷ []); gives = i32 ∷ [] }
+
+-- all that a valid module m asks of the operations of its function, which return an i32 and are numbered from n on
+record Sound (m : Module) (symbol : List ℕ) (ss : List Seen) (env : Typed) (n k : ℕ) (ops : Ops) : Type 0 where
   first : FirstOps ops
   inner : OpsInner ops
-  regions : OpsHaveRegions ops
   some : ops ≡ no_ops → ⊥
-  ends : OpsEnd (kind.Func symbol false (i32 ∷ [])) ops
-  sees : OpsSee ss ops
-  fits : OpsFit (kind.Func symbol false (i32 ∷ [])) env ops
-  attributes : OpsHaveAttributes ops
-  ranges : OpsInRange ops
+  ends : block_ends (kind.Func symbol false (i32 ∷ [])) ops ≡ true
+  rules : OpsObey (Local m) (here symbol) env ops
   names : ops_names ops ≡ names_from n k
   count : ops_count ops ≡ k
 
--- an operation that ends no block may stand before others
-inside_ends : (symbol : List ℕ) (k : Kind) (rest : Ops) → ends k ≡ false → (rest ≡ no_ops → ⊥) → EndsHere (kind.Func symbol false (i32 ∷ [])) k rest
-inside_ends symbol k no_ops e some = absurd (some refl)
-inside_ends symbol k (op n j ds os ts rs rest) e some = e
+-- an operation may stand before others that end the block
+ends_behind : (holder k : Kind) (n : OpName) (ds : List Attr) (os : List ValueName) (ts : List PayloadType) (rest : Ops) → (rest ≡ no_ops → ⊥) → block_ends holder rest ≡ true → block_ends holder (op n k ds os ts no_regions rest) ≡ true
+ends_behind holder k n ds os ts no_ops some h = absurd (some refl)
+ends_behind holder k n ds os ts (op n' k' ds' os' ts' rs' rest') some h = h
 
-sound_return : (symbol : List ℕ) (ss : List Seen) (env : Typed) (n : ℕ) (v : ValueName) → sees ss v ≡ true → type_at env v ≡ Some i32 → Sound symbol ss env n 1 (return_op n v)
-sound_return symbol ss env n v s t = record {
+sound_return : (m : Module) (symbol : List ℕ) (ss : List Seen) (env : Typed) (n : ℕ) (v : ValueName) → sees ss v ≡ true → type_at env v ≡ Some i32 → Sound m symbol ss env n 1 (return_op n v)
+sound_return m symbol ss env n v s t = record {
   first = (tt, (refl, tt));
   inner = (refl, (tt, tt));
-  regions = (refl, (tt, tt));
   some = λ e. cc;
-  ends = ((λ _. refl, λ e. cc), (tt, tt));
-  sees = ((s, tt), (tt, tt));
-  fits = ((ap (λ o. o ∷ []) t, refl), (tt, tt));
-  attributes = (record { own = tt; names = tt; different = tt; values = tt }, (tt, tt));
-  ranges = (tt, (tt, (tt, tt)));
+  ends = refl;
+  rules = ((refl, (refl, (rw t refl, (rw t refl, (refl, (refl, (refl, (refl, (refl, (refl, (refl, (refl, (refl, (refl, tt)))))))))))))), (tt, tt));
   names = refl;
   count = refl;
 }
 
+lt_test : (n m : ℕ) → n < m → nat_lt n m ≡ true
+lt_test n m lt = grind arith
+
 -- a constant before sound operations
-sound_constant : (symbol : List ℕ) (ss : List Seen) (env : Typed) (n k bits : ℕ) (rest : Ops) → bits < 2 ^ 32 → Sound symbol (seen_more n ss) (typed_more n env) (suc n) k rest
-    → Sound symbol ss env n (suc k) (op (op_name n) (kind.Constant I32 bits) [] [] (i32 ∷ []) no_regions rest)
-sound_constant symbol ss env n k bits rest fit h = record {
-  first = (refl, (refl, h.first));
-  inner = (refl, (tt, h.inner));
-  regions = (refl, (tt, h.regions));
-  some = λ e. cc;
-  ends = (inside_ends symbol (kind.Constant I32 bits) rest refl h.some, (tt, h.ends));
-  sees = (tt, (tt, h.sees));
-  fits = ((refl, refl), (tt, h.fits));
-  attributes = (record { own = fit; names = tt; different = tt; values = tt }, (tt, h.attributes));
-  ranges = ((tt, tt), (tt, (tt, h.ranges)));
-  names = ap (λ ns. op_name n ∷ ns) h.names;
-  count = let c = h.count in omega arith;
-}
+sound_constant : (m : Module) (symbol : List ℕ) (ss : List Seen) (env : Typed) (n k bits : ℕ) (rest : Ops) → bits < 2 ^ 32 → Sound m symbol (seen_more n ss) (typed_more n env) (suc n) k rest
+    → Sound m symbol ss env n (suc k) (op (op_name n) (kind.Constant I32 bits) [] [] (i32 ∷ []) no_regions rest)
+sound_constant m symbol ss env n k bits rest fit h =
+    let small : nat_lt bits (2 ^ 32) ≡ true = lt_test bits (2 ^ 32) fit in
+    record {
+      first = (refl, (refl, h.first));
+      inner = (refl, (tt, h.inner));
+      some = λ e. cc;
+      ends = ends_behind (kind.Func symbol false (i32 ∷ [])) (kind.Constant I32 bits) (op_name n) [] [] (i32 ∷ []) rest h.some h.ends;
+      rules = ((refl, (refl, (refl, (refl, (rw small refl, (refl, (refl, (refl, (refl, (refl, (refl, (refl, (refl, (refl, tt)))))))))))))), (tt, h.rules));
+      names = ap (λ ns. op_name n ∷ ns) h.names;
+      count = let c = h.count in omega arith;
+    }
 
 -- an addition before sound operations
-sound_sum : (symbol : List ℕ) (ss : List Seen) (env : Typed) (n k : ℕ) (a b : ValueName) (rest : Ops) → (sees ss a ≡ true) × (type_at env a ≡ Some i32) → (sees ss b ≡ true) × (type_at env b ≡ Some i32)
-    → Sound symbol (seen_more n ss) (typed_more n env) (suc n) k rest → Sound symbol ss env n (suc k) (op (op_name n) (kind.Binary Addi I32) [] (a ∷ b ∷ []) (i32 ∷ []) no_regions rest)
-sound_sum symbol ss env n k a b rest left right h = record {
+sound_sum : (m : Module) (symbol : List ℕ) (ss : List Seen) (env : Typed) (n k : ℕ) (a b : ValueName) (rest : Ops) → (sees ss a ≡ true) × (type_at env a ≡ Some i32) → (sees ss b ≡ true) × (type_at env b ≡ Some i32)
+    → Sound m symbol (seen_more n ss) (typed_more n env) (suc n) k rest → Sound m symbol ss env n (suc k) (op (op_name n) (kind.Binary Addi I32) [] (a ∷ b ∷ []) (i32 ∷ []) no_regions rest)
+sound_sum m symbol ss env n k a b rest left right h = record {
   first = ((refl, refl), (refl, h.first));
   inner = (refl, (tt, h.inner));
-  regions = (refl, (tt, h.regions));
   some = λ e. cc;
-  ends = (inside_ends symbol (kind.Binary Addi I32) rest refl h.some, (tt, h.ends));
-  sees = ((left.0, (right.0, tt)), (tt, h.sees));
-  fits = ((let p = left.1 in let q = right.1 in cc, refl), (tt, h.fits));
-  attributes = (record { own = tt; names = tt; different = tt; values = tt }, (tt, h.attributes));
-  ranges = ((tt, tt), (tt, (tt, h.ranges)));
+  ends = ends_behind (kind.Func symbol false (i32 ∷ [])) (kind.Binary Addi I32) (op_name n) [] (a ∷ b ∷ []) (i32 ∷ []) rest h.some h.ends;
+  rules = ((refl, (refl, (rw (left.1, right.1) refl, (rw (left.1, right.1) refl, (refl, (refl, (refl, (refl, (refl, (refl, (refl, (refl, (refl, (refl, tt)))))))))))))), (tt, h.rules));
   names = ap (λ ns. op_name n ∷ ns) h.names;
   count = let c = h.count in omega arith;
 }
@@ -226,24 +228,24 @@ sound_sum symbol ss env n k a b rest left right h = record {
 known_is : (ss : List Seen) (env : Typed) (scope : Scope) (name : Name) (v : ValueName) → Known ss env scope → resolved scope name ≡ Some v → (sees ss v ≡ true) × (type_at env v ≡ Some i32)
 known_is ss env scope name v h e = (h.seen name v e, h.typed name v e)
 
-lines_sound : (symbol : List ℕ) (ls : List Line) (ss : List Seen) (env : Typed) (scope : Scope) (n : ℕ) (operand : Name) (ops : Ops) → Known ss env scope → lines_meant scope n ls operand ≡ Some ops → Sound symbol ss env n (suc (length ls)) ops
-lines_sound symbol [] ss env scope n operand ops h e =
+lines_sound : (m : Module) (symbol : List ℕ) (ls : List Line) (ss : List Seen) (env : Typed) (scope : Scope) (n : ℕ) (operand : Name) (ops : Ops) → Known ss env scope → lines_meant scope n ls operand ≡ Some ops → Sound m symbol ss env n (suc (length ls)) ops
+lines_sound m symbol [] ss env scope n operand ops h e =
     let a = map_some (return_op n) (resolved scope operand) ops e in
     let v = known_is ss env scope operand a.0 h a.1 in
-    subst (Sound symbol ss env n 1) a.2 (sound_return symbol ss env n a.0 v.0 v.1)
-lines_sound symbol (constant name number ∷ ls) ss env scope n operand ops h e =
+    subst (Sound m symbol ss env n 1) a.2 (sound_return m symbol ss env n a.0 v.0 v.1)
+lines_sound m symbol (constant name number ∷ ls) ss env scope n operand ops h e =
     let a = then_some (λ bits. option_and_then (λ more. option_map (op (op_name n) (kind.Constant I32 bits) [] [] (i32 ∷ []) no_regions) (lines_meant more (suc n) ls operand)) (named scope name (Result (op_name n) 0))) (literal_bits number) ops e in
     let b = then_some (λ more. option_map (op (op_name n) (kind.Constant I32 a.0) [] [] (i32 ∷ []) no_regions) (lines_meant more (suc n) ls operand)) (named scope name (Result (op_name n) 0)) ops a.2 in
     let d = map_some (op (op_name n) (kind.Constant I32 a.0) [] [] (i32 ∷ []) no_regions) (lines_meant b.0 (suc n) ls operand) ops b.2 in
-    let later = lines_sound symbol ls (seen_more n ss) (typed_more n env) b.0 (suc n) operand d.0 (known_named n ss env scope b.0 name h b.1) d.1 in
-    subst (Sound symbol ss env n (suc (suc (length ls)))) d.2 (sound_constant symbol ss env n (suc (length ls)) a.0 d.0 (bits_fit number a.0 a.1) later)
-lines_sound symbol (sum name left right ∷ ls) ss env scope n operand ops h e =
+    let later = lines_sound m symbol ls (seen_more n ss) (typed_more n env) b.0 (suc n) operand d.0 (known_named n ss env scope b.0 name h b.1) d.1 in
+    subst (Sound m symbol ss env n (suc (suc (length ls)))) d.2 (sound_constant m symbol ss env n (suc (length ls)) a.0 d.0 (bits_fit number a.0 a.1) later)
+lines_sound m symbol (sum name left right ∷ ls) ss env scope n operand ops h e =
     let a = then_some (λ a. option_and_then (λ b. option_and_then (λ more. option_map (op (op_name n) (kind.Binary Addi I32) [] (a ∷ b ∷ []) (i32 ∷ []) no_regions) (lines_meant more (suc n) ls operand)) (named scope name (Result (op_name n) 0))) (resolved scope right)) (resolved scope left) ops e in
     let b = then_some (λ b. option_and_then (λ more. option_map (op (op_name n) (kind.Binary Addi I32) [] (a.0 ∷ b ∷ []) (i32 ∷ []) no_regions) (lines_meant more (suc n) ls operand)) (named scope name (Result (op_name n) 0))) (resolved scope right) ops a.2 in
     let d = then_some (λ more. option_map (op (op_name n) (kind.Binary Addi I32) [] (a.0 ∷ b.0 ∷ []) (i32 ∷ []) no_regions) (lines_meant more (suc n) ls operand)) (named scope name (Result (op_name n) 0)) ops b.2 in
     let g = map_some (op (op_name n) (kind.Binary Addi I32) [] (a.0 ∷ b.0 ∷ []) (i32 ∷ []) no_regions) (lines_meant d.0 (suc n) ls operand) ops d.2 in
-    let later = lines_sound symbol ls (seen_more n ss) (typed_more n env) d.0 (suc n) operand g.0 (known_named n ss env scope d.0 name h d.1) g.1 in
-    subst (Sound symbol ss env n (suc (suc (length ls)))) g.2 (sound_sum symbol ss env n (suc (length ls)) a.0 b.0 g.0 (known_is ss env scope left a.0 h a.1) (known_is ss env scope right b.0 h b.1) later)
+    let later = lines_sound m symbol ls (seen_more n ss) (typed_more n env) d.0 (suc n) operand g.0 (known_named n ss env scope d.0 name h d.1) g.1 in
+    subst (Sound m symbol ss env n (suc (suc (length ls)))) g.2 (sound_sum m symbol ss env n (suc (length ls)) a.0 b.0 g.0 (known_is ss env scope left a.0 h a.1) (known_is ss env scope right b.0 h b.1) later)
 
 -- ---- the arguments
 
@@ -252,7 +254,7 @@ abbrev args_seen : ℕ → List Seen
 args_seen count = inside (op_name 1) 0 count ∷ []
 
 abbrev args_typed : List PayloadType → Typed
-args_typed args = (inside (op_name 1) 0 (length args), args) ∷ (inside (op_name 0) 0 0, []) ∷ []
+args_typed args = (inside (op_name 1) 0 (length args), args) ∷ []
 
 i32_at : (ns : List Name) (i : ℕ) → i < length ns → slice_get (map (λ _. i32) ns) i ≡ Some i32
 i32_at [] i lt = absurd (omega arith)
@@ -290,13 +292,21 @@ all_i32 : (ns : List Name) → Each (λ t. t ≡ i32) (i32s ns)
 all_i32 [] = tt
 all_i32 (n ∷ ns) = (refl, all_i32 ns)
 
-all_in_range : (ns : List Name) → Each FitsRange (i32s ns)
-all_in_range [] = tt
-all_in_range (n ∷ ns) = (tt, all_in_range ns)
+all_in_range : (ns : List Name) → every type_fits (i32s ns) ≡ true
+all_in_range [] = refl
+all_in_range (n ∷ ns) = all_in_range ns
+
+bytes_pass : (bs : List ℕ) → Each (λ b. is_word_byte b ≡ true) bs → every is_word_byte bs ≡ true
+bytes_pass [] h = refl
+bytes_pass (b ∷ bs) h = rw h.0 (bytes_pass bs h.1)
+
+word_passes : (bs : List ℕ) → IsWord bs → is_word bs ≡ true
+word_passes [] h = absurd h
+word_passes (b ∷ bs) h = rw h.0 (bytes_pass bs h.1)
 
 -- the operations of a function that is meant
 abbrev IsBody : Written → Ops → Type 0
-IsBody w ops = Sound (drop 1 w.symbol) (args_seen (length (i32s w.params))) (args_typed (i32s w.params)) 2 (suc (length w.lines)) ops
+IsBody w ops = Sound (module_of w ops) (drop 1 w.symbol) (args_seen (length (i32s w.params))) (args_typed (i32s w.params)) 2 (suc (length w.lines)) ops
 
 body_sound : (w : Written) (scope : Scope) (ops : Ops) → params_named [] 0 w.params ≡ Some scope → lines_meant scope 2 w.lines w.operand ≡ Some ops → IsBody w ops
 body_sound w scope ops p e =
@@ -304,7 +314,7 @@ body_sound w scope ops p e =
     let env = args_typed (i32s w.params) in
     let n = i32s_length w.params in
     let known = params_known w.params ss env [] scope 0 (λ i lt. (arg_seen i (length (i32s w.params)) (omega arith), arg_typed w.params (i32s w.params) i refl (omega arith) (omega arith))) (nothing_known ss env) p in
-    lines_sound (drop 1 w.symbol) w.lines ss env scope 2 w.operand ops known e
+    lines_sound (module_of w ops) (drop 1 w.symbol) w.lines ss env scope 2 w.operand ops known e
 
 names_in_row : (x y : OpName) (xs : List OpName) → x ∷ ((y ∷ ((xs ++ []) ++ [])) ++ []) ≡ x ∷ y ∷ xs
 names_in_row x y xs = ap (λ ys. x ∷ ys) (append-nil (y ∷ ((xs ++ []) ++ [])) ∙ ap (λ ys. y ∷ ys) (append-nil (xs ++ []) ∙ append-nil xs))
@@ -319,17 +329,23 @@ module_named w ops h =
     let e = sym (module_names w ops h) in
     record { once = subst Once e (names_once 0 (length w.lines + 3)); below = subst (Each (λ n. n.0 < length w.lines + 3)) e (names_below 0 (length w.lines + 3) (length w.lines + 3) (omega arith)) }
 
+-- each operation of the module keeps each rule
+module_rules : (w : Written) (ops : Ops) → IsWord (drop 1 w.symbol) → IsBody w ops → Each (Local (module_of w ops)) (placed (module_of w ops))
+module_rules w ops symbol h =
+    let word : is_word (drop 1 w.symbol) ≡ true = word_passes (drop 1 w.symbol) symbol in
+    let ends : block_ends (kind.Func (drop 1 w.symbol) false (i32 ∷ [])) ops ≡ true = h.ends in
+    let range : every type_fits (i32s w.params) ≡ true = all_in_range w.params in
+    (
+      (refl, (refl, (refl, (refl, (refl, (refl, (refl, (refl, (refl, (refl, (refl, (refl, (refl, (refl, tt)))))))))))))),
+      each_blocks (Local (module_of w ops)) (root_holder (module_of w ops).root) (module_of w ops).root.regions
+      (((refl, (rw ends refl, (refl, (refl, (rw word refl, (refl, (refl, (refl, (refl, (refl, (refl, (refl, (rw range refl, (refl, tt)))))))))))))), ((h.rules, tt), tt)), tt),
+    )
+
+module_holds : (w : Written) (ops : Ops) → IsBody w ops → HoldsFunctions (module_of w ops)
+module_holds w ops h = record { root = refl; alone = ((refl, ((h.inner, tt), tt)), tt); names = (refl, tt) }
+
 module_valid : (w : Written) (ops : Ops) → IsWord (drop 1 w.symbol) → IsBody w ops → IsValid (module_of w ops)
-module_valid w ops symbol h = record {
-  names = module_named w ops h;
-  functions = record { root = tt; alone = (tt, ((h.inner, tt), tt)); names = (refl, tt) };
-  regions = record { root = (refl, refl); inner = ((refl, ((h.regions, tt), tt)), tt) };
-  blocks = record { ends = (λ _. refl, (((λ e. cc, λ _. refl), ((λ e. absurd (h.some e), (h.ends, tt)), tt)), tt)) };
-  uses = record { root = tt; functions = (tt, ((h.sees, tt), tt)) };
-  types = record { root = (refl, refl); inner = (((refl, refl), ((h.fits, tt), tt)), tt) };
-  attributes = record { root = record { own = tt; names = tt; different = tt; values = tt }; inner = ((record { own = symbol; names = tt; different = tt; values = tt }, ((h.attributes, tt), tt)), tt) };
-  ranges = record { root = tt; inner = (tt, ((tt, ((tt, tt), ((all_in_range w.params, (h.ranges, tt)), tt))), tt)) };
-}
+module_valid w ops symbol h = clean_valid (module_of w ops) (no_violation (module_of w ops) (module_named w ops h) (module_holds w ops h) (module_rules w ops symbol h))
 
 module_first : (w : Written) (ops : Ops) → IsWord (drop 1 w.symbol) → length w.params + length w.lines + 3 < 2 ^ 32 → IsBody w ops → IsFirstForm (module_of w ops)
 module_first w ops symbol fits h = record {
