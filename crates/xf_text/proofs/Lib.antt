@@ -22,3 +22,4 @@ pub mod SameBytes
 pub mod Scripts
 pub mod Stays
 pub mod Symbols
+pub mod Typing

@@ -16,7 +16,7 @@ use Rattle.xf_ir.specs.Tree.{op, no_ops, region, no_regions}
 use Rattle.xf_ir.specs.Words.{IsWord}
 use Rattle.xf_ir.specs.Lists.{Each}
 use Rattle.xf_ir.specs.Places.{Seen, done, inside, sees, results_of, args_of, below}
-use Rattle.xf_ir.specs.Valid.{OpsSee, OpsHaveAttributes}
+use Rattle.xf_ir.specs.Valid.{OpsSee}
 use Rattle.xf_text.specs.declared.token.Token.{Token}
 use Rattle.xf_text.specs.declared.token.TokenKind.TheVariants as token_kind
 use Rattle.xf_text.specs.Tokens.{Lexes}
@@ -25,7 +25,7 @@ use Rattle.xf_text.specs.Spells.{i32}
 use Rattle.xf_text.specs.Printed.{Naming, value_text, argument_text, listed, listed_more, type_text, param_texts, ops_lines, text_or, with_names, head_line, no_names, function_lines, functions_lines}
 use Rattle.xf_text.proofs.Stays.{Lays, whole, nothing, before, front, known_word, known_blanks, a_symbol, a_number, a_name, an_integer, a_negative, a_mark, free_token, breaks, decimal_digits, digits_are_names}
 use Rattle.xf_text.proofs.PrintingNumbers.{IsShort, signed_short}
-use Rattle.xf_text.proofs.PrintingSteps.{Steps, last, number, added, steps_ops, steps_count, literal_of, numbered, steps_lines, steps_given, argument_names, written_of}
+use Rattle.xf_text.proofs.PrintingSteps.{Steps, last, number, added, steps_ops, steps_count, StepsFit, literal_of, numbered, steps_lines, steps_given, argument_names, written_of}
 
 -- ---- words, marks and blanks
 
@@ -119,17 +119,17 @@ names_numbered : (n : OpName) (k : ℕ) (ss : List Seen) (names : Naming) → k 
 names_numbered n k ss names h w = record { by = λ v seen. name_at (results_of n 1 v) (λ _. value_text k) ss names v w (λ i e. value_lays k h) seen }
 
 -- the lines of a block's operations, before others
-pub steps_lay : (s : Steps) (ss : List Seen) (names : Naming) (k : ℕ) (lines : List (List ℕ)) (us : List Token) → k + steps_count s ≤ 2 ^ 64 → OpsSee ss (steps_ops s) → OpsHaveAttributes (steps_ops s) → NamesLay ss names
+pub steps_lay : (s : Steps) (ss : List Seen) (names : Naming) (k : ℕ) (lines : List (List ℕ)) (us : List Token) → k + steps_count s ≤ 2 ^ 64 → OpsSee ss (steps_ops s) → StepsFit s → NamesLay ss names
     → LinesLay lines us → LinesLay (ops_lines names (i32 ∷ []) k (steps_ops s) ++ lines) (lines_tokens (steps_lines names k s) ++ (return_tokens true (steps_given names k s) ++ us))
 steps_lay (last n v) ss names k lines us room see have w l =
     line_first (codes "    " ++ (codes "func.return " ++ (listed (names v ∷ []) ++ codes " : i32"))) lines (return_tokens true (names v)) us (ended (front (known_blanks (codes "    ") refl) (return_lays (names v) (w.by v see.0.0)))) l
 steps_lay (number n bits rest) ss names k lines us room see have w l =
-    let more = steps_lay rest (done n 1 ∷ ss) (numbered n k names) (suc k) lines us (omega arith) see.1.1 have.1.1 (names_numbered n k ss names (omega arith) w) l in
-    let line = result_line_lays k _ _ (omega arith) (constant_lays (signed_value I32 bits) (signed_short bits have.0.own)) in
+    let more = steps_lay rest (done n 1 ∷ ss) (numbered n k names) (suc k) lines us (omega arith) see.1.1 have.1 (names_numbered n k ss names (omega arith) w) l in
+    let line = result_line_lays k _ _ (omega arith) (constant_lays (signed_value I32 bits) (signed_short bits have.0)) in
     let here = line_tokens (constant (Some (value_text k)) (literal_of (signed_value I32 bits))) in
     rw (append_assoc here (lines_tokens (steps_lines (numbered n k names) (suc k) rest)) (return_tokens true (steps_given (numbered n k names) (suc k) rest) ++ us)) (front line more)
 steps_lay (added n a b rest) ss names k lines us room see have w l =
-    let more = steps_lay rest (done n 1 ∷ ss) (numbered n k names) (suc k) lines us (omega arith) see.1.1 have.1.1 (names_numbered n k ss names (omega arith) w) l in
+    let more = steps_lay rest (done n 1 ∷ ss) (numbered n k names) (suc k) lines us (omega arith) see.1.1 have (names_numbered n k ss names (omega arith) w) l in
     let line = result_line_lays k _ _ (omega arith) (sum_lays (names a) (names b) (w.by a see.0.0) (w.by b see.0.1.0)) in
     front line more
 
@@ -194,7 +194,7 @@ closed_lays = line_first (codes "  }") [] (mark 125 ∷ []) [] (ended (front (kn
 
 -- the lines of a function
 function_lays : (n : OpName) (symbol : List ℕ) (args : List PayloadType) (s : Steps) → IsWord symbol → Each (λ t. t ≡ i32) args → length args < 2 ^ 32 → steps_count s ≤ 2 ^ 64
-    → OpsSee (inside n 0 (length args) ∷ []) (steps_ops s) → OpsHaveAttributes (steps_ops s)
+    → OpsSee (inside n 0 (length args) ∷ []) (steps_ops s) → StepsFit s
     → LinesLay (function_lines n (kind.Func symbol false (i32 ∷ [])) (region args (steps_ops s) no_regions)) (function_tokens (written_of symbol args (first_names n args) s))
 function_lays n symbol args s h same short room see have =
     let names = first_names n args in
@@ -206,7 +206,7 @@ function_lays n symbol args s h same short room see have =
 
 -- the module's lines
 module_lay : (n : OpName) (symbol : List ℕ) (args : List PayloadType) (s : Steps) → IsWord symbol → Each (λ t. t ≡ i32) args → length args < 2 ^ 32 → steps_count s ≤ 2 ^ 64
-    → OpsSee (inside n 0 (length args) ∷ []) (steps_ops s) → OpsHaveAttributes (steps_ops s)
+    → OpsSee (inside n 0 (length args) ∷ []) (steps_ops s) → StepsFit s
     → LinesLay (codes "module {" ∷ (functions_lines (op n (kind.Func symbol false (i32 ∷ [])) [] [] [] (region args (steps_ops s) no_regions) no_ops) ++ codes "}" ∷ [])) (file_tokens (written_of symbol args (first_names n args) s))
 module_lay n symbol args s h same short room see have =
     let first = function_lays n symbol args s h same short room see have in
@@ -218,7 +218,7 @@ module_lay n symbol args s h same short room see have =
 
 -- the whole text
 pub text_lexes : (n : OpName) (symbol : List ℕ) (args : List PayloadType) (s : Steps) → IsWord symbol → Each (λ t. t ≡ i32) args → length args < 2 ^ 32 → steps_count s ≤ 2 ^ 64
-    → OpsSee (inside n 0 (length args) ∷ []) (steps_ops s) → OpsHaveAttributes (steps_ops s)
+    → OpsSee (inside n 0 (length args) ∷ []) (steps_ops s) → StepsFit s
     → Lexes (flat_map (λ line. line ++ 10 ∷ []) (codes "module {" ∷ (functions_lines (op n (kind.Func symbol false (i32 ∷ [])) [] [] [] (region args (steps_ops s) no_regions) no_ops) ++ codes "}" ∷ []))) (file_tokens (written_of symbol args (first_names n args) s))
 text_lexes n symbol args s h same short room see have =
     whole _ _ (module_lay n symbol args s h same short room see have)

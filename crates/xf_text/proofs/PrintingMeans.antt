@@ -6,11 +6,11 @@ use Rattle.xf_ir.specs.declared.name.OpName.{OpName}
 use Rattle.xf_ir.specs.declared.name.ValueName.TheVariants.{Result}
 use Rattle.xf_ir.specs.Lists.{same_name, is_among, Once}
 use Rattle.xf_ir.specs.Places.{Seen, done}
-use Rattle.xf_ir.specs.Valid.{OpsSee, OpsHaveAttributes}
+use Rattle.xf_ir.specs.Valid.{OpsSee}
 use Rattle.xf_text.specs.Spells.{Scope, op_name, lines_meant}
 use Rattle.xf_text.specs.Printed.{Naming, value_text}
 use Rattle.xf_text.specs.Renamed.{value_renamed, ops_renamed}
-use Rattle.xf_text.proofs.PrintingSteps.{Steps, last, number, added, steps_ops, steps_count, steps_lines, steps_given, numbered}
+use Rattle.xf_text.proofs.PrintingSteps.{Steps, last, number, added, steps_ops, steps_count, StepsFit, steps_lines, steps_given, numbered}
 use Rattle.xf_text.proofs.PrintingNumbers.{literal_again}
 use Rattle.xf_text.proofs.PrintingNames.{Knows, Clear, knows_result, clear_result, new_named}
 
@@ -53,14 +53,14 @@ steps_names (last n v) = n ∷ []
 steps_names (number n bits rest) = n ∷ steps_names rest
 steps_names (added n a b rest) = n ∷ steps_names rest
 
-pub steps_again : (s : Steps) (ss : List Seen) (names : Naming) (k a i : ℕ) (scope : Scope) (f : OpName → OpName) → k + steps_count s ≤ 2 ^ 64 → OpsSee ss (steps_ops s) → OpsHaveAttributes (steps_ops s)
+pub steps_again : (s : Steps) (ss : List Seen) (names : Naming) (k a i : ℕ) (scope : Scope) (f : OpName → OpName) → k + steps_count s ≤ 2 ^ 64 → OpsSee ss (steps_ops s) → StepsFit s
     → Numbers f i (steps_names s) → Knows ss names scope (value_renamed f) → Clear k a scope
     → lines_meant scope i (steps_lines names k s) (steps_given names k s) ≡ Some (ops_renamed f (steps_ops s))
 steps_again (last n v) ss names k a i scope f room see have numbers w c = let e = w.by v see.0.0 in let g = numbers.0 in rw (e, g) refl
 steps_again (number n bits rest) ss names k a i scope f room see have numbers w c =
-    let e = literal_again bits have.0.own in
+    let e = literal_again bits have.0 in
     let d = new_named scope (value_text k) (Result (op_name i) 0) (c.values k (omega arith) (omega arith)) in
-    let more = steps_again rest (done n 1 ∷ ss) (numbered n k names) (suc k) a (suc i) ((value_text k, Result (op_name i) 0) ∷ scope) f (omega arith) see.1.1 have.1.1 numbers.1
+    let more = steps_again rest (done n 1 ∷ ss) (numbered n k names) (suc k) a (suc i) ((value_text k, Result (op_name i) 0) ∷ scope) f (omega arith) see.1.1 have.1 numbers.1
     (knows_result n i k a ss names scope f (omega arith) numbers.0 w c) (clear_result k a scope _ (omega arith) c) in
     let g = numbers.0 in
     rw (e, d, more, g) refl
@@ -68,7 +68,7 @@ steps_again (added n x y rest) ss names k a i scope f room see have numbers w c 
     let p = w.by x see.0.0 in
     let q = w.by y see.0.1.0 in
     let d = new_named scope (value_text k) (Result (op_name i) 0) (c.values k (omega arith) (omega arith)) in
-    let more = steps_again rest (done n 1 ∷ ss) (numbered n k names) (suc k) a (suc i) ((value_text k, Result (op_name i) 0) ∷ scope) f (omega arith) see.1.1 have.1.1 numbers.1
+    let more = steps_again rest (done n 1 ∷ ss) (numbered n k names) (suc k) a (suc i) ((value_text k, Result (op_name i) 0) ∷ scope) f (omega arith) see.1.1 have numbers.1
     (knows_result n i k a ss names scope f (omega arith) numbers.0 w c) (clear_result k a scope _ (omega arith) c) in
     let g = numbers.0 in
     rw (p, q, d, more, g) refl

@@ -1,5 +1,5 @@
 -- A block of the first form as a list of steps, and how it is written when it is printed.
-use Rattle.std.proofs.Common.{ℕ, suc, List, [], ◌∷◌, Some, true, false}
+use Rattle.std.proofs.Common.{ℕ, suc, ◌^◌, ◌<◌, List, [], ◌∷◌, Some, true, false}
 use Rattle.std.specs.Prelude.{ℤ, pos, negsuc}
 use Rattle.std.specs.Fmt.{decimal}
 use Rattle.xf_type.specs.Integers.{signed_value}
@@ -31,6 +31,12 @@ abbrev pub steps_count : Steps → ℕ
 steps_count (last n v) = 1
 steps_count (number n bits rest) = suc (steps_count rest)
 steps_count (added n a b rest) = suc (steps_count rest)
+
+-- the numbers have 32 bits
+abbrev pub StepsFit : Steps → Type 0
+StepsFit (last n v) = Unit {0}
+StepsFit (number n bits rest) = (bits < 2 ^ 32) × StepsFit rest
+StepsFit (added n a b rest) = StepsFit rest
 
 -- ---- how they are written
 

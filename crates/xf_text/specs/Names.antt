@@ -1,5 +1,5 @@
 -- What is printed for each value of a function so far.
-use Rattle.std.specs.Prelude.{ℕ, ◌≤◌, ◌==◌, List, [], ◌∷◌, ◌++◌, length, Option, Some, None, if◌then◌else◌}
+use Rattle.std.specs.Prelude.{◌≡◌, ℕ, ◌≤◌, ◌==◌, List, [], ◌∷◌, ◌++◌, length, Option, Some, None, true, if◌then◌else◌}
 use Rattle.std.specs.Ordering.{nat_cmp}
 use Rattle.std.specs.List.{flat_map}
 use Rattle.std.specs.BTreeMap.{get}
@@ -9,7 +9,8 @@ use Rattle.xf_ir.specs.declared.kind.Kind.{Kind}
 use Rattle.xf_ir.specs.declared.name.ValueName.TheVariants.{Result, Arg, Free}
 use Rattle.xf_ir.specs.Places.{args_of}
 use Rattle.xf_ir.specs.Tree.{Ops, no_ops, op, no_regions, region}
-use Rattle.xf_ir.specs.Valid.{HasOwnAttributes, block_of}
+use Rattle.xf_ir.specs.Placed.{block_of}
+use Rattle.xf_ir.specs.RuleAttributes.{kind_fits}
 use Rattle.xf_text.specs.declared.names.Names.{Names}
 use Rattle.xf_text.specs.Printed.{Naming, value_text, argument_text, text_or, function_lines}
 
@@ -26,7 +27,7 @@ naming names (Free num) = []
 -- each operation has at most one result, and constants are numbers of their width
 abbrev pub OpsPrint : Ops → Type 0
 OpsPrint no_ops = Unit {0}
-OpsPrint (op n k ds os ts rs rest) = (length ts ≤ 1) × (HasOwnAttributes k × OpsPrint rest)
+OpsPrint (op n k ds os ts rs rest) = (length ts ≤ 1) × ((kind_fits k ≡ true) × OpsPrint rest)
 
 -- so have the operations of each function
 abbrev pub FunctionsPrint : Ops → Type 0

@@ -1,7 +1,7 @@
 //! The printed lines of operations and functions, each appended to the line so far. They refuse for want of memory alone.
-ghost use Rattle.std.specs.Prelude.{◌≡◌, ◌≤◌, ◌++◌, OnOk, length, map, [], ◌∷◌, codes};
-ghost use Rattle.xf_ir.specs.Valid.{HasOwnAttributes};
+ghost use Rattle.std.specs.Prelude.{◌≡◌, ◌≤◌, ◌++◌, OnOk, length, map, [], ◌∷◌, true, codes};
 ghost use Rattle.xf_ir.specs.Kinds.{returned_types};
+ghost use Rattle.xf_ir.specs.RuleAttributes.{kind_fits};
 ghost use Rattle.xf_text.specs.Names.{naming};
 ghost use Rattle.xf_text.specs.Printed.{listed, param_texts, op_text, result_text, head_line, argument_text, type_text};
 
@@ -34,7 +34,7 @@ fn write_kind(
     operands: &[ValueName],
     line: &mut Vec<u8>,
 ) -> Result<(), NoMemory>
-    requires { HasOwnAttributes kind.now }
+    requires { kind_fits kind.now ≡ true }
     ensures { OnOk result (line.new.items
         ≡ line.old.items ++ op_text (naming names.now) returned.now kind.now operands.now) }
 {
@@ -70,7 +70,7 @@ pub fn write_op(
     op: &Op,
     line: &mut Vec<u8>,
 ) -> Result<(), NoMemory>
-    requires { HasOwnAttributes op.now.kind }
+    requires { kind_fits op.now.kind ≡ true }
     ensures { OnOk result (line.new.items ≡ line.old.items ++ (codes "    "
         ++ (result_text number op.now.results
         ++ op_text (naming names.now) returned.now op.now.kind op.now.operands)

@@ -1,9 +1,10 @@
 //! The printed form of a module, written line by line.
-ghost use Rattle.std.specs.Prelude.{◌≡◌, ◌≤◌, ◌<◌, ◌+◌, ◌^◌, ◌++◌, OnOk, IfOk, length, [], ◌∷◌, codes};
+ghost use Rattle.std.specs.Prelude.{◌≡◌, ◌≤◌, ◌<◌, ◌+◌, ◌^◌, ◌++◌, OnOk, IfOk, length, [], ◌∷◌, true, codes};
 ghost use Rattle.std.specs.List.{flat_map};
 ghost use Rattle.xf_host.specs.Writes.{WritesText, FailsByCount};
 ghost use Rattle.xf_ir.specs.Places.{results_of};
-ghost use Rattle.xf_ir.specs.Valid.{HasOwnAttributes, block_of, functions_of};
+ghost use Rattle.xf_ir.specs.Placed.{block_of, functions_of};
+ghost use Rattle.xf_ir.specs.RuleAttributes.{kind_fits};
 ghost use Rattle.xf_ir.specs.Kinds.{returned_types};
 ghost use Rattle.xf_ir.specs.View.{ops_of};
 ghost use Rattle.xf_text.specs.Form.{IsFirstForm};
@@ -47,7 +48,7 @@ fn next_line(
     op: &Op,
     line: &mut Vec<u8>,
 ) -> Result<u64, NoMemory>
-    requires attributes { HasOwnAttributes op.now.kind }
+    requires attributes { kind_fits op.now.kind ≡ true }
     requires results { length op.now.results ≤ 1 }
     requires room { number + 1 < 2 ^ 64 }
     ensures next { IfOk result (λ next. next ≡ next_number number op.now.results) }
