@@ -1,6 +1,6 @@
 -- The shape of a valid module of the first form.
-use Rattle.std.proofs.Common.{◌≡◌, ℕ, Bool, true, false, List, [], ◌∷◌, length, Option, None, refl, sym, ap, subst, ◌∙◌}
-use Rattle.std.specs.Prelude.{map, ◌&&◌, ◌||◌, if◌then◌else◌}
+use Rattle.std.proofs.Common.{◌≡◌, ℕ, Bool, true, false, List, [], ◌∷◌, Option, refl, sym, ap, subst, ◌∙◌}
+use Rattle.std.specs.Prelude.{map, ◌||◌, if◌then◌else◌}
 use Rattle.std.proofs.lemmas.Bool.{and_parts}
 use Rattle.xf_type.specs.declared.payload_type.Width.TheVariants.{I32}
 use Rattle.xf_type.specs.declared.payload_type.PayloadType.{PayloadType}
@@ -16,7 +16,7 @@ use Rattle.xf_ir.specs.Placed.{Typed, type_at, Holder, Placed, block_of}
 use Rattle.xf_ir.specs.Kinds.{is_endless, ends_for}
 use Rattle.xf_ir.specs.Calls.{Signatures}
 use Rattle.xf_ir.specs.RuleBlocks.{block_args, blocks_fit, is_end, block_ends, blocks_end, stands_at_end, has_its_regions, ends_its_blocks}
-use Rattle.xf_ir.specs.RuleTypes.{row_of, has_its_types}
+use Rattle.xf_ir.specs.RuleTypes.{has_its_types}
 use Rattle.xf_ir.proofs.Obeys.{Passes, OpsObey, RegionsObey, FunctionsObey, BlocksObey}
 use Rattle.xf_text.specs.Spells.{i32}
 use Rattle.xf_text.specs.Form.{IsFirstKind, FirstOps, FirstFunctions, IsFirstHead, FirstBlock}
