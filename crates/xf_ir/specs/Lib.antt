@@ -2,12 +2,15 @@ pub mod Lists
 pub mod Words
 pub mod Tree
 pub mod View
+pub mod Snippets
 pub mod Count
 pub mod Walk
 pub mod Places
 pub mod Valid
 pub mod Spots
+pub mod Bounds
 pub mod Changes
+pub mod Attributes
 pub mod Edits
 pub mod Choices
 pub mod Laws
