@@ -115,14 +115,14 @@ mutual
       rw (a, b) refl
 
 -- the root as the one operation of a block
-abbrev alone : Tree → Ops
+abbrev pub alone : Tree → Ops
 alone t = cons t no_ops
 
 operand_found : (o : Option Tree) (c : Change) → operand_of o c.operand ≡ Some c.old → (t : Tree) × ((o ≡ Some t) × HasOld c t)
 operand_found None c h = absurd (cc)
 operand_found (Some t) c h = (t, (refl, h))
 
-find_alone : (n : OpName) (root t : Tree) → tree_find n root ≡ Some t → ops_find n (alone root) ≡ Some t
+pub find_alone : (n : OpName) (root t : Tree) → tree_find n root ≡ Some t → ops_find n (alone root) ≡ Some t
 find_alone n root t h =
     elim (cases_Bool (eqb root.name.0 n.0)) [
       | inl e ↦ (let z = rw e at h in rw e z)
@@ -133,11 +133,11 @@ no_more : (ns : List OpName) → ns ++ [] ≡ ns
 no_more [] = refl
 no_more (n ∷ ns) = ap (λ (ms : List OpName). n ∷ ms) (no_more ns)
 
-abbrev first_or : Tree → Ops → Tree
+abbrev pub first_or : Tree → Ops → Tree
 first_or t no_ops = t
 first_or t (op n k ds os ts rs rest) = tree n k ds os ts rs
 
-once_alone : (root : Tree) → Once (tree_names root) → Once (ops_names (alone root))
+pub once_alone : (root : Tree) → Once (tree_names root) → Once (ops_names (alone root))
 once_alone root o = subst Once (ap (λ (ns : List OpName). root.name ∷ ns) (sym (no_more (regions_names root.regions)))) o
 
 -- the changes back lead back

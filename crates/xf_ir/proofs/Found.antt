@@ -199,7 +199,7 @@ none_of None o' h = (refl, h)
 none_of (Some x) o' h = absurd (cc)
 
 mutual
-  none_name : (name : OpName) (ops : Ops) → ops_find name ops ≡ None → is_among name (ops_names ops) ≡ false
+  pub none_name : (name : OpName) (ops : Ops) → ops_find name ops ≡ None → is_among name (ops_names ops) ≡ false
   none_name name no_ops h = refl
   none_name name (op n k ds os ts rs rest) h =
       elim (cases_Bool (eqb n.0 name.0)) [
@@ -210,7 +210,7 @@ mutual
             (not_both name (regions_names rs) (ops_names rest) (none_name_regions name rs p.0) (none_name name rest p.1)))
       ]
 
-  none_name_regions : (name : OpName) (rs : Regions) → regions_find name rs ≡ None → is_among name (regions_names rs) ≡ false
+  pub none_name_regions : (name : OpName) (rs : Regions) → regions_find name rs ≡ None → is_among name (regions_names rs) ≡ false
   none_name_regions name no_regions h = refl
   none_name_regions name (region args ops rest) h =
       let p = none_of (ops_find name ops) (regions_find name rest) h in

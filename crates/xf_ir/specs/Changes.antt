@@ -62,3 +62,22 @@ PlacesOnce (c ∷ cs) = (is_place_among c cs ≡ false) × PlacesOnce cs
 pub record FitsChanges (root : Tree) (cs : List Change) : Type 0 where
   pub once : PlacesOnce cs
   pub old : Each (λ c. operand_of (tree_find c.op root) c.operand ≡ Some c.old) cs
+
+-- ---- attributes
+
+-- the attribute lists of the operations of a name, changed by f
+abbrev mutual
+  pub ops_attributed : OpName → (List Attr → List Attr) → Ops → Ops
+  ops_attributed name f no_ops = no_ops
+  ops_attributed name f (op n k ds os ts rs rest) =
+      op n k (if n.0 == name.0 then f ds else ds) os ts (regions_attributed name f rs) (ops_attributed name f rest)
+
+  pub regions_attributed : OpName → (List Attr → List Attr) → Regions → Regions
+  regions_attributed name f no_regions = no_regions
+  regions_attributed name f (region args ops rest) = region args (ops_attributed name f ops) (regions_attributed name f rest)
+
+abbrev pub tree_attributed : OpName → (List Attr → List Attr) → Tree → Tree
+tree_attributed name f t = record t { attrs = if t.name.0 == name.0 then f t.attrs else t.attrs; regions = regions_attributed name f t.regions }
+
+abbrev pub body_attributed : OpName → (List Attr → List Attr) → Body → Body
+body_attributed name f b = record b { ops = ops_attributed name f b.ops }

@@ -2,7 +2,7 @@
 use Rattle.std.specs.Prelude.{◌≡◌, ℕ, ◌+◌, ◌-◌, ◌^◌, List, [], ◌∷◌, length, map, slice_get, Option, None, Some, Bool, true, false, min, nat_lt, ◌==◌, if◌then◌else◌}
 use Rattle.xf_ir.specs.declared.name.OpName.{OpName}
 use Rattle.xf_ir.specs.declared.edit.Edit.{Edit}
-use Rattle.xf_ir.specs.declared.edit.Edit.TheVariants.{Insert, Erase, ReplaceUses, Replace, Restore}
+use Rattle.xf_ir.specs.declared.edit.Edit.TheVariants.{Insert, Erase, ReplaceUses, Replace, Restore, Move, SetAttr}
 use Rattle.xf_ir.specs.declared.op.Module.{Module}
 use Rattle.xf_ir.specs.Tree.{Ops, no_ops, op, Regions, no_regions, region, Tree}
 use Rattle.xf_ir.specs.declared.name.ValueName.{ValueName}
@@ -10,10 +10,12 @@ use Rattle.xf_ir.specs.declared.name.ValueName.TheVariants.{Result, Arg, Free}
 use Rattle.xf_ir.specs.declared.change.Change.{Change}
 use Rattle.xf_ir.specs.declared.spot.Spot.{Spot}
 use Rattle.xf_ir.specs.declared.spot.Located.{Located}
-use Rattle.xf_ir.specs.Walk.{regions_find, tree_names}
+use Rattle.xf_ir.specs.Walk.{regions_find, tree_find, tree_names}
 use Rattle.xf_ir.specs.Lists.{Each, is_among}
-use Rattle.xf_ir.specs.Spots.{tree_locate, tree_put, IsSpot}
-use Rattle.xf_ir.specs.Changes.{tree_changed, turned, FitsChanges}
+use Rattle.xf_ir.specs.Spots.{tree_locate, spot_at, spot_or, tree_put, IsSpot}
+use Rattle.xf_ir.specs.Changes.{tree_changed, turned, FitsChanges, tree_attributed}
+use Rattle.xf_ir.specs.Attributes.{IsSortedByName, attr_set, attr_at}
+use Rattle.xf_type.specs.declared.attribute.AttrValue.{AttrValue}
 use Rattle.xf_ir.specs.Valid.{IsNamedOnce, SeesItsUses}
 
 -- where the operation of this name begins the rest of its block, that rest is changed by f
@@ -45,6 +47,14 @@ abbrev pub next_above : ℕ → List OpName → ℕ
 next_above next [] = next
 next_above next (n ∷ ns) = next_above (if nat_lt n.0 next then next else min (n.0 + 1) (2 ^ 64 - 1)) ns
 
+-- a tree with the operation of that name taken out and put at a spot of what is left
+abbrev pub moved : OpName → Spot → Option Tree → Tree → Tree
+moved name to None root = root
+moved name to (Some t) root = tree_put to t (tree_erased name root)
+
+abbrev pub tree_moved : OpName → Spot → Tree → Tree
+tree_moved name to root = moved name to (regions_find name root.regions) root
+
 -- the module after an edit
 abbrev pub edited : Module → Edit → Module
 edited m (Insert tree at) = record { root = tree_put at tree m.root; next = next_above m.next (tree_names tree) }
@@ -52,6 +62,8 @@ edited m (Erase name) = record m { root = tree_erased name m.root }
 edited m (ReplaceUses changes) = record m { root = tree_changed changes m.root }
 edited m (Replace name by changes) = record m { root = tree_erased name (tree_changed changes m.root) }
 edited m (Restore tree at by changes) = record m { root = tree_changed changes (tree_put at tree m.root) }
+edited m (Move name to) = record m { root = tree_moved name to m.root }
+edited m (SetAttr name key value) = record m { root = tree_attributed name (attr_set key value) m.root }
 
 abbrev pub put_back : OpName → Option Located → Edit
 put_back name None = Erase name
@@ -68,6 +80,8 @@ inverse_of m (Erase name) = put_back name (tree_locate name m.root)
 inverse_of m (ReplaceUses changes) = ReplaceUses (map turned changes)
 inverse_of m (Replace name by changes) = restore name by changes (tree_locate name (tree_changed changes m.root))
 inverse_of m (Restore tree at by changes) = Replace tree.name by (map turned changes)
+inverse_of m (Move name to) = Move name (spot_or to (spot_at (tree_locate name m.root)))
+inverse_of m (SetAttr name key value) = SetAttr name key (attr_at key (tree_find name m.root))
 
 -- the module after edits, one after another
 abbrev pub replayed : Module → List Edit → Module
@@ -81,6 +95,8 @@ wants_memory (Erase name) = false
 wants_memory (ReplaceUses changes) = true
 wants_memory (Replace name by changes) = true
 wants_memory (Restore tree at by changes) = true
+wants_memory (Move name to) = true
+wants_memory (SetAttr name key value) = true
 
 -- the tree has new names and its spot is one of the module, and after it names occur once and each use is of a visible value
 pub record FitsInsert (m : Module) (tree : Tree) (at : Spot) : Type 0 where
@@ -139,6 +155,22 @@ pub record FitsRestore (m : Module) (tree : Tree) (at : Spot) (by : List ValueNa
   pub names : IsNamedOnce (edited m (Restore tree at by changes))
   pub uses : SeesItsUses (edited m (Restore tree at by changes))
 
+-- the operation is in the module below the root, its spot is one of the tree without it, and after it names occur once and each use is of a visible value
+pub record FitsMove (m : Module) (name : OpName) (to : Spot) : Type 0 where
+  pub tree : Tree
+  pub inside : regions_find name m.root.regions ≡ Some tree
+  pub spot : IsSpot to (tree_erased name m.root)
+  pub names : IsNamedOnce (edited m (Move name to))
+  pub uses : SeesItsUses (edited m (Move name to))
+
+-- the operation is in the module, its attributes are sorted by their names, and after it names occur once and each use is of a visible value
+pub record FitsSetAttr (m : Module) (name : OpName) (key : List ℕ) (value : Option AttrValue) : Type 0 where
+  pub tree : Tree
+  pub found : tree_find name m.root ≡ Some tree
+  pub sorted : IsSortedByName tree.attrs
+  pub names : IsNamedOnce (edited m (SetAttr name key value))
+  pub uses : SeesItsUses (edited m (SetAttr name key value))
+
 -- the edit may be made in the module
 abbrev pub FitsEdit : Module → Edit → Type 0
 FitsEdit m (Insert tree at) = FitsInsert m tree at
@@ -146,3 +178,5 @@ FitsEdit m (Erase name) = FitsErase m name
 FitsEdit m (ReplaceUses changes) = FitsReplaceUses m changes
 FitsEdit m (Replace name by changes) = FitsReplace m name by changes
 FitsEdit m (Restore tree at by changes) = FitsRestore m tree at by changes
+FitsEdit m (Move name to) = FitsMove m name to
+FitsEdit m (SetAttr name key value) = FitsSetAttr m name key value

@@ -1,5 +1,7 @@
 -- Laws of valid modules and of erasing what may be erased.
-use Rattle.std.specs.Prelude.{◌≡◌, ◌+◌, ◌<◌, ◌≤◌, ◌↔◌, None}
+use Rattle.std.specs.Prelude.{◌≡◌, ℕ, ◌+◌, ◌<◌, ◌≤◌, ◌↔◌, List, Option, None}
+use Rattle.xf_type.specs.declared.attribute.AttrValue.{AttrValue}
+use Rattle.xf_ir.specs.declared.kind.Attr.{Attr}
 use Rattle.xf_ir.specs.declared.name.OpName.{OpName}
 use Rattle.xf_ir.specs.declared.edit.Edit.{Edit}
 use Rattle.xf_ir.specs.declared.edit.Edit.TheVariants.{Erase}
@@ -7,6 +9,7 @@ use Rattle.xf_ir.specs.declared.op.Module.{Module}
 use Rattle.xf_ir.specs.Count.{tree_count}
 use Rattle.xf_ir.specs.Places.{FunctionsScoped}
 use Rattle.xf_ir.specs.Valid.{IsNamedOnce, IsValid, functions_of}
+use Rattle.xf_ir.specs.Attributes.{IsSortedByName, attr_set}
 use Rattle.xf_ir.specs.Edits.{edited, inverse_of, FitsEdit}
 use Rattle.xf_ir.specs.Violations.{first_violation}
 use Rattle.xf_ir.specs.Choices.{MayErase, weight_at}
@@ -38,3 +41,7 @@ ErasingLowersCount = (m : Module) (target name : OpName) → IsValid m → MayEr
 -- where names occur once, the inverse of an edit that fits leads back to the module's tree
 abbrev pub InverseLeadsBack : Type 0
 InverseLeadsBack = (m : Module) (e : Edit) → IsNamedOnce m → FitsEdit m e → (edited (edited m e) (inverse_of m e)).root ≡ m.root
+
+-- an attribute that is given a value or taken away leaves attributes sorted by their names
+abbrev pub SettingKeepsSorted : Type 0
+SettingKeepsSorted = (key : List ℕ) (value : Option AttrValue) (ds : List Attr) → IsSortedByName ds → IsSortedByName (attr_set key value ds)

@@ -2,6 +2,8 @@ pub mod Lists
 pub mod Words
 pub mod Tree
 pub mod View
+pub mod Snippets
+pub mod Attributes
 pub mod Count
 pub mod Walk
 pub mod Kinds
@@ -19,6 +21,7 @@ pub mod Valid
 pub mod Violations
 pub mod Spelling
 pub mod Spots
+pub mod Bounds
 pub mod Changes
 pub mod Edits
 pub mod Choices

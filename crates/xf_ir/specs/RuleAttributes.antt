@@ -17,6 +17,7 @@ use Rattle.xf_ir.specs.declared.kind.Attr.{Attr}
 use Rattle.xf_ir.specs.Kinds.{returned_types}
 use Rattle.xf_ir.specs.Lists.{every, is_empty}
 use Rattle.xf_ir.specs.Words.{is_word}
+use Rattle.xf_ir.specs.Attributes.{bytes_before}
 use Rattle.xf_ir.specs.Types.{same_width, is_dynamic, dims_of, rank_of}
 use Rattle.xf_ir.specs.RuleBlocks.{block_args}
 use Rattle.xf_ir.specs.Placed.{Placed}
@@ -26,13 +27,6 @@ use Rattle.xf_ir.specs.Placed.{Placed}
 
 abbrev pub fits_bits : Width → ℕ → Bool
 fits_bits w n = nat_lt n (2 ^ bits_of w)
-
--- whether bytes come before others: at the first place where they differ the smaller byte does, and a front of others does
-abbrev pub bytes_before : List ℕ → List ℕ → Bool
-bytes_before [] [] = false
-bytes_before [] (y ∷ ys) = true
-bytes_before (x ∷ xs) [] = false
-bytes_before (x ∷ xs) (y ∷ ys) = nat_lt x y || ((x == y) && bytes_before xs ys)
 
 abbrev pub value_fits : AttrValue → Bool
 value_fits unit_attr = true

@@ -8,7 +8,9 @@ use Rattle.xf_ir.specs.declared.name.OpName.{OpName}
 use Rattle.xf_ir.specs.declared.name.ValueName.TheVariants.{Result, Arg}
 use Rattle.xf_ir.specs.declared.kind.Kind.TheVariants as kind
 use Rattle.xf_ir.specs.declared.op.Module.{Module}
-use Rattle.xf_ir.specs.Tree.{Ops, no_ops, op, no_regions, region}
+use Rattle.xf_ir.specs.declared.edit.Edit.{Edit}
+use Rattle.xf_ir.specs.declared.edit.Edit.TheVariants.{Insert}
+use Rattle.xf_ir.specs.Tree.{Ops, no_ops, op, no_regions, region, Tree}
 
 abbrev pub named : ℕ → OpName
 named n = record { 0 = n }
@@ -28,3 +30,10 @@ sample_function = op (named 1) (kind.Func (102 ∷ []) false one_int) [] [] [] (
 
 abbrev pub sample_module : Module
 sample_module = record { root = record { name = named 0; kind = kind.Module None; attrs = []; operands = []; results = []; regions = region [] sample_function no_regions }; next = 5 }
+
+-- a constant of another name, and the edit that puts it before the return
+abbrev pub sample_constant : ℕ → Tree
+sample_constant n = record { name = named n; kind = kind.Constant I32 7; attrs = []; operands = []; results = one_int; regions = no_regions }
+
+abbrev pub sample_insertion : Edit
+sample_insertion = Insert (sample_constant 9) (record { parent = named 1; region = 0; at = 2 })

@@ -21,6 +21,19 @@ abbrev mutual
 abbrev pub tree_locate : OpName → Tree → Option Located
 tree_locate name t = regions_locate name t.name 0 t.regions
 
+abbrev pub spot_at : Option Located → Option Spot
+spot_at None = None
+spot_at (Some x) = Some x.spot
+
+abbrev pub tree_at_spot : Option Located → Option Tree
+tree_at_spot None = None
+tree_at_spot (Some x) = Some x.tree
+
+-- the first spot, or another where there is none
+abbrev pub spot_or : Spot → Option Spot → Spot
+spot_or other None = other
+spot_or other (Some s) = s
+
 -- with a tree before operation i of a block
 abbrev pub ops_insert : ℕ → Tree → Ops → Ops
 ops_insert zero t ops = cons t ops

@@ -1,18 +1,22 @@
 //! Edits of a module.
 ghost use Rattle.std.specs.Prelude.{◌≡◌, IfOk, OnOk, OnErr, IsOk, false, min, ◌+◌, ◌-◌, ◌^◌, nat_lt, if◌then◌else◌};
-ghost use Rattle.xf_ir.specs.Edits.{ops_at, regions_at, tail, tree_erased, edited, inverse_of, next_above, wants_memory};
-ghost use Rattle.xf_ir.specs.Changes.{tree_changed};
+ghost use Rattle.xf_ir.specs.Edits.{ops_at, regions_at, tail, tree_erased, edited, inverse_of, next_above, wants_memory, tree_moved};
+ghost use Rattle.xf_ir.specs.Attributes.{attr_set};
+ghost use Rattle.xf_ir.specs.Bounds.{ListsAreShort};
+ghost use Rattle.xf_ir.specs.Changes.{tree_changed, tree_attributed};
 ghost use Rattle.xf_ir.specs.Spots.{tree_put};
 ghost use Rattle.xf_ir.specs.Walk.{tree_names};
 ghost use Rattle.xf_ir.specs.View.{ops_of, regions_of};
 
+use crate::attributes::{copy_value, old_value, with_attr};
 use crate::change::{Change, ChangeList, turn, with_changes};
 use crate::name::OpName;
 use crate::op::{Block, Module, Op};
-use crate::spot::{Spot, locate, with_tree};
+use crate::spot::{Spot, locate, spot_of, with_tree};
 use crate::values::ValueList;
+use crate::walk::find_below;
 use std::alloc::Global;
-use xf_type::NoMemory;
+use xf_type::{AttrValue, ByteList, Duplicate, ListOf, NoMemory};
 
 /// A change of a module.
 #[derive(Drop)]
@@ -43,6 +47,58 @@ pub enum Edit {
         by: ValueList,
         changes: ChangeList,
     },
+    /// Takes the operation out, with all that it holds, and puts it at a spot of what is left: the spot's number counts
+    /// the operations of the block without it.
+    Move {
+        op: OpName,
+        to: Spot,
+    },
+    /// Gives the operation's attribute of that name a value, or takes it away where there is none.
+    SetAttr {
+        op: OpName,
+        key: ByteList,
+        value: Option<AttrValue>,
+    },
+}
+
+impl Edit {
+    /// A copy, equal in all that the edit names. Refuses for want of memory alone.
+    pub fn copy(&self, alloc: Global) -> Result<Edit, NoMemory>
+        ensures { IfOk result (λ copy. copy ≡ self.now) }
+    {
+        Ok(match self {
+            Edit::Insert { tree, at } => Edit::Insert {
+                tree: tree.copy(alloc)?,
+                at: *at,
+            },
+            Edit::Erase { op } => Edit::Erase { op: *op },
+            Edit::ReplaceUses { changes } => Edit::ReplaceUses {
+                changes: ListOf::from_slice(alloc, changes.as_slice())?,
+            },
+            Edit::Replace { op, by, changes } => Edit::Replace {
+                op: *op,
+                by: ValueList::from_slice(alloc, by.as_slice())?,
+                changes: ListOf::from_slice(alloc, changes.as_slice())?,
+            },
+            Edit::Restore {
+                tree,
+                at,
+                by,
+                changes,
+            } => Edit::Restore {
+                tree: tree.copy(alloc)?,
+                at: *at,
+                by: ValueList::from_slice(alloc, by.as_slice())?,
+                changes: ListOf::from_slice(alloc, changes.as_slice())?,
+            },
+            Edit::Move { op, to } => Edit::Move { op: *op, to: *to },
+            Edit::SetAttr { op, key, value } => Edit::SetAttr {
+                op: *op,
+                key: key.duplicate(alloc)?,
+                value: copy_value(alloc, value)?,
+            },
+        })
+    }
 }
 
 /// Takes the operation of that name out of what an operation holds.
@@ -149,6 +205,38 @@ fn restore(
     Ok(())
 }
 
+/// Takes an operation out of the module, and puts it at a spot of what is left.
+fn move_tree(alloc: Global, m: &mut Module, op: OpName, to: Spot) -> Result<(), NoMemory>
+    ensures ok { OnOk result (m.new ≡ record m.old { root = tree_moved op to m.old.root }) }
+    ensures err { OnErr result (m.new ≡ m.old) }
+{
+    let root = match find_below(&m.root, op) {
+        None => return Ok(()),
+        Some(tree) => {
+            let mut root = m.root.copy(alloc)?;
+            erase_inside(&mut root, op);
+            with_tree(alloc, &root, to, tree)?
+        }
+    };
+    m.root = root;
+    Ok(())
+}
+
+/// Gives an attribute of an operation a value, or takes it away.
+fn set_attr(
+    alloc: Global,
+    m: &mut Module,
+    op: OpName,
+    key: &ByteList,
+    value: &Option<AttrValue>,
+) -> Result<(), NoMemory>
+    ensures ok { OnOk result (m.new ≡ record m.old { root = tree_attributed op (attr_set key.now value.now) m.old.root }) }
+    ensures err { OnErr result (m.new ≡ m.old) }
+{
+    m.root = with_attr(alloc, &m.root, op, key, value)?;
+    Ok(())
+}
+
 /// Changes the module as the edit says. An edit that names nothing in it changes nothing.
 ///
 /// Refuses for want of memory alone, and then leaves the module as it was; erasing takes no memory.
@@ -172,11 +260,14 @@ pub fn apply_edit(alloc: Global, m: &mut Module, e: &Edit) -> Result<(), NoMemor
             changes,
             ..
         } => restore(alloc, m, tree, *at, changes.as_slice()),
+        Edit::Move { op, to } => move_tree(alloc, m, *op, *to),
+        Edit::SetAttr { op, key, value } => set_attr(alloc, m, *op, key, value),
     }
 }
 
 /// The edit that puts back what erasing the operation takes out.
 fn inverse_of_erase(alloc: Global, m: &Module, op: OpName) -> Result<Edit, NoMemory>
+    requires { ListsAreShort m.now }
     ensures { IfOk result (λ back. back ≡ inverse_of m.now (Edit.Erase op)) }
 {
     Ok(match locate(alloc, &m.root, op)? {
@@ -196,6 +287,7 @@ fn inverse_of_replace(
     by: &ValueList,
     changes: &[Change],
 ) -> Result<Edit, NoMemory>
+    requires { ListsAreShort m.now }
     ensures { IfOk result (λ back. back ≡ inverse_of m.now (Edit.Replace op by.now changes.now)) }
 {
     let root = with_changes(alloc, &m.root, changes)?;
@@ -210,10 +302,41 @@ fn inverse_of_replace(
     }
 }
 
+/// The edit that moves an operation back to where it stands.
+fn inverse_of_move(m: &Module, op: OpName, to: Spot) -> Edit
+    requires { ListsAreShort m.now }
+    ensures { result ≡ inverse_of m.now (Edit.Move op to) }
+{
+    match spot_of(&m.root, op) {
+        None => Edit::Move { op, to },
+        Some(spot) => Edit::Move { op, to: spot },
+    }
+}
+
+/// The edit that gives an attribute of an operation the value that it has, or takes it away where it has none.
+fn inverse_of_set_attr(
+    alloc: Global,
+    m: &Module,
+    op: OpName,
+    key: &ByteList,
+    value: &Option<AttrValue>,
+) -> Result<Edit, NoMemory>
+    ensures { IfOk result (λ back. back ≡ inverse_of m.now (Edit.SetAttr op key.now value.now)) }
+{
+    let old = old_value(alloc, m, op, key.as_slice())?;
+    Ok(Edit::SetAttr {
+        op,
+        key: key.duplicate(alloc)?,
+        value: old,
+    })
+}
+
 /// The edit that leads from the edited module back to the tree of this one, if the edit fits it.
 ///
-/// Refuses for want of memory alone, which is also where the number of a place is not below 2 ^ 32.
+/// Needs lists of fewer than 2 ^ 32 entries in the module's tree, so that each place in them has a number. Refuses for
+/// want of memory alone. Takes time in the number of operations and operands.
 pub fn inverse(alloc: Global, m: &Module, e: &Edit) -> Result<Edit, NoMemory>
+    requires { ListsAreShort m.now }
     ensures { IfOk result (λ back. back ≡ inverse_of m.now e.now) }
 {
     match e {
@@ -235,5 +358,7 @@ pub fn inverse(alloc: Global, m: &Module, e: &Edit) -> Result<Edit, NoMemory>
             by: ValueList::from_slice(alloc, by.as_slice())?,
             changes: turn(alloc, changes.as_slice())?,
         }),
+        Edit::Move { op, to } => Ok(inverse_of_move(m, *op, *to)),
+        Edit::SetAttr { op, key, value } => inverse_of_set_attr(alloc, m, *op, key, value),
     }
 }

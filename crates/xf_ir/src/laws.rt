@@ -1,5 +1,5 @@
 //! Laws of valid modules, each as the contract of a function that does nothing.
-ghost use Rattle.xf_ir.specs.Laws.{ValidIsScoped, ValidHasNoViolation, ErasingFits, ErasingKeepsValid, ErasingLowersWeight, ErasingLowersCount, InverseLeadsBack};
+ghost use Rattle.xf_ir.specs.Laws.{ValidIsScoped, ValidHasNoViolation, ErasingFits, ErasingKeepsValid, ErasingLowersWeight, ErasingLowersCount, InverseLeadsBack, SettingKeepsSorted};
 
 /// In a valid module each operand is visible where it stands, and each value is defined once among those that are visible.
 pub fn valid_is_scoped()
@@ -34,4 +34,9 @@ pub fn erasing_lowers_count()
 /// Where names occur once, the inverse of an edit that fits leads back to the module's tree.
 pub fn inverse_leads_back()
     ensures { InverseLeadsBack }
+{}
+
+/// An attribute that is given a value or taken away leaves the attributes sorted by the bytes of their names.
+pub fn setting_keeps_sorted()
+    ensures { SettingKeepsSorted }
 {}

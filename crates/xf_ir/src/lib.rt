@@ -1,6 +1,7 @@
 //! The payload tree: operations, blocks and modules, the walks over them, and the edits that change them.
 #![tactic(auto)]
 
+mod attributes;
 mod change;
 mod copy;
 mod dead;
@@ -10,6 +11,7 @@ mod laws;
 mod name;
 mod name_set;
 mod op;
+mod snippet;
 mod spelling;
 mod spot;
 mod values;
@@ -24,11 +26,12 @@ pub use kind::{
 };
 pub use laws::{
     erasing_fits, erasing_keeps_valid, erasing_lowers_count, erasing_lowers_weight,
-    inverse_leads_back, valid_has_no_violation, valid_is_scoped,
+    inverse_leads_back, setting_keeps_sorted, valid_has_no_violation, valid_is_scoped,
 };
 pub use name::{OpName, ValueName};
 pub use name_set::NameSet;
 pub use op::{Block, BlockList, Module, Op, OpList};
+pub use snippet::Snippet;
 pub use spot::{Located, Spot};
 pub use values::ValueList;
 pub use walk::{NameList, count, walk_post};

@@ -1,12 +1,14 @@
 //! Where operations stand, and trees put there.
-ghost use Rattle.std.specs.Prelude.{◌≡◌, IfOk, OnOk};
-ghost use Rattle.xf_ir.specs.Spots.{ops_insert, regions_insert, tree_put, body_put, tree_locate};
+ghost use Rattle.std.specs.Prelude.{◌≡◌, ◌<◌, ◌^◌, IfOk, OnOk};
+ghost use Rattle.xf_ir.specs.Bounds.{TreeIsShort};
+ghost use Rattle.xf_ir.specs.Spots.{ops_insert, regions_insert, tree_put, body_put, tree_locate, spot_at};
 ghost use Rattle.xf_ir.specs.View.{ops_of, regions_of};
 
 use crate::name::OpName;
 use crate::op::{Block, Op};
 use crate::values::ValueList;
-use std::alloc::{AllocError, Global};
+use crate::walk::find_below;
+use std::alloc::Global;
 use xf_type::{Duplicate, NoMemory};
 
 /// A place for an operation: in a region of the parent, before the operation of that number.
@@ -24,41 +26,50 @@ pub struct Located {
     pub tree: Op,
 }
 
-/// The number of a place, which a spot has room for below 2 ^ 32.
-fn place_number(number: usize) -> Result<u32, NoMemory>
-    ensures { IfOk result (λ n. n ≡ number) }
+/// The number of a place in a short list.
+fn place_number(number: usize) -> u32
+    requires { number < 2 ^ 32 }
+    ensures { result ≡ number }
 {
-    match u32::try_from(number) {
-        Ok(number) => Ok(number),
-        Err(_) => Err(AllocError),
-    }
+    number as u32
 }
 
-/// A copy of the first operation of the name that an operation holds, with its spot, or `None` where there is none.
-///
-/// Refuses for want of memory alone, which is also where the number of a place is not below 2 ^ 32.
-pub(crate) fn locate(alloc: Global, op: &Op, name: OpName) -> Result<Option<Located>, NoMemory>
-    ensures { IfOk result (λ found. found ≡ tree_locate name op.now) }
+/// The spot of the first operation of the name that an operation holds, or `None` where there is none.
+pub(crate) fn spot_of(op: &Op, name: OpName) -> Option<Spot>
+    requires { TreeIsShort op.now }
+    ensures { result ≡ spot_at (tree_locate name op.now) }
 {
     for (region, block) in op.regions.iter().enumerate() {
         for (at, inner) in block.ops.iter().enumerate() {
             if inner.name == name {
-                let spot = Spot {
+                return Some(Spot {
                     parent: op.name,
-                    region: place_number(region)?,
-                    at: place_number(at)?,
-                };
-                return Ok(Some(Located {
-                    spot,
-                    tree: inner.copy(alloc)?,
-                }));
+                    region: place_number(region),
+                    at: place_number(at),
+                });
             }
-            if let Some(found) = locate(alloc, inner, name)? {
-                return Ok(Some(found));
+            if let Some(spot) = spot_of(inner, name) {
+                return Some(spot);
             }
         }
     }
-    Ok(None)
+    None
+}
+
+/// A copy of the first operation of the name that an operation holds, with its spot, or `None` where there is none.
+///
+/// Refuses for want of memory alone.
+pub(crate) fn locate(alloc: Global, op: &Op, name: OpName) -> Result<Option<Located>, NoMemory>
+    requires { TreeIsShort op.now }
+    ensures { IfOk result (λ found. found ≡ tree_locate name op.now) }
+{
+    match (spot_of(op, name), find_below(op, name)) {
+        (Some(spot), Some(found)) => Ok(Some(Located {
+            spot,
+            tree: found.copy(alloc)?,
+        })),
+        _ => Ok(None),
+    }
 }
 
 /// Puts the tree before the operation of that number, or nowhere where there are fewer.

@@ -3,7 +3,10 @@ ghost use Rattle.std.specs.Prelude.{◌≡◌, [], ◌∷◌, IfOk, OnOk};
 ghost use Rattle.xf_ir.specs.Tree.{no_regions, region};
 ghost use Rattle.xf_ir.specs.View.{ops_of};
 ghost use Rattle.xf_ir.specs.Valid.{IsValid};
+ghost use Rattle.xf_ir.specs.Bounds.{ListsAreShort};
 ghost use Rattle.xf_ir.specs.Sample.{named, one_int, sample_body, sample_function, sample_module};
+
+mod edits;
 
 use super::*;
 use std::alloc::Global;
@@ -103,6 +106,7 @@ fn function(alloc: Global) -> Result<OpList, NoMemory>
 fn sample(alloc: Global) -> Result<Module, NoMemory>
     ensures is { IfOk result (λ m. m ≡ sample_module) }
     ensures valid { IfOk result (λ m. IsValid m) }
+    ensures short { IfOk result (λ m. ListsAreShort m) }
 {
     let kind = Kind::Module { symbol: None };
     let root = holder(alloc, 0, kind, ListOf::new(alloc), function(alloc)?)?;
@@ -154,121 +158,17 @@ fn unused_operations_go_from_the_last_one_back(rt: HostRuntime) -> Result<(), Fa
     Ok(())
 }
 
-/// The names of the module's operations in post-order.
-fn names_are(alloc: Global, m: &Module, wanted: &[OpName]) -> Result<bool, NoMemory> {
-    let names = walk_post(alloc, &m.root)?;
-    Ok(names.as_slice() == wanted)
-}
-
-/// A constant, for a new operation.
-fn constant(alloc: Global, name: u64) -> Result<Op, NoMemory> {
-    let kind = Kind::Constant {
-        width: Width::I32,
-        bits: 7,
-    };
-    leaf(alloc, name, kind, &[], int_type(alloc)?)
-}
-
 #[test]
-fn inserting_and_erasing_lead_back(rt: HostRuntime) -> Result<(), Fail> {
+fn a_copy_of_a_snippet_has_its_operations(rt: HostRuntime) -> Result<(), Fail> {
     let alloc = rt.alloc();
-    let mut m = sample(alloc)?;
-    let insert = Edit::Insert {
-        tree: constant(alloc, 9)?,
-        at: Spot {
-            parent: OpName(1),
-            region: 0,
-            at: 2,
-        },
+    let free = ValueName::Free(0);
+    let snippet = Snippet {
+        ops: body(alloc)?,
+        results: ValueList::from_slice(alloc, &[free])?,
     };
-    let back = inverse(alloc, &m, &insert)?;
-    apply_edit(alloc, &mut m, &insert)?;
-    assert!(rt;
-        names_are(
-            alloc,
-            &m,
-            &[
-                OpName(2),
-                OpName(3),
-                OpName(9),
-                OpName(4),
-                OpName(1),
-                OpName(0)
-            ]
-        )?
-    );
-    assert_eq!(rt; m.next, 10);
-    let again = inverse(alloc, &m, &back)?;
-    apply_edit(alloc, &mut m, &back)?;
-    assert!(rt;
-        names_are(
-            alloc,
-            &m,
-            &[OpName(2), OpName(3), OpName(4), OpName(1), OpName(0)]
-        )?
-    );
-    apply_edit(alloc, &mut m, &again)?;
-    assert!(rt;
-        names_are(
-            alloc,
-            &m,
-            &[
-                OpName(2),
-                OpName(3),
-                OpName(9),
-                OpName(4),
-                OpName(1),
-                OpName(0)
-            ]
-        )?
-    );
-    Ok(())
-}
-
-#[test]
-fn replaced_operations_are_restored(rt: HostRuntime) -> Result<(), Fail> {
-    let alloc = rt.alloc();
-    let mut m = sample(alloc)?;
-    let two = ValueName::Result {
-        op: OpName(2),
-        num: 0,
-    };
-    let arg = ValueName::Arg {
-        op: OpName(1),
-        region: 0,
-        num: 0,
-    };
-    let change = Change {
-        op: OpName(3),
-        operand: 1,
-        old: two,
-        new: arg,
-    };
-    let replace = Edit::Replace {
-        op: OpName(2),
-        by: ValueList::from_slice(alloc, &[arg])?,
-        changes: ListOf::from_slice(alloc, &[change])?,
-    };
-    let back = inverse(alloc, &m, &replace)?;
-    apply_edit(alloc, &mut m, &replace)?;
-    assert!(rt; names_are(alloc, &m, &[OpName(3), OpName(4), OpName(1), OpName(0)])?);
-    let again = inverse(alloc, &m, &back)?;
-    apply_edit(alloc, &mut m, &back)?;
-    assert!(rt;
-        names_are(
-            alloc,
-            &m,
-            &[OpName(2), OpName(3), OpName(4), OpName(1), OpName(0)]
-        )?
-    );
-    assert!(rt; matches!(again, Edit::Replace { .. }));
-    let uses = Edit::ReplaceUses {
-        changes: ListOf::from_slice(alloc, &[change])?,
-    };
-    apply_edit(alloc, &mut m, &uses)?;
-    if let Some(sum) = m.find(OpName(3)) {
-        assert!(rt; sum.operands.as_slice() == [arg, arg].as_slice());
-    }
+    let copy = snippet.copy(alloc)?;
+    assert_eq!(rt; copy.ops.len(), 3);
+    assert!(rt; copy.ops[1].name == OpName(3) && copy.results.as_slice() == [free].as_slice());
     Ok(())
 }
 

@@ -3,7 +3,7 @@ ghost use Rattle.std.specs.Prelude.{◌≡◌, ◌^◌, ◌<◌, ◌++◌, ◌�
 ghost use Rattle.std.specs.Option.{option_copied};
 ghost use Rattle.xf_ir.specs.Count.{tree_count};
 ghost use Rattle.xf_ir.specs.Lists.{is_among};
-ghost use Rattle.xf_ir.specs.Walk.{tree_names, tree_post, tree_find};
+ghost use Rattle.xf_ir.specs.Walk.{tree_names, tree_post, tree_find, regions_find};
 
 use crate::name::OpName;
 use crate::op::{Module, Op};
@@ -51,12 +51,21 @@ pub fn count(op: &Op) -> u64
 }
 
 /// The first operation of the name in the tree, in preorder.
+#[cycle(find)]
 fn find_in(op: &Op, name: OpName) -> Option<&Op>
     ensures { option_copied result ≡ tree_find name op.now }
 {
     if op.name == name {
         return Some(op);
     }
+    find_below(op, name)
+}
+
+/// The first operation of the name that an operation holds, in preorder.
+#[cycle(find)]
+pub(crate) fn find_below(op: &Op, name: OpName) -> Option<&Op>
+    ensures { option_copied result ≡ regions_find name op.now.regions }
+{
     for block in &op.regions {
         for inner in &block.ops {
             if let Some(found) = find_in(inner, name) {

@@ -1,8 +1,11 @@
 use Rattle.std.proofs.Common.{◌≡◌, ◌+◌, drop}
-use Rattle.xf_ir.specs.View.{ops_of, regions_of}
+use Rattle.xf_ir.specs.View.{ops_of, regions_of, tree_size}
 use Rattle.xf_ir.specs.Walk.{first_of}
 use Rattle.xf_ir.specs.Spots.{ops_locate, regions_locate, tree_locate}
-use Rattle.xf_ir.proofs.spot.+locate.Given as goal
+use Rattle.xf_ir.proofs.spot.+spot_of.Given as goal
+
+abbrev pub decreases-spot_of : goal.decreases-spot_of
+decreases-spot_of l = tree_size l.op.now
 
 -- the first in what is left is the first in the whole
 abbrev pub invariant-loop-at : goal.invariant-loop-at
