@@ -1,0 +1,109 @@
+//! A call of the program over two files in memory.
+
+use std::alloc::{AllocError, Global};
+use std::process::Abort;
+use xf_host::memory::{MemFiles, MemSink};
+use xf_opt::{Outcome, transform_main};
+
+/// The schedule that erases dead code.
+pub const SCRIPT: &str = "module attributes {transform.with_named_sequence} {
+  transform.named_sequence @__transform_main(%r: !transform.any_op) {
+    transform.apply_dce to %r : !transform.any_op
+  }
+}
+";
+
+/// The payload that the README shows.
+pub const PAYLOAD: &str = "func.func @f(%a: i32) -> i32 {
+  %c = arith.constant 2 : i32
+  %d = arith.addi %a, %c : i32
+  return %a : i32
+}
+";
+
+/// What that schedule makes of that payload.
+pub const PRINTED: &str = "module {
+  func.func @f(%arg0: i32) -> i32 {
+    func.return %arg0 : i32
+  }
+}
+";
+
+/// How a call ended, and what it wrote.
+#[derive(Drop)]
+pub struct Ended {
+    outcome: Outcome,
+    out: MemSink,
+    err: MemSink,
+}
+
+/// How a call should end.
+#[derive(Clone, Copy)]
+pub struct End<'a> {
+    pub status: u8,
+    pub out: &'a str,
+    pub err: &'a str,
+}
+
+/// The end of a call that writes this text.
+pub fn writes(out: &str) -> End<'_> {
+    End {
+        status: 0,
+        out,
+        err: "",
+    }
+}
+
+/// The end of a call that refuses its payload.
+pub const PAYLOAD_REFUSED: End<'static> = End {
+    status: 4,
+    out: "",
+    err: "p: N1 NotBuilt\n",
+};
+
+/// The end of a call that refuses its script.
+pub const SCRIPT_REFUSED: End<'static> = End {
+    status: 5,
+    out: "",
+    err: "s: N1 NotBuilt\n",
+};
+
+impl Ended {
+    /// Asserts that the call ended so; the message says which call it was.
+    pub fn assert_end(&self, rt: &impl Abort, end: End<'_>, message: &str) {
+        assert_eq!(rt; self.outcome.status, end.status, "{message}");
+        assert_eq!(rt;
+            str::from_utf8(self.out.bytes()).ok(),
+            Some(end.out),
+            "{message}"
+        );
+        assert_eq!(rt;
+            str::from_utf8(self.err.bytes()).ok(),
+            Some(end.err),
+            "{message}"
+        );
+    }
+}
+
+/// The words that name the script `s` and the payload `p`.
+const WORDS: [&str; 5] = ["run", "--script", "s", "--payload", "p"];
+
+fn words(alloc: Global) -> Result<Vec<String>, AllocError> {
+    let mut words = Vec::new(alloc);
+    for word in WORDS {
+        words.push(String::from_str(alloc, word)?)?;
+    }
+    Ok(words)
+}
+
+/// Calls the program where `s` and `p` hold these bytes.
+pub fn run(alloc: Global, script: &[u8], payload: &[u8]) -> Result<Ended, AllocError> {
+    let mut files = MemFiles::new(alloc);
+    files.add("s", script)?;
+    files.add("p", payload)?;
+    let mut out = MemSink::new(alloc);
+    let mut err = MemSink::new(alloc);
+    let words = words(alloc)?;
+    let outcome = transform_main(alloc, words.as_slice(), &mut files, &mut out, &mut err);
+    Ok(Ended { outcome, out, err })
+}
