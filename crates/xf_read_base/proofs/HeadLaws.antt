@@ -5,7 +5,8 @@ use Rattle.xf_grammar.proofs.Grammar.{found, again}
 use Rattle.xf_read_base.specs.declared.row.Row.TheVariants as row
 use Rattle.xf_read_base.specs.Parts.{said}
 use Rattle.xf_read_base.specs.Rules.{head_rule}
-use Rattle.xf_read_base.specs.Reading.{no_parts, head_at}
+use Rattle.xf_read_base.specs.Heads.{head_at}
+use Rattle.xf_read_base.specs.Reading.{no_parts}
 use Rattle.xf_read_base.specs.Laws.{HeadsAreWritten, HeadsReadAgain, NoHeadGoesOn, HeadsStay}
 use Rattle.xf_read_base.proofs.Steady.{head_steady}
 use Rattle.xf_read_base.proofs.Tells.{head_tells}

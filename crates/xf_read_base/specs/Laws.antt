@@ -10,7 +10,7 @@ use Rattle.xf_read_base.specs.declared.row.Level.{Level}
 use Rattle.xf_read_base.specs.declared.row.Row.TheVariants as row
 use Rattle.xf_read_base.specs.Parts.{Said, said}
 use Rattle.xf_read_base.specs.Rules.{head_rule}
-use Rattle.xf_read_base.specs.Reading.{head_at}
+use Rattle.xf_read_base.specs.Heads.{head_at}
 
 abbrev pub nothing_said : Said
 nothing_said = record { row = row.Module; symbol = None; private = false; predicate = None; literal = None; entries = []; defines = []; args = []; uses = []; types = []; results = [] }
