@@ -1,4 +1,5 @@
 pub mod Ends
 pub mod HeadLaws
+pub mod Pieces
 pub mod Steady
 pub mod Tells
