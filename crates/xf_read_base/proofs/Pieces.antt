@@ -27,14 +27,14 @@ not_true : (b : Bool) → not b ≡ true → b ≡ false
 not_true true e = absurd cc
 not_true false e = refl
 
-and_both : (a b : Bool) → (a && b) ≡ true → (a ≡ true) × (b ≡ true)
+pub and_both : (a b : Bool) → (a && b) ≡ true → (a ≡ true) × (b ≡ true)
 and_both true true e = (refl, refl)
 and_both true false e = absurd cc
 and_both false b e = absurd cc
 
 -- ---- single tokens and types
 
-kind_writes : (d : Due) (k : TokenKind) (p : Seen) → is_kind k p ≡ true → (at : ℕ) (y : Seen) (t : Said) → Writes (kind_rule d k) at (p ∷ []) y t t
+pub kind_writes : (d : Due) (k : TokenKind) (p : Seen) → is_kind k p ≡ true → (at : ℕ) (y : Seen) (t : Said) → Writes (kind_rule d k) at (p ∷ []) y t t
 unfolding kind_rule
 kind_writes d k p e at y t = inl (p, ([], (refl, (e, (refl, refl)))))
 

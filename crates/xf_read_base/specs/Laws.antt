@@ -1,5 +1,5 @@
 -- What holds of the heads of all lists of tokens.
-use Rattle.std.specs.Prelude.{◌≡◌, ℕ, suc, List, [], None, true, false, Ok, Err}
+use Rattle.std.specs.Prelude.{◌≡◌, ℕ, suc, List, [], Option, None, true, false, Ok, Err}
 use Rattle.xf_lex.specs.declared.token.Token.{Token}
 use Rattle.xf_grammar.specs.Tokens.{Seen, seen}
 use Rattle.xf_grammar.specs.Place.{Agree}
@@ -7,10 +7,11 @@ use Rattle.xf_grammar.specs.Grammar.{AllStand, Writes}
 use Rattle.xf_read_base.specs.declared.due.Due.{Due}
 use Rattle.xf_read_base.specs.declared.parts.Parts.{Parts}
 use Rattle.xf_read_base.specs.declared.row.Level.{Level}
+use Rattle.xf_read_base.specs.declared.row.Row.{Row}
 use Rattle.xf_read_base.specs.declared.row.Row.TheVariants as row
 use Rattle.xf_read_base.specs.declared.row.Slot.{Slot}
 use Rattle.xf_read_base.specs.Parts.{Said, said}
-use Rattle.xf_read_base.specs.Pieces.{Piece, row_written, row_suits, row_says}
+use Rattle.xf_read_base.specs.Pieces.{Piece, row_written, row_suits, row_says, Results, head_written, head_suits, head_says}
 use Rattle.xf_read_base.specs.Reading.{slots_at}
 use Rattle.xf_read_base.specs.Rules.{head_rule}
 use Rattle.xf_read_base.specs.Heads.{head_at}
@@ -31,6 +32,11 @@ HeadsAreWritten = (all : List Token) (l : Level) (at next : ℕ) (p : Parts) →
 abbrev pub HeadsReadAgain : Type 0
 HeadsReadAgain = (all : List Token) (l : Level) (at next : ℕ) (ps : List Seen) (t : Said) → AllStand all at ps next → IsHead l at ps (seen all next) t
     → (p : Parts) × ((head_at all l at ≡ Ok (p, next)) × (said all p ≡ t))
+
+-- a head that results, a word and pieces write is read there, as what they say
+abbrev pub HeadPiecesReadAgain : Type 0
+HeadPiecesReadAgain = (all : List Token) (l : Level) (d : Option Results) (r : Row) (ps : List Piece) (at next : ℕ) → AllStand all at (head_written d r ps) next → head_suits l d r ps (seen all next) ≡ true
+    → (p : Parts) × ((head_at all l at ≡ Ok (p, next)) × (said all p ≡ head_says d r ps nothing_said))
 
 -- where reading stops at a token, no text that agrees through that token has a head there
 abbrev pub NoHeadGoesOn : Type 0

@@ -2,17 +2,26 @@
 use Rattle.std.specs.Prelude.{ℕ, List, [], ◌∷◌, ◌++◌, map, Option, Some, None, Bool, true, false, not, ◌&&◌, option_map, codes}
 use Rattle.xf_lex.specs.declared.token.TokenKind.{TokenKind}
 use Rattle.xf_lex.specs.declared.token.TokenKind.TheVariants as kind
+use Rattle.xf_type.specs.declared.kind.BinKind.{BinKind}
+use Rattle.xf_type.specs.declared.kind.BinKind.TheVariants as bin
+use Rattle.xf_type.specs.declared.kind.ConvKind.{ConvKind}
+use Rattle.xf_type.specs.declared.kind.ConvKind.TheVariants as conv
 use Rattle.xf_type.specs.declared.kind.CmpKind.{CmpKind}
 use Rattle.xf_type.specs.declared.kind.CmpKind.TheVariants as cmp
 use Rattle.xf_type.specs.declared.payload_type.Width.{Width}
 use Rattle.xf_type.specs.declared.payload_type.Width.TheVariants as width
 use Rattle.xf_grammar.specs.Tokens.{Seen, sees, is_kind, is_word, is_index, starts_digit, open_paren, close_paren, comma, minus, colon, equals, open_brace, close_brace}
 use Rattle.xf_grammar.specs.Grammar.{first_seen, more_written}
+use Rattle.xf_read_base.specs.declared.row.Level.{Level}
+use Rattle.xf_read_base.specs.declared.row.Level.TheVariants as level
+use Rattle.xf_read_base.specs.declared.row.Row.{Row}
+use Rattle.xf_read_base.specs.declared.row.Row.TheVariants as row
 use Rattle.xf_read_base.specs.declared.row.Slot.{Slot}
 use Rattle.xf_read_base.specs.declared.row.Slot.TheVariants as slot
 use Rattle.xf_read_base.specs.Words.{spelling}
-use Rattle.xf_read_base.specs.Rules.{room_for}
-use Rattle.xf_read_base.specs.Parts.{count_of, truth, number, no_value, truth_value, number_value, text_value, ValueSaid, Said, says_symbol, says_private, says_predicate, says_literal, says_entry, says_arg, says_use, says_width, says_result}
+use Rattle.xf_read_base.specs.Rows.{slots, fits}
+use Rattle.xf_read_base.specs.Rules.{room_for, has_operations}
+use Rattle.xf_read_base.specs.Parts.{count_of, truth, number, no_value, truth_value, number_value, text_value, ValueSaid, Said, says_symbol, says_private, says_predicate, says_literal, says_entry, says_arg, says_use, says_width, says_result, says_row, says_define}
 
 -- ---- tokens
 
@@ -297,3 +306,74 @@ abbrev pub row_says : List Slot → List Piece → Said → Said
 row_says [] ps t = t
 row_says (s ∷ ss) [] t = t
 row_says (s ∷ ss) (p ∷ ps) t = row_says ss ps (piece_says s p t)
+
+-- ---- heads
+
+-- the name of results with its %, and how many there are, by digits, or one
+pub record Results : Type 0 where
+  pub name : List ℕ
+  pub digits : Option (List ℕ)
+
+abbrev pub count_written : Option (List ℕ) → List Seen
+count_written None = mark equals ∷ []
+count_written (Some digits) = mark colon ∷ sees kind.Integer digits ∷ mark equals ∷ []
+
+abbrev pub results_written : Option Results → List Seen
+results_written None = []
+results_written (Some d) = value_name d.name ∷ count_written d.digits
+
+abbrev pub count_said : Option (List ℕ) → ℕ
+count_said None = 1
+count_said (Some digits) = count_of (sees kind.Integer digits)
+
+abbrev pub results_say : Option Results → Said → Said
+results_say None t = t
+results_say (Some d) t = says_define d.name (count_said d.digits) t
+
+abbrev pub binary_word : BinKind → List ℕ
+binary_word bin.Addi = codes "arith.addi"
+binary_word bin.Subi = codes "arith.subi"
+binary_word bin.Muli = codes "arith.muli"
+binary_word bin.Andi = codes "arith.andi"
+binary_word bin.Ori = codes "arith.ori"
+binary_word bin.Xori = codes "arith.xori"
+binary_word bin.Shli = codes "arith.shli"
+binary_word bin.Shrui = codes "arith.shrui"
+binary_word bin.Shrsi = codes "arith.shrsi"
+binary_word bin.Minsi = codes "arith.minsi"
+binary_word bin.Maxsi = codes "arith.maxsi"
+binary_word bin.Minui = codes "arith.minui"
+binary_word bin.Maxui = codes "arith.maxui"
+
+abbrev pub conversion_word : ConvKind → List ℕ
+conversion_word conv.Extsi = codes "arith.extsi"
+conversion_word conv.Extui = codes "arith.extui"
+conversion_word conv.Trunci = codes "arith.trunci"
+conversion_word conv.IndexCast = codes "arith.index_cast"
+conversion_word conv.IndexCastui = codes "arith.index_castui"
+
+-- the first word of a row, in full
+abbrev pub row_word : Row → List ℕ
+row_word row.Module = codes "module"
+row_word row.Function = codes "func.func"
+row_word row.Return = codes "func.return"
+row_word row.Call = codes "func.call"
+row_word row.Constant = codes "arith.constant"
+row_word (row.Binary k) = binary_word k
+row_word row.Compare = codes "arith.cmpi"
+row_word row.Select = codes "arith.select"
+row_word (row.Convert k) = conversion_word k
+row_word row.For = codes "scf.for"
+row_word row.If = codes "scf.if"
+row_word row.Yield = codes "scf.yield"
+
+abbrev pub head_written : Option Results → Row → List Piece → List Seen
+head_written d r ps = results_written d ++ word (row_word r) ∷ row_written (slots r) ps
+
+-- where it stands, and what may stand behind it
+abbrev pub head_suits : Level → Option Results → Row → List Piece → Seen → Bool
+head_suits l None r ps y = fits l r && row_suits (slots r) ps y
+head_suits l (Some d) r ps y = has_operations l && (fits level.Body r && row_suits (slots r) ps y)
+
+abbrev pub head_says : Option Results → Row → List Piece → Said → Said
+head_says d r ps t = row_says (slots r) ps (says_row r (results_say d t))

@@ -1,11 +1,12 @@
 //! What holds of the heads of all lists of tokens.
-ghost use Rattle.xf_read_base.specs.Laws.{HeadsAreWritten, HeadsReadAgain, PiecesReadAgain, NoHeadGoesOn, StopsAgain, HeadsStay};
+ghost use Rattle.xf_read_base.specs.Laws.{HeadsAreWritten, HeadsReadAgain, HeadPiecesReadAgain, PiecesReadAgain, NoHeadGoesOn, StopsAgain, HeadsStay};
 
 /// A head is read exactly where its tokens are written, and its parts are what the tokens say. What
 /// pieces write for the slots of a row is read again.
 pub fn heads_are_read_as_written()
     ensures written { HeadsAreWritten }
     ensures again { HeadsReadAgain }
+    ensures heads { HeadPiecesReadAgain }
     ensures pieces { PiecesReadAgain }
 {}
 
