@@ -1,0 +1,119 @@
+//! What stands at a number in a list of tokens.
+ghost use Rattle.std.specs.Prelude.{◌≡◌, ◌<◌, ◌≤◌, ◌^◌, length, min, IsTrue};
+ghost use Rattle.std.specs.Char.{digit_value};
+ghost use Rattle.std.specs.Str.Parse.{digits_value};
+ghost use Rattle.xf_grammar.specs.Tokens.{looks, says, word_at, number_of, number_at, is_index_at};
+
+use xf_lex::{Token, TokenKind};
+
+/// Whether a token of this kind stands there.
+pub fn looks(tokens: &[Token], at: usize, kind: TokenKind) -> bool
+    ensures value { result ≡ looks tokens.now at kind }
+    ensures within { IsTrue result → at < length tokens.now }
+{
+    if at < tokens.len() {
+        tokens[at].kind == kind
+    } else {
+        false
+    }
+}
+
+/// The bytes of the word that stands there; no bytes where no word stands there.
+pub fn word_at(tokens: &[Token], at: usize) -> &[u8]
+    ensures { result.now ≡ word_at tokens.now at }
+{
+    if at < tokens.len() {
+        let token = &tokens[at];
+        match token.kind {
+            TokenKind::Word => token.bytes.as_slice(),
+            _ => &[],
+        }
+    } else {
+        &[]
+    }
+}
+
+/// Whether this word stands there.
+pub fn says(tokens: &[Token], at: usize, word: &[u8]) -> bool
+    ensures value { result ≡ says tokens.now at word.now }
+    ensures within { IsTrue result → at < length tokens.now }
+{
+    if at < tokens.len() {
+        let token = &tokens[at];
+        match token.kind {
+            TokenKind::Word => token.bytes.as_slice() == word,
+            _ => false,
+        }
+    } else {
+        false
+    }
+}
+
+/// What a digit counts; a byte that is none counts 36.
+fn digit_value(b: u8) -> u128
+    ensures value { result ≡ digit_value b }
+    ensures small { result ≤ 36 }
+{
+    match b {
+        b'0'..=b'9' => u128::from(b - b'0'),
+        b'A'..=b'Z' => u128::from(b - b'A') + 10,
+        b'a'..=b'z' => u128::from(b - b'a') + 10,
+        _ => 36,
+    }
+}
+
+/// More than the number of any integer token.
+const LIMIT: u128 = 1 << 64;
+
+/// The number that decimal digits write, or `LIMIT` where it is that or more.
+fn cut_number(digits: &[u8]) -> u128
+    ensures { result ≡ min (digits_value 10 digits.now) (2 ^ 64) }
+{
+    let mut value = 0;
+    for b in digits {
+        value = (value * 10 + digit_value(*b)).min(LIMIT);
+    }
+    value
+}
+
+/// The number that decimal digits write, or 2^64 - 1 where it is more.
+pub fn number(digits: &[u8]) -> u64
+    ensures { result ≡ number_of digits.now }
+{
+    let value = cut_number(digits);
+    if value < LIMIT {
+        value as u64
+    } else {
+        u64::MAX
+    }
+}
+
+/// The number that the integer writes that stands there, or the digits behind a `#`.
+pub fn number_at(tokens: &[Token], at: usize) -> u64
+    ensures { result ≡ number_at tokens.now at }
+{
+    if at >= tokens.len() {
+        return 0;
+    }
+    let token = &tokens[at];
+    match (token.kind, token.bytes.as_slice()) {
+        (TokenKind::Integer, digits) => number(digits),
+        (TokenKind::Hash, [_, digits @ ..]) => number(digits),
+        _ => 0,
+    }
+}
+
+/// Whether a `#` and digits stand there, as behind the name of a value.
+pub fn is_index_at(tokens: &[Token], at: usize) -> bool
+    ensures value { result ≡ is_index_at tokens.now at }
+    ensures within { IsTrue result → at < length tokens.now }
+{
+    if at >= tokens.len() {
+        return false;
+    }
+    let token = &tokens[at];
+    match (token.kind, token.bytes.as_slice()) {
+        (TokenKind::Hash, [_, b, ..]) => b.is_ascii_digit(),
+        _ => false,
+    }
+}

@@ -1,0 +1,9 @@
+pub mod Heads
+pub mod Laws
+pub mod Parts
+pub mod Pieces
+pub mod Reading
+pub mod Rows
+pub mod Rules
+pub mod Verdicts
+pub mod Words

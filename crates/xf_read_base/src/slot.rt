@@ -1,0 +1,293 @@
+//! The slots of a row.
+ghost use Rattle.std.specs.Prelude.{◌≡◌, ◌≤◌, length, IfOk, OnOk};
+ghost use Rattle.xf_read_base.specs.Reading.{Gives, by};
+ghost use Rattle.xf_read_base.specs.Parts.{with_width, with_literal};
+ghost use Rattle.xf_read_base.specs.Rules.{attributes_rule, call_results_rule, dictionary_rule, enclosed_rule, function_results_rule, if_results_rule, iter_args_rule, listed_results_rule, literal_rule, loop_width_rule, number_rule, operands_rule, result_types_rule, slot_rule, slots_rule};
+ghost use Rattle.xf_lex.specs.declared.token.TokenKind.TheVariants as kind;
+ghost use Rattle.xf_read_base.specs.declared.due.Due.TheVariants as due;
+ghost use Rattle.xf_type.specs.declared.payload_type.Width.TheVariants as width;
+ghost use Rattle.xf_read_base.specs.declared.parts.Literal.TheVariants as literal;
+
+use crate::due::{Due, HeadFault};
+use crate::list::{Item, list_at, list_until};
+use crate::parts::{Literal, Parts};
+use crate::row::Slot;
+use crate::single::{
+    argument_at, expects, function_name_at, module_name_at, predicate_at, result_at, symbol_at,
+    use_at, width_at, word_is,
+};
+use crate::word::spelling;
+use xf_grammar::{looks, says};
+use xf_lex::{Token, TokenKind};
+use xf_type::{NoMemory, PayloadType, Width};
+
+/// An integer with its width.
+#[tactic(auto, unfolding(crate::specs::Rules::number_rule))]
+fn number_is(
+    tokens: &[Token],
+    negative: bool,
+    due: Due,
+    parts: &mut Parts,
+    at: usize,
+) -> Result<usize, HeadFault>
+    ensures gives { Gives (λ n. (parts.new, n)) result (by (number_rule negative due) tokens.now parts.old at) }
+    ensures within { IfOk result (λ n. (at ≤ n) × (n ≤ length tokens.now)) }
+{
+    if !looks(tokens, at, TokenKind::Integer) {
+        return Err(HeadFault::At(at, due));
+    }
+    parts.literal = Some(Literal::Integer {
+        negative,
+        token: at,
+    });
+    let at = expects(tokens, TokenKind::Mark(b':'), Due::Other, parts, at + 1)?;
+    width_at(tokens, Due::Width, parts, at)
+}
+
+/// Sets the literal to a truth value, with its width.
+fn add_truth(parts: &mut Parts, truth: bool) -> Result<(), NoMemory>
+    ensures { OnOk result (parts.new ≡ with_width width.I1 (with_literal (literal.Truth truth) parts.old)) }
+{
+    parts.literal = Some(Literal::Truth(truth));
+    parts.types.push(PayloadType::Scalar(Width::I1))?;
+    Ok(())
+}
+
+/// The value of a scalar constant.
+#[tactic(auto, unfolding(crate::specs::Rules::literal_rule))]
+fn literal_at(tokens: &[Token], parts: &mut Parts, at: usize) -> Result<usize, HeadFault>
+    ensures gives { Gives (λ n. (parts.new, n)) result (by literal_rule tokens.now parts.old at) }
+    ensures within { IfOk result (λ n. (at ≤ n) × (n ≤ length tokens.now)) }
+{
+    if says(tokens, at, b"true") {
+        add_truth(parts, true)?;
+        return Ok(at + 1);
+    }
+    if says(tokens, at, b"false") {
+        add_truth(parts, false)?;
+        return Ok(at + 1);
+    }
+    if says(tokens, at, b"dense") {
+        return Err(HeadFault::At(at, Due::OtherReader));
+    }
+    if looks(tokens, at, TokenKind::Mark(b'-')) {
+        return number_is(tokens, true, Due::Other, parts, at + 1);
+    }
+    number_is(tokens, false, Due::ConstantValue, parts, at)
+}
+
+/// Discardable attributes, which may be left out.
+#[tactic(auto, unfolding(crate::specs::Rules::dictionary_rule))]
+pub fn dictionary_at(tokens: &[Token], parts: &mut Parts, at: usize) -> Result<usize, HeadFault>
+    requires { at ≤ length tokens.now }
+    ensures gives { Gives (λ n. (parts.new, n)) result (by dictionary_rule tokens.now parts.old at) }
+    ensures within { IfOk result (λ n. (at ≤ n) × (n ≤ length tokens.now)) }
+{
+    if looks(tokens, at, TokenKind::Mark(b'{')) {
+        list_until(
+            tokens,
+            Item::Entry,
+            TokenKind::Mark(b'}'),
+            Due::Other,
+            parts,
+            at + 1,
+        )
+    } else {
+        Ok(at)
+    }
+}
+
+/// `attributes` and discardable attributes, which may be left out.
+#[tactic(auto, unfolding(crate::specs::Rules::attributes_rule))]
+fn attributes_at(tokens: &[Token], parts: &mut Parts, at: usize) -> Result<usize, HeadFault>
+    requires { at ≤ length tokens.now }
+    ensures gives { Gives (λ n. (parts.new, n)) result (by attributes_rule tokens.now parts.old at) }
+    ensures within { IfOk result (λ n. (at ≤ n) × (n ≤ length tokens.now)) }
+{
+    if !says(tokens, at, b"attributes") {
+        return Ok(at);
+    }
+    let at = expects(tokens, TokenKind::Mark(b'{'), Due::Other, parts, at + 1)?;
+    list_until(
+        tokens,
+        Item::Entry,
+        TokenKind::Mark(b'}'),
+        Due::Other,
+        parts,
+        at,
+    )
+}
+
+/// Items up to a `)`. `due` is due behind an item.
+fn enclosed(
+    tokens: &[Token],
+    item: Item,
+    due: Due,
+    parts: &mut Parts,
+    at: usize,
+) -> Result<usize, HeadFault>
+    ensures gives { Gives (λ n. (parts.new, n)) result (by (enclosed_rule item due) tokens.now parts.old at) }
+    ensures within { IfOk result (λ n. (at ≤ n) × (n ≤ length tokens.now)) }
+{
+    list_until(tokens, item, TokenKind::Mark(b')'), due, parts, at)
+}
+
+/// One result type, or result types in parentheses. `due` is due behind one of those.
+#[tactic(auto, unfolding(crate::specs::Rules::result_types_rule))]
+fn result_types_at(
+    tokens: &[Token],
+    due: Due,
+    parts: &mut Parts,
+    at: usize,
+) -> Result<usize, HeadFault>
+    ensures gives { Gives (λ n. (parts.new, n)) result (by (result_types_rule due) tokens.now parts.old at) }
+    ensures within { IfOk result (λ n. (at ≤ n) × (n ≤ length tokens.now)) }
+{
+    if looks(tokens, at, TokenKind::Mark(b'(')) {
+        enclosed(tokens, Item::Result, due, parts, at + 1)
+    } else {
+        result_at(tokens, parts, at)
+    }
+}
+
+/// `->` and the result types of a call.
+#[tactic(auto, unfolding(crate::specs::Rules::call_results_rule))]
+fn call_results_at(tokens: &[Token], parts: &mut Parts, at: usize) -> Result<usize, HeadFault>
+    ensures gives { Gives (λ n. (parts.new, n)) result (by call_results_rule tokens.now parts.old at) }
+    ensures within { IfOk result (λ n. (at ≤ n) × (n ≤ length tokens.now)) }
+{
+    let at = expects(tokens, TokenKind::Arrow, Due::Other, parts, at)?;
+    result_types_at(tokens, Due::Other, parts, at)
+}
+
+/// `->` and the result types of a function, which may be left out.
+#[tactic(auto, unfolding(crate::specs::Rules::function_results_rule))]
+fn function_results_at(tokens: &[Token], parts: &mut Parts, at: usize) -> Result<usize, HeadFault>
+    requires { at ≤ length tokens.now }
+    ensures gives { Gives (λ n. (parts.new, n)) result (by function_results_rule tokens.now parts.old at) }
+    ensures within { IfOk result (λ n. (at ≤ n) × (n ≤ length tokens.now)) }
+{
+    if looks(tokens, at, TokenKind::Arrow) {
+        result_types_at(tokens, Due::AfterResult, parts, at + 1)
+    } else {
+        Ok(at)
+    }
+}
+
+/// Result types in parentheses.
+#[tactic(auto, unfolding(crate::specs::Rules::listed_results_rule))]
+fn listed_results_at(tokens: &[Token], parts: &mut Parts, at: usize) -> Result<usize, HeadFault>
+    ensures gives { Gives (λ n. (parts.new, n)) result (by listed_results_rule tokens.now parts.old at) }
+    ensures within { IfOk result (λ n. (at ≤ n) × (n ≤ length tokens.now)) }
+{
+    let at = expects(tokens, TokenKind::Mark(b'('), Due::Other, parts, at)?;
+    enclosed(tokens, Item::Result, Due::Other, parts, at)
+}
+
+/// `->` and result types in parentheses, which may be left out.
+#[tactic(auto, unfolding(crate::specs::Rules::if_results_rule))]
+fn if_results_at(tokens: &[Token], parts: &mut Parts, at: usize) -> Result<usize, HeadFault>
+    requires { at ≤ length tokens.now }
+    ensures gives { Gives (λ n. (parts.new, n)) result (by if_results_rule tokens.now parts.old at) }
+    ensures within { IfOk result (λ n. (at ≤ n) × (n ≤ length tokens.now)) }
+{
+    if looks(tokens, at, TokenKind::Arrow) {
+        listed_results_at(tokens, parts, at + 1)
+    } else {
+        Ok(at)
+    }
+}
+
+/// Operands, `:` and their types, which may be left out.
+#[tactic(auto, unfolding(crate::specs::Rules::operands_rule))]
+fn operands_at(tokens: &[Token], parts: &mut Parts, at: usize) -> Result<usize, HeadFault>
+    requires { at ≤ length tokens.now }
+    ensures gives { Gives (λ n. (parts.new, n)) result (by operands_rule tokens.now parts.old at) }
+    ensures within { IfOk result (λ n. (at ≤ n) × (n ≤ length tokens.now)) }
+{
+    if !looks(tokens, at, TokenKind::Value) {
+        return Ok(at);
+    }
+    let at = list_at(tokens, Item::Use, parts, at)?;
+    let at = expects(tokens, TokenKind::Mark(b':'), Due::Other, parts, at)?;
+    list_at(tokens, Item::Type, parts, at)
+}
+
+/// `iter_args` with its pairs, and `->` with result types, which may be left out.
+#[tactic(auto, unfolding(crate::specs::Rules::iter_args_rule))]
+fn iter_args_at(tokens: &[Token], parts: &mut Parts, at: usize) -> Result<usize, HeadFault>
+    requires { at ≤ length tokens.now }
+    ensures gives { Gives (λ n. (parts.new, n)) result (by iter_args_rule tokens.now parts.old at) }
+    ensures within { IfOk result (λ n. (at ≤ n) × (n ≤ length tokens.now)) }
+{
+    if !says(tokens, at, b"iter_args") {
+        return Ok(at);
+    }
+    let at = expects(tokens, TokenKind::Mark(b'('), Due::Other, parts, at + 1)?;
+    let at = enclosed(tokens, Item::Pair, Due::Other, parts, at)?;
+    let at = expects(tokens, TokenKind::Arrow, Due::Other, parts, at)?;
+    listed_results_at(tokens, parts, at)
+}
+
+/// `:` and the width of a loop, else `index`.
+#[tactic(auto, unfolding(crate::specs::Rules::loop_width_rule))]
+fn loop_width_at(tokens: &[Token], parts: &mut Parts, at: usize) -> Result<usize, HeadFault>
+    requires { at ≤ length tokens.now }
+    ensures gives { Gives (λ n. (parts.new, n)) result (by loop_width_rule tokens.now parts.old at) }
+    ensures within { IfOk result (λ n. (at ≤ n) × (n ≤ length tokens.now)) }
+{
+    if looks(tokens, at, TokenKind::Mark(b':')) {
+        return width_at(tokens, Due::Width, parts, at + 1);
+    }
+    parts.types.push(PayloadType::Scalar(Width::Index))?;
+    Ok(at)
+}
+
+/// A slot.
+fn slot_at(tokens: &[Token], slot: Slot, parts: &mut Parts, at: usize) -> Result<usize, HeadFault>
+    requires { at ≤ length tokens.now }
+    ensures gives { Gives (λ n. (parts.new, n)) result (by (slot_rule slot) tokens.now parts.old at) }
+    ensures within { IfOk result (λ n. (at ≤ n) × (n ≤ length tokens.now)) }
+{
+    match slot {
+        Slot::Mark(b) => expects(tokens, TokenKind::Mark(b), Due::Other, parts, at),
+        Slot::Word(keyword) => word_is(tokens, spelling(keyword), parts, at),
+        Slot::ModuleName => module_name_at(tokens, parts, at),
+        Slot::FunctionName => function_name_at(tokens, parts, at),
+        Slot::Symbol => symbol_at(tokens, parts, at),
+        Slot::Attributes => attributes_at(tokens, parts, at),
+        Slot::Dictionary => dictionary_at(tokens, parts, at),
+        Slot::Literal => literal_at(tokens, parts, at),
+        Slot::Predicate => predicate_at(tokens, parts, at),
+        Slot::Argument => argument_at(tokens, parts, at),
+        Slot::Use => use_at(tokens, parts, at),
+        Slot::Width => width_at(tokens, Due::ArithWidth, parts, at),
+        Slot::Uses => enclosed(tokens, Item::Use, Due::Other, parts, at),
+        Slot::Types => enclosed(tokens, Item::Type, Due::Other, parts, at),
+        Slot::Params => enclosed(tokens, Item::Param, Due::AfterArgument, parts, at),
+        Slot::Operands => operands_at(tokens, parts, at),
+        Slot::CallResults => call_results_at(tokens, parts, at),
+        Slot::FunctionResults => function_results_at(tokens, parts, at),
+        Slot::IfResults => if_results_at(tokens, parts, at),
+        Slot::IterArgs => iter_args_at(tokens, parts, at),
+        Slot::LoopWidth => loop_width_at(tokens, parts, at),
+    }
+}
+
+/// What the slots of a row write, from a token on.
+pub fn slots_at(
+    tokens: &[Token],
+    slots: &[Slot],
+    parts: &mut Parts,
+    at: usize,
+) -> Result<usize, HeadFault>
+    requires { at ≤ length tokens.now }
+    ensures gives { Gives (λ n. (parts.new, n)) result (by (slots_rule slots.now) tokens.now parts.old at) }
+    ensures within { IfOk result (λ n. (at ≤ n) × (n ≤ length tokens.now)) }
+{
+    let mut at = at;
+    for slot in slots {
+        at = slot_at(tokens, *slot, parts, at)?;
+    }
+    Ok(at)
+}
