@@ -6,4 +6,5 @@ mod reader;
 mod tree;
 
 pub use fault::{Cause, SyntaxFault};
+pub use reader::syntax;
 pub use tree::{Body, File, Node};

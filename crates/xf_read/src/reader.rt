@@ -1,8 +1,9 @@
 //! Reading the syntax of a whole text.
-ghost use Rattle.std.specs.Prelude.{◌≡◌, ◌≤◌, ◌<◌, ◌+◌, ℕ, length, IfOk};
+ghost use Rattle.std.specs.Prelude.{OnOk, ◌≡◌, ◌≤◌, ◌<◌, ◌+◌, ℕ, length, IfOk};
 ghost use Rattle.xf_grammar.specs.Tokens.{seen};
 ghost use Rattle.xf_read_base.specs.declared.row.Level.TheVariants as level;
-ghost use Rattle.xf_read.specs.Syntax.{Gives, begins_at, ends_in_yield, is_yield, inside, due_before, behind, may_end_open, lacks_yield, closed, closes, braced, with_else, bodies_at, tail_at, node_at, nodes_at, file_at, block};
+ghost use Rattle.xf_read.specs.declared.tree.File.{File};
+ghost use Rattle.xf_read.specs.Syntax.{Gives, begins_at, ends_in_yield, is_yield, inside, due_before, behind, may_end_open, lacks_yield, closed, closes, braced, with_else, bodies_at, tail_at, node_at, nodes_at, ended, file_at, block};
 ghost use Rattle.xf_read.specs.View.{nodes_of, bodies_of};
 
 use crate::fault::{Cause, SyntaxFault};
@@ -53,8 +54,7 @@ fn may_end_open(parts: &Parts) -> bool
     ensures { result ≡ may_end_open parts.now }
 {
     match parts.row {
-        Row::For => parts.types.len() == 1,
-        Row::If => parts.types.len() == 0,
+        Row::For | Row::If => parts.results.len() == 0,
         _ => false,
     }
 }
@@ -279,4 +279,48 @@ fn nodes_at(
         at = next;
     }
     Ok((nodes, at))
+}
+
+/// The end of a text, which is due.
+fn ended(tokens: &[Token], due: Due, at: usize) -> Result<(), SyntaxFault>
+    ensures gives { (file : File) → Gives (λ _. (file, at)) result (ended tokens.now due file at) }
+    ensures whole { at ≤ length tokens.now → OnOk result (at ≡ length tokens.now) }
+{
+    if at < tokens.len() {
+        return Err(SyntaxFault::At(at, Cause::Due(due)));
+    }
+    Ok(())
+}
+
+/// The syntax tree of a text.
+///
+/// It refuses with the first token that no text of the syntax has there, which is the end of the
+/// text where all of them fit, and with what is wrong there. It takes time in the number of
+/// tokens, and its calls nest no deeper than the regions of a text may.
+pub fn syntax(alloc: Global, tokens: &[Token]) -> Result<File, SyntaxFault>
+    ensures { (f : ℕ) → length tokens.now < f → Gives (λ file. (file, length tokens.now)) result (file_at f tokens.now) }
+{
+    let mut count = 0;
+    if says(tokens, 0, b"module") {
+        let (root, next) = node_at(alloc, tokens, Level::File, 0, &mut count, 0)?;
+        ended(tokens, Due::Other, next)?;
+        return Ok(File {
+            written: true,
+            root,
+        });
+    }
+    count += 1;
+    let (nodes, close) = nodes_at(alloc, tokens, Level::File, 1, &mut count, 0)?;
+    ended(tokens, Due::Function, close)?;
+    let mut bodies = Vec::new(alloc);
+    bodies.push(Body { nodes, close })?;
+    let parts = Parts::new(alloc, Row::Module);
+    Ok(File {
+        written: false,
+        root: Node {
+            first: 0,
+            parts,
+            bodies,
+        },
+    })
 }
