@@ -1,3 +1,4 @@
+pub mod Laws
 pub mod Syntax
 pub mod Tree
 pub mod View

@@ -4,6 +4,7 @@ ghost use Rattle.xf_grammar.specs.Tokens.{seen};
 ghost use Rattle.xf_read_base.specs.declared.row.Level.TheVariants as level;
 ghost use Rattle.xf_read.specs.declared.tree.File.{File};
 ghost use Rattle.xf_read.specs.Syntax.{Gives, begins_at, ends_in_yield, is_yield, inside, due_before, behind, may_end_open, lacks_yield, closed, closes, braced, with_else, bodies_at, tail_at, node_at, nodes_at, ended, file_at, block};
+ghost use Rattle.xf_read.specs.Laws.{AtNoText};
 ghost use Rattle.xf_read.specs.View.{nodes_of, bodies_of};
 
 use crate::fault::{Cause, SyntaxFault};
@@ -293,11 +294,7 @@ fn ended(tokens: &[Token], due: Due, at: usize) -> Result<(), SyntaxFault>
 }
 
 /// The syntax tree of a text.
-///
-/// It refuses with the first token that no text of the syntax has there, which is the end of the
-/// text where all of them fit, and with what is wrong there. It takes time in the number of
-/// tokens, and its calls nest no deeper than the regions of a text may.
-pub fn syntax(alloc: Global, tokens: &[Token]) -> Result<File, SyntaxFault>
+fn file(alloc: Global, tokens: &[Token]) -> Result<File, SyntaxFault>
     ensures { (f : ℕ) → length tokens.now < f → Gives (λ file. (file, length tokens.now)) result (file_at f tokens.now) }
 {
     let mut count = 0;
@@ -323,4 +320,17 @@ pub fn syntax(alloc: Global, tokens: &[Token]) -> Result<File, SyntaxFault>
             bodies,
         },
     })
+}
+
+/// The syntax tree of a text: a module, or functions alone, and then the end.
+///
+/// It refuses with the first token that no text of the syntax has there, which is the end of the
+/// text where all of them fit, and with what is wrong there. It takes time in the number of
+/// tokens, and its calls nest no deeper than the regions of a text may.
+#[tactic(auto, using(crate::proofs::Place::at_no_text))]
+pub fn syntax(alloc: Global, tokens: &[Token]) -> Result<File, SyntaxFault>
+    ensures exact { (f : ℕ) → length tokens.now < f → Gives (λ file. (file, length tokens.now)) result (file_at f tokens.now) }
+    ensures place { AtNoText result tokens.now }
+{
+    file(alloc, tokens)
 }
