@@ -3,6 +3,8 @@
 
 mod fault;
 mod reader;
+#[cfg(test)]
+mod tests;
 mod tree;
 
 pub use fault::{Cause, SyntaxFault};

@@ -258,7 +258,7 @@ fn node_at(
 
 /// Operations up to a brace or the end, inside so many open regions.
 #[cycle(tree)]
-fn nodes_at(
+pub(crate) fn nodes_at(
     alloc: Global,
     tokens: &[Token],
     level: Level,
