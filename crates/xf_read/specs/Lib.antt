@@ -2,3 +2,4 @@ pub mod Laws
 pub mod Syntax
 pub mod Tree
 pub mod View
+pub mod Within
