@@ -52,7 +52,7 @@ fn due_before(row: Row) -> Due
 }
 
 /// Whether the yield of a body may be left out.
-fn may_end_open(parts: &Parts) -> bool
+pub fn may_end_open(parts: &Parts) -> bool
     ensures { result ≡ may_end_open parts.now }
 {
     match parts.row {
@@ -73,7 +73,7 @@ fn is_yield(row: Row) -> bool
 
 /// Whether the last operation of a body is a yield.
 #[tactic(auto, using(crate::proofs::TreeLemmas::last_yields))]
-fn ends_in_yield(nodes: &[Node]) -> bool
+pub fn ends_in_yield(nodes: &[Node]) -> bool
     ensures { result ≡ ends_in_yield (nodes_of nodes.now) }
 {
     match nodes {
