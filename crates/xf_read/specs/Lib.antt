@@ -1,0 +1,5 @@
+pub mod Laws
+pub mod Syntax
+pub mod Tree
+pub mod View
+pub mod Within
