@@ -13,7 +13,8 @@ use Rattle.xf_read_base.specs.declared.row.Row.{Row}
 use Rattle.xf_read_base.specs.declared.row.Row.TheVariants as row
 use Rattle.xf_read_base.specs.Parts.{no_parts}
 use Rattle.xf_read_base.specs.Rules.{dictionary_rule, head_rule}
-use Rattle.xf_read_base.specs.Reading.{head_at, dictionary_at}
+use Rattle.xf_read_base.specs.Heads.{head_at}
+use Rattle.xf_read_base.specs.Reading.{dictionary_at}
 use Rattle.xf_read.specs.declared.fault.Cause.{Cause}
 use Rattle.xf_read.specs.declared.fault.SyntaxFault.{SyntaxFault}
 use Rattle.xf_read.specs.declared.tree.File.{File}
