@@ -1,14 +1,14 @@
 -- Changed uses, and the changes back.
-use Rattle.std.proofs.Common.{◌≡◌, ℕ, zero, suc, ◌+◌, List, [], ◌∷◌, ◌++◌, Option, Some, None, true, false, eqb, inl, inr, refl, sym, ap, ◌∙◌, subst, arith}
+use Rattle.std.proofs.Common.{◌≡◌, ℕ, suc, ◌+◌, List, [], ◌∷◌, ◌++◌, Option, Some, None, true, eqb, inl, inr, refl, sym, ap, ◌∙◌, subst, arith}
 use Rattle.std.specs.Prelude.{map, slice_get}
-use Rattle.std.proofs.lemmas.Bool.{cases_Bool, or_parts, eqb-true}
+use Rattle.std.proofs.lemmas.Bool.{cases_Bool, eqb-true}
 use Rattle.xf_ir.specs.declared.name.OpName.{OpName}
 use Rattle.xf_ir.specs.declared.name.ValueName.{ValueName}
 use Rattle.xf_ir.specs.declared.change.Change.{Change}
 use Rattle.xf_ir.specs.Tree.{Ops, no_ops, op, Regions, no_regions, region, Tree, Body, cons}
 use Rattle.xf_ir.specs.View.{ops_of, regions_of}
-use Rattle.xf_ir.specs.Walk.{ops_names, regions_names, tree_names, tree_find, ops_find, regions_find}
-use Rattle.xf_ir.specs.Lists.{Each, same_name, is_among, Once}
+use Rattle.xf_ir.specs.Walk.{ops_names, regions_names, tree_names, tree_find, ops_find}
+use Rattle.xf_ir.specs.Lists.{Each, same_name, Once}
 use Rattle.xf_ir.specs.Changes.{is_place, value_changed, operands_changed, ops_changed, regions_changed, tree_changed, body_changed, turned, operand_of}
 use Rattle.xf_ir.proofs.Lists.{name_is, own_name}
 use Rattle.xf_ir.proofs.Found.{tree, OpsWhere, RegionsWhere, where_found}
