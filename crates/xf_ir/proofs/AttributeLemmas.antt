@@ -1,5 +1,5 @@
 -- Attributes by name.
-use Rattle.std.proofs.Common.{◌≡◌, ℕ, ◌+◌, ◌≤◌, ◌&&◌, length, List, [], ◌∷◌, Bool, true, false, inl, inr, refl, sym, ap, ◌∙◌, subst, add-one, arith}
+use Rattle.std.proofs.Common.{◌≡◌, ℕ, ◌≤◌, ◌&&◌, length, List, [], ◌∷◌, Bool, inl, inr, refl, ap, add-one, arith}
 use Rattle.std.specs.Prelude.{◌==◌, nat_eq, Some}
 use Rattle.std.specs.Ordering.{nat_cmp, is_lt, is_some_and}
 use Rattle.std.specs.Cmp.Lexicographic.{pointwise, slice_partial_cmp}
@@ -7,7 +7,7 @@ use Rattle.std.proofs.lemmas.Cmp.{same_from_slice_cmp_tested}
 use Rattle.std.proofs.lemmas.Bool.Decides.{nat_tests}
 use Rattle.xf_ir.specs.Lists.{same_bytes}
 use Rattle.std.specs.List.{insert}
-use Rattle.std.proofs.lemmas.Bool.{cases_Bool, or_cases, or_parts}
+use Rattle.std.proofs.lemmas.Bool.{cases_Bool}
 use Rattle.xf_ir.specs.declared.kind.Attr.{Attr}
 use Rattle.xf_ir.specs.Attributes.{bytes_before, placed, names_before}
 

@@ -1,5 +1,5 @@
 -- Attributes changed in trees, and changed back.
-use Rattle.std.proofs.Common.{◌≡◌, List, [], ◌∷◌, Some, true, false, eqb, inl, inr, refl, ap}
+use Rattle.std.proofs.Common.{◌≡◌, List, [], ◌∷◌, Some, eqb, inl, inr, refl, ap}
 use Rattle.std.specs.Prelude.{map}
 use Rattle.std.proofs.lemmas.Bool.{cases_Bool}
 use Rattle.xf_ir.specs.declared.name.OpName.{OpName}

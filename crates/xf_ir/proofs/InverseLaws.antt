@@ -5,8 +5,6 @@ use Rattle.xf_ir.specs.declared.edit.Edit.{Edit}
 use Rattle.xf_ir.specs.declared.edit.Edit.TheVariants.{Insert, Erase, ReplaceUses, Replace, Restore, Move, SetAttr}
 use Rattle.xf_ir.specs.declared.op.Module.{Module}
 use Rattle.xf_ir.specs.Valid.{IsNamedOnce}
-use Rattle.xf_ir.specs.Tree.{Tree}
-use Rattle.xf_ir.specs.Walk.{regions_names}
 use Rattle.xf_ir.specs.Lists.{Once, is_among}
 use Rattle.xf_ir.specs.Spots.{tree_put}
 use Rattle.xf_ir.specs.Attributes.{attr_of, attr_set, attr_at}

@@ -1,6 +1,6 @@
 -- What is put back where it was erased, and erased where it was put.
 use Rattle.std.proofs.Common.{◌≡◌, ◌⊎◌, ℕ, zero, suc, ◌+◌, List, [], ◌∷◌, ◌++◌, Option, Some, None, true, false, eqb, refl, sym, ap, ◌∙◌, subst, inl, inr, arith}
-use Rattle.std.proofs.lemmas.Bool.{cases_Bool, or_from, or_parts}
+use Rattle.std.proofs.lemmas.Bool.{cases_Bool, or_parts}
 use Rattle.xf_ir.specs.declared.name.OpName.{OpName}
 use Rattle.xf_ir.specs.declared.spot.Spot.{Spot}
 use Rattle.xf_ir.specs.declared.spot.Located.{Located}
@@ -9,7 +9,7 @@ use Rattle.xf_ir.specs.Walk.{ops_names, regions_names, tree_names, first_of}
 use Rattle.xf_ir.specs.Lists.{same_name, is_among, Once}
 use Rattle.xf_ir.specs.Edits.{ops_at, regions_at, tail, tree_erased}
 use Rattle.xf_ir.specs.Spots.{ops_locate, regions_locate, tree_locate, ops_insert, regions_insert, ops_put, regions_put, tree_put}
-use Rattle.xf_ir.proofs.Lists.{name_is, own_name, not_left, not_right, once_left, once_right, once_apart, absent_before, apart_names, among_left, among_right}
+use Rattle.xf_ir.proofs.Lists.{own_name, not_left, not_right, once_left, once_right, once_apart, absent_before, apart_names, among_left, among_right}
 use Rattle.xf_ir.proofs.Found.{tree, first_cases}
 
 -- ---- a name that is not there

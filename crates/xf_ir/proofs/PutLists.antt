@@ -3,7 +3,7 @@ use Rattle.std.proofs.Common.{◌≡◌, ℕ, zero, suc, ◌<◌, ◌≤◌, Lis
 use Rattle.std.specs.Prelude.{map, slice_set}
 use Rattle.std.specs.List.{insert}
 use Rattle.xf_ir.specs.declared.spot.Spot.{Spot}
-use Rattle.xf_ir.specs.Tree.{op, region, Tree, Body, cons}
+use Rattle.xf_ir.specs.Tree.{region, Tree, Body, cons}
 use Rattle.xf_ir.specs.View.{ops_of, regions_of}
 use Rattle.xf_ir.specs.Spots.{ops_insert, regions_insert, ops_put, regions_put, tree_put, body_put}
 

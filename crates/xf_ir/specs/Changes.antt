@@ -1,13 +1,12 @@
 -- Changed uses and attributes.
-use Rattle.std.specs.Prelude.{◌≡◌, ℕ, zero, suc, ◌+◌, List, [], ◌∷◌, map, Option, Some, None, Bool, true, false, ◌==◌, ◌&&◌, ◌||◌, nat_lt, if◌then◌else◌, slice_get}
-use Rattle.xf_type.specs.declared.attribute.AttrValue.{AttrValue}
+use Rattle.std.specs.Prelude.{◌≡◌, ℕ, ◌+◌, List, [], ◌∷◌, Option, Some, None, Bool, false, ◌==◌, ◌&&◌, ◌||◌, if◌then◌else◌, slice_get}
 use Rattle.xf_ir.specs.declared.name.OpName.{OpName}
 use Rattle.xf_ir.specs.declared.name.ValueName.{ValueName}
 use Rattle.xf_ir.specs.declared.kind.Attr.{Attr}
 use Rattle.xf_ir.specs.declared.change.Change.{Change}
 use Rattle.xf_ir.specs.Tree.{Ops, no_ops, op, Regions, no_regions, region, Tree, Body}
 use Rattle.xf_ir.specs.Walk.{tree_find}
-use Rattle.xf_ir.specs.Lists.{same_name, same_bytes, Each}
+use Rattle.xf_ir.specs.Lists.{same_name, Each}
 
 -- ---- uses
 

@@ -319,9 +319,8 @@ fn inverse_of_set_attr(
     m: &Module,
     op: OpName,
     key: &ByteList,
-    value: &Option<AttrValue>,
 ) -> Result<Edit, NoMemory>
-    ensures { IfOk result (λ back. back ≡ inverse_of m.now (Edit.SetAttr op key.now value.now)) }
+    ensures { IfOk result (λ back. back ≡ inverse_of m.now (Edit.SetAttr op key.now None)) }
 {
     let old = old_value(alloc, m, op, key.as_slice())?;
     Ok(Edit::SetAttr {
@@ -359,6 +358,6 @@ pub fn inverse(alloc: Global, m: &Module, e: &Edit) -> Result<Edit, NoMemory>
             changes: turn(alloc, changes.as_slice())?,
         }),
         Edit::Move { op, to } => Ok(inverse_of_move(m, *op, *to)),
-        Edit::SetAttr { op, key, value } => inverse_of_set_attr(alloc, m, *op, key, value),
+        Edit::SetAttr { op, key, .. } => inverse_of_set_attr(alloc, m, *op, key),
     }
 }

@@ -1,5 +1,4 @@
-use Rattle.std.proofs.Common.{arith, refl, sym, ap, ◌∙◌, ◌≡◌}
-use Rattle.xf_ir.specs.Tree.{Body}
+use Rattle.std.proofs.Common.{arith, refl, ◌∙◌}
 use Rattle.xf_ir.proofs.PutLists.{regions_of-insert, regions_insert-past}
 use Rattle.xf_ir.proofs.spot.insert_in_regions.Goals as goal
 

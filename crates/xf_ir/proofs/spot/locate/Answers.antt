@@ -1,4 +1,4 @@
-use Rattle.std.proofs.Common.{◌≡◌, Some, sym, ap, ◌∙◌}
+use Rattle.std.proofs.Common.{Some, sym, ap, ◌∙◌}
 use Rattle.xf_ir.specs.Spots.{tree_locate}
 use Rattle.xf_ir.proofs.SpotLemmas.{both_found, no_tree, spot_none, located_tree}
 use Rattle.xf_ir.proofs.spot.locate.Goals.{in_default-via-in-Some+in_default, in_default-via-in_default}
