@@ -122,4 +122,3 @@ same_without name n count count' ts env env' e f k v o =
 pub types_same : (p : Place) (env env' : Typed) (vs : List ValueName) → Same p env env' → Each (Outside p) vs → map (type_at env) vs ≡ map (type_at env') vs
 types_same p env env' [] k o = refl
 types_same p env env' (v ∷ vs) k o = (let a = k v o.0 in let b = types_same p env env' vs k o.1 in cc)
-

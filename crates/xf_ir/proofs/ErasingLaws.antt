@@ -122,11 +122,10 @@ module _ (m : Module) (target name : OpName) (v : IsValid m) (e : MayErase m tar
   kept passes passes' step h =
       let P = Passes passes in
       let P' = Passes passes' in
-      let root = root_holder m.root in
-      (
+      let root = root_holder m.root in (
         step.turn top (map (type_at []) m.root.operands) m.root no_ops root_apart goes h.0,
         each_blocks P' root (regions_at name tail m.root.regions)
-        (blocks_kept name (length e.tree.results) P P' step root m.root.regions stay v.names.once.1 gives goes (stands_apart m target name v.names e) inner (blocks_obey P root m.root.regions h.1)),
+            (blocks_kept name (length e.tree.results) P P' step root m.root.regions stay v.names.once.1 gives goes (stands_apart m target name v.names e) inner (blocks_obey P root m.root.regions h.1)),
       )
     where
       root_apart : is_generic m.root.kind ≡ true → is_among name (regions_names m.root.regions) ≡ false
@@ -151,7 +150,7 @@ module _ (m : Module) (target name : OpName) (v : IsValid m) (e : MayErase m tar
     attributes = kept has_its_attributes has_its_attributes (attributes_step name) v.attributes;
     callees = kept (has_its_callee (signatures m)) (has_its_callee (signatures after)) (callees_step name (signatures m) (signatures after) same_signatures) v.callees;
     chains = subst (λ fs. Everywhere (has_short_chains fs) after) (sym (block_at name tail m.root.regions))
-    (kept (has_short_chains (functions_of m)) (has_short_chains (ops_at name tail (functions_of m))) (chains_step name (functions_of m) (first_stay name m.root.regions stay)) v.chains);
+        (kept (has_short_chains (functions_of m)) (has_short_chains (ops_at name tail (functions_of m))) (chains_step name (functions_of m) (first_stay name m.root.regions stay)) v.chains);
     maps = kept has_its_maps has_its_maps (maps_step name) v.maps;
     iterators = kept has_its_iterators has_its_iterators (iterators_step name) v.iterators;
     reductions = kept has_its_reduction has_its_reduction (reductions_step name) v.reductions;

@@ -64,10 +64,10 @@ module _ (name : OpName) (count : ℕ) (P P' : Placed → Type 0) (step : Step n
         let q : map (type_at env) os ≡ map (type_at env') os = types_same p env env' os s (each_left (Outside p) os more u) in
         at_cases (eqb n.0 name.0) rest (op n k ds os ts (regions_at name tail rs) (ops_at name tail rest)) (OpsObey P' h env')
         (λ t.
-            let i = name_is n name t in
-            let absent : is_among name ns ≡ false = subst (λ x. is_among x ns ≡ false) i (not_right n ms ns o.0) in
-            subst (OpsObey P' h env') (at_absent name rest absent)
-            (ops_kept h (d ∷ env) env' rest (same_without name n count (length ts) ts env env' i (w.0 t) s) (once_right ms ns o.1) w.1.1 g.1.1 a.1.1 bo e.1.1))
+        let i = name_is n name t in
+        let absent : is_among name ns ≡ false = subst (λ x. is_among x ns ≡ false) i (not_right n ms ns o.0) in
+        subst (OpsObey P' h env') (at_absent name rest absent)
+        (ops_kept h (d ∷ env) env' rest (same_without name n count (length ts) ts env env' i (w.0 t) s) (once_right ms ns o.1) w.1.1 g.1.1 a.1.1 bo e.1.1))
         (λ _. (
           here h env env' (tree n k ds os ts rs) rest q a.0 g.1.0 e.0,
           (

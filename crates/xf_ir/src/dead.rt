@@ -53,7 +53,8 @@ fn find_outside_bodies(op: &Op, name: OpName) -> Option<&Op>
     if op.name == name {
         return Some(op);
     }
-    if op.kind.is_generic() {
+    let holds_a_body = op.kind.is_generic();
+    if holds_a_body {
         return None;
     }
     for block in &op.regions {

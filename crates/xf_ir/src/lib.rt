@@ -37,4 +37,6 @@ pub use values::ValueList;
 pub use walk::{NameList, count, walk_post};
 
 #[cfg(test)]
+mod large_tests;
+#[cfg(test)]
 mod tests;

@@ -16,7 +16,7 @@ use xf_type::{
 };
 
 /// One type of 32 bits.
-fn int_type(alloc: Global) -> Result<TypeList, NoMemory>
+pub(crate) fn int_type(alloc: Global) -> Result<TypeList, NoMemory>
     ensures { IfOk result (λ types. types ≡ one_int) }
 {
     let mut types = ListOf::new(alloc);
@@ -25,7 +25,7 @@ fn int_type(alloc: Global) -> Result<TypeList, NoMemory>
 }
 
 /// An operation that holds nothing.
-fn leaf(
+pub(crate) fn leaf(
     alloc: Global,
     name: u64,
     kind: Kind,
@@ -45,7 +45,13 @@ fn leaf(
 }
 
 /// An operation that holds one block.
-fn holder(alloc: Global, name: u64, kind: Kind, args: TypeList, ops: OpList) -> Result<Op, NoMemory>
+pub(crate) fn holder(
+    alloc: Global,
+    name: u64,
+    kind: Kind,
+    args: TypeList,
+    ops: OpList,
+) -> Result<Op, NoMemory>
     ensures { IfOk result (λ o. o ≡ record { name = named name; kind = kind; attrs = []; operands = []; results = []; regions = region args (ops_of ops.items) no_regions }) }
 {
     let mut regions = Vec::new(alloc);
@@ -199,5 +205,20 @@ fn a_set_has_the_names_that_went_in(rt: HostRuntime) -> Result<(), Fail> {
     assert!(rt; !names.insert(OpName(7))?);
     assert!(rt; names.insert(OpName(3))?);
     assert!(rt; names.contains(OpName(3)) && !names.contains(OpName(4)));
+    Ok(())
+}
+
+#[test]
+fn kinds_are_spelt_and_sorted(rt: HostRuntime) -> Result<(), Fail> {
+    let sum = Kind::Binary {
+        kind: BinKind::Addi,
+        width: Width::I32,
+    };
+    assert_eq!(rt; sum.spelling(), b"arith.addi".as_slice());
+    assert_eq!(rt; Kind::If.spelling(), b"scf.if".as_slice());
+    assert!(rt; !sum.is_generic() && !sum.is_container() && !sum.ends_block());
+    assert!(rt; Kind::LinalgYield.ends_block());
+    valid_is_scoped();
+    valid_has_no_violation();
     Ok(())
 }
