@@ -56,31 +56,54 @@ fn erases(alloc: Global, m: &mut Module, name: u64) -> Result<bool, NoMemory> {
     Ok(!has(m, name))
 }
 
+/// The edit that puts a constant at a spot.
+fn insertion(alloc: Global, name: u64, at: Spot) -> Result<Edit, NoMemory> {
+    Ok(Edit::Insert {
+        tree: constant(alloc, name)?,
+        at,
+    })
+}
+
 /// Whether a constant of that name is there after it was put at a spot.
 fn inserts(alloc: Global, m: &mut Module, name: u64, at: Spot) -> Result<bool, NoMemory> {
-    let tree = constant(alloc, name)?;
-    apply_edit(alloc, m, &Edit::Insert { tree, at })?;
+    let edit = insertion(alloc, name, at)?;
+    apply_edit(alloc, m, &edit)?;
     Ok(has(m, name))
 }
 
-/// Whether an operation of a copy is taken out and a constant put into it, where the module itself stays.
-fn changes(alloc: Global, m: &Module, old: u64, new: u64, at: Spot) -> Result<bool, NoMemory> {
-    let mut copy = m.copy(alloc)?;
-    let erased = erases(alloc, &mut copy, old)?;
-    let inserted = inserts(alloc, &mut copy, new, at)?;
-    Ok(erased && inserted && has(m, old))
+/// Whether a copy has as many operations.
+fn copies(alloc: Global, m: &Module) -> Result<bool, NoMemory> {
+    let copy = m.copy(alloc)?;
+    Ok(count(&copy.root) == count(&m.root))
 }
 
-#[test]
-fn a_block_has_a_million_operations(rt: HostRuntime) -> Result<(), Fail> {
+/// Whether the tree has so many operations, and is copied, loses one of them, and gains a constant at a spot.
+fn changes(
+    alloc: Global,
+    m: &mut Module,
+    number: u64,
+    old: u64,
+    new: u64,
+    at: Spot,
+) -> Result<bool, NoMemory> {
+    let whole = count(&m.root) == number && copies(alloc, m)?;
+    Ok(whole && erases(alloc, m, old)? && inserts(alloc, m, new, at)?)
+}
+
+/// The same of a block of a million operations, at its end.
+fn million_changes(alloc: Global) -> Result<bool, NoMemory> {
     let end = Spot {
         parent: OpName(0),
         region: 0,
         at: 999_999,
     };
-    let m = million(rt.alloc())?;
-    assert_eq!(rt; count(&m.root), 1_000_001);
-    assert!(rt; changes(rt.alloc(), &m, 1_000_000, 1_000_001, end)?);
+    let mut m = million(alloc)?;
+    changes(alloc, &mut m, 1_000_001, 1_000_000, 1_000_001, end)
+}
+
+#[test]
+fn a_block_has_a_million_operations(rt: HostRuntime) -> Result<(), Fail> {
+    assert!(rt; million_changes(rt.alloc())?);
     Ok(())
 }
 
@@ -98,16 +121,22 @@ fn nested(alloc: Global, levels: u64) -> Result<Op, NoMemory>
     Ok(op)
 }
 
-#[test]
-fn conditions_are_nested_in_32_levels(rt: HostRuntime) -> Result<(), Fail> {
+/// The same of conditions in 32 levels, in the innermost.
+fn nested_changes(alloc: Global) -> Result<bool, NoMemory> {
     let innermost = Spot {
         parent: OpName(1),
         region: 0,
         at: 0,
     };
-    let root = nested(rt.alloc(), 32)?;
-    assert_eq!(rt; count(&root), 33);
-    let m = Module { root, next: 33 };
-    assert!(rt; changes(rt.alloc(), &m, 0, 40, innermost)?);
+    let mut m = Module {
+        root: nested(alloc, 32)?,
+        next: 33,
+    };
+    changes(alloc, &mut m, 33, 0, 40, innermost)
+}
+
+#[test]
+fn conditions_are_nested_in_32_levels(rt: HostRuntime) -> Result<(), Fail> {
+    assert!(rt; nested_changes(rt.alloc())?);
     Ok(())
 }
