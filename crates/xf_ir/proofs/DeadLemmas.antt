@@ -16,7 +16,8 @@ use Rattle.xf_ir.specs.Lists.{Each, Once, same_name, is_among}
 use Rattle.xf_ir.specs.Places.{Seen, done, inside, results_of, args_of, sees, AllSeen}
 use Rattle.xf_ir.specs.Choices.{ops_operands, regions_operands, tree_operands, scope_of, scope_at, stands_before, MayErase, IsDead, IsNormal, IsFirstDead}
 use Rattle.xf_ir.specs.Used.{with_uses, goes_unused, ops_first, regions_first}
-use Rattle.xf_ir.specs.Valid.{IsValid, is_container, ends, IsModule, HasRegions, block_of, OpsSee, RegionsSee, FunctionsSee}
+use Rattle.xf_ir.specs.Valid.{IsValid, IsModule, HasRegions, block_of, OpsSee, RegionsSee, FunctionsSee}
+use Rattle.xf_ir.specs.Kinds.{is_container, ends}
 use Rattle.xf_ir.proofs.Lists.{name_is, own_name, not_left, not_right, once_left, once_right, absent_before, apart_names}
 use Rattle.xf_ir.proofs.Found.{tree, none_of, first_cases, found_name, found_name_regions, found_named_regions, lost_name, lost_name_regions, OpsWhere, RegionsWhere, where_found_regions}
 use Rattle.xf_ir.proofs.ErasedUses.{Gives, Outside}
@@ -127,9 +128,7 @@ module _ (name : OpName) (count : ℕ) where
   module_fit (kind.Module symbol) (region args ops rest) i r w h =
       each_both (Fits name count) (ops_operands ops) (regions_operands rest) (functions_fit ops w.0 h) (subst (λ x. Each (Fits name count) (regions_operands x)) (sym r.1) tt)
   module_fit (kind.Func symbol private results) (region args ops rest) i r w h = absurd i
-  module_fit kind.Return (region args ops rest) i r w h = absurd i
-  module_fit (kind.Constant width bits) (region args ops rest) i r w h = absurd i
-  module_fit (kind.Binary which width) (region args ops rest) i r w h = absurd i
+  module_fit _ (region args ops rest) i r w h = absurd i
 
 no_results : (n : OpName) (count : ℕ) (vs : List ValueName) → Each (Fits n count) vs → Each (Outside (results_of n count)) vs → Each (λ v. is_result n v ≡ false) vs
 no_results n count [] f o = tt

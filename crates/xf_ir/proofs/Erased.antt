@@ -45,16 +45,12 @@ functions_kept name (op n k ds os ts rs rest) h =
 symbols_skip : (k : Kind) (xs ys : List (List ℕ)) → Part ys xs → Part ys (symbols_before k xs)
 symbols_skip (kind.Module symbol) xs ys p = p
 symbols_skip (kind.Func symbol private results) xs ys p = skip p
-symbols_skip kind.Return xs ys p = p
-symbols_skip (kind.Constant width bits) xs ys p = p
-symbols_skip (kind.Binary which width) xs ys p = p
+symbols_skip _ xs ys p = p
 
 symbols_keep : (k : Kind) (xs ys : List (List ℕ)) → Part ys xs → Part (symbols_before k ys) (symbols_before k xs)
 symbols_keep (kind.Module symbol) xs ys p = p
 symbols_keep (kind.Func symbol private results) xs ys p = keep p
-symbols_keep kind.Return xs ys p = p
-symbols_keep (kind.Constant width bits) xs ys p = p
-symbols_keep (kind.Binary which width) xs ys p = p
+symbols_keep _ xs ys p = p
 
 pub symbols_part : (name : OpName) (fs : Ops) → Part (symbols_of (ops_at name tail fs)) (symbols_of fs)
 symbols_part name no_ops = none
@@ -73,9 +69,7 @@ pub regions_kept_here : (name : OpName) (k : Kind) (rs : Regions) → HasRegions
 regions_kept_here name k no_regions h = h
 regions_kept_here name (kind.Module symbol) (region args ops rest) h = (h.0, ap (regions_at name tail) h.1)
 regions_kept_here name (kind.Func symbol private results) (region args ops rest) h = ap (regions_at name tail) h
-regions_kept_here name kind.Return (region args ops rest) h = h
-regions_kept_here name (kind.Constant width bits) (region args ops rest) h = h
-regions_kept_here name (kind.Binary which width) (region args ops rest) h = h
+regions_kept_here name _ (region args ops rest) h = h
 
 mutual
   regions_kept_ops : (name : OpName) (ops : Ops) → OpsHaveRegions ops → OpsHaveRegions (ops_at name tail ops)

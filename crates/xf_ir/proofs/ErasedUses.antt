@@ -11,7 +11,8 @@ use Rattle.xf_ir.specs.Lists.{Each}
 use Rattle.xf_ir.specs.Edits.{ops_at, regions_at, tail}
 use Rattle.xf_ir.specs.Places.{Place, Seen, done, inside, place_of, results_of, sees, AllSeen}
 use Rattle.xf_ir.specs.Choices.{ops_operands, regions_operands}
-use Rattle.xf_ir.specs.Valid.{ends, is_endless, EndsHere, OpsEnd, RegionsEnd, OpsSee, RegionsSee, FunctionsSee, Typed, type_or, type_at, FitsRow, OpsFit, RegionsFit}
+use Rattle.xf_ir.specs.Valid.{EndsHere, OpsEnd, RegionsEnd, OpsSee, RegionsSee, FunctionsSee, Typed, type_or, type_at, FitsRow, OpsFit, RegionsFit}
+use Rattle.xf_ir.specs.Kinds.{ends, is_endless}
 use Rattle.xf_ir.proofs.Lists.{name_is, at_cases, each_left, each_right}
 use Rattle.xf_ir.proofs.Found.{OpsWhere, RegionsWhere}
 

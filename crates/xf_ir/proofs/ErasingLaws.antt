@@ -123,9 +123,7 @@ lowers_count m target name v e = omega (arith, count_falls_regions name e.tree m
 some_weight : (k : Kind) → 1 ≤ weight_of k
 some_weight (kind.Module symbol) = omega arith
 some_weight (kind.Func symbol private results) = omega arith
-some_weight kind.Return = omega arith
-some_weight (kind.Constant width bits) = omega arith
-some_weight (kind.Binary which width) = omega arith
+some_weight _ = omega arith
 
 mutual
   weight_stays : (name : OpName) (ops : Ops) → ops_weight (ops_at name tail ops) ≤ ops_weight ops

@@ -9,7 +9,7 @@ use Rattle.xf_ir.specs.Tree.{Ops, no_ops, op, Regions, no_regions, region, Tree}
 use Rattle.xf_ir.specs.Walk.{tree_find, regions_find, regions_names}
 use Rattle.xf_ir.specs.Lists.{Each, same_name}
 use Rattle.xf_ir.specs.Places.{results_of}
-use Rattle.xf_ir.specs.Valid.{is_container, ends}
+use Rattle.xf_ir.specs.Kinds.{is_container, ends}
 
 -- the operands of all operations, in preorder
 abbrev mutual
@@ -62,11 +62,9 @@ abbrev pub IsFirstDead : Module → OpName → OpName → Type 0
 IsFirstDead m target name = (other : OpName) → stands_before other name (regions_names (scope_at m target)) ≡ true → MayErase m target other → ⊥
 
 abbrev pub weight_of : Kind → ℕ
-weight_of (kind.Module symbol) = 2
-weight_of (kind.Func symbol private results) = 2
-weight_of kind.Return = 2
 weight_of (kind.Constant width bits) = 1
-weight_of (kind.Binary which width) = 2
+weight_of (kind.Dense shape numbers) = 1
+weight_of _ = 2
 
 -- what each choice lowers
 abbrev mutual

@@ -5,6 +5,7 @@ pub mod View
 pub mod Count
 pub mod Walk
 pub mod Places
+pub mod Kinds
 pub mod Valid
 pub mod Spots
 pub mod Changes

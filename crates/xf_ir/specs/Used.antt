@@ -7,7 +7,7 @@ use Rattle.xf_ir.specs.declared.name.ValueName.{ValueName}
 use Rattle.xf_ir.specs.declared.name.ValueName.TheVariants.{Result, Arg, Free}
 use Rattle.xf_ir.specs.Tree.{Ops, no_ops, op, Regions, no_regions, region, Tree}
 use Rattle.xf_ir.specs.Walk.{first_of}
-use Rattle.xf_ir.specs.Valid.{is_container, ends}
+use Rattle.xf_ir.specs.Kinds.{is_container, ends}
 
 -- with the operation of which the value is a result
 abbrev pub with_use : set.FinSet nat_cmp → ValueName → set.FinSet nat_cmp

@@ -16,6 +16,7 @@ use Rattle.xf_ir.specs.declared.op.Module.{Module}
 use Rattle.xf_ir.specs.Tree.{Ops, no_ops, op, Regions, no_regions, region}
 use Rattle.xf_ir.specs.Walk.{tree_names}
 use Rattle.xf_ir.specs.Lists.{Each, Once, TextsOnce}
+use Rattle.xf_ir.specs.Kinds.{is_container, ends, ends_for, is_endless, returned_types}
 use Rattle.xf_ir.specs.Words.{IsWord}
 use Rattle.xf_ir.specs.Places.{Seen, done, inside, place_of, AllSeen}
 
@@ -26,13 +27,6 @@ pub record IsNamedOnce (m : Module) : Type 0 where
   pub below : Each (λ n. n.0 < m.next) (tree_names m.root)
 
 -- ---- V2: the root is a module that holds functions alone, of different names, and neither stands anywhere else
-
-abbrev pub is_container : Kind → Bool
-is_container (kind.Module symbol) = true
-is_container (kind.Func symbol private results) = true
-is_container kind.Return = false
-is_container (kind.Constant width bits) = false
-is_container (kind.Binary which width) = false
 
 abbrev mutual
   pub OpsInner : Ops → Type 0
@@ -46,9 +40,7 @@ abbrev mutual
 abbrev pub IsFunction : Kind → Type 0
 IsFunction (kind.Module symbol) = ⊥
 IsFunction (kind.Func symbol private results) = Unit {0}
-IsFunction kind.Return = ⊥
-IsFunction (kind.Constant width bits) = ⊥
-IsFunction (kind.Binary which width) = ⊥
+IsFunction _ = ⊥
 
 abbrev pub FunctionsAlone : Ops → Type 0
 FunctionsAlone no_ops = Unit {0}
@@ -57,16 +49,12 @@ FunctionsAlone (op n k ds os ts rs rest) = IsFunction k × (RegionsInner rs × F
 abbrev pub IsModule : Kind → Type 0
 IsModule (kind.Module symbol) = Unit {0}
 IsModule (kind.Func symbol private results) = ⊥
-IsModule kind.Return = ⊥
-IsModule (kind.Constant width bits) = ⊥
-IsModule (kind.Binary which width) = ⊥
+IsModule _ = ⊥
 
 abbrev pub symbols_before : Kind → List (List ℕ) → List (List ℕ)
 symbols_before (kind.Module symbol) more = more
 symbols_before (kind.Func symbol private results) more = symbol ∷ more
-symbols_before kind.Return more = more
-symbols_before (kind.Constant width bits) more = more
-symbols_before (kind.Binary which width) more = more
+symbols_before _ more = more
 
 -- the symbols of functions, in order
 abbrev pub symbols_of : Ops → List (List ℕ)
@@ -92,9 +80,7 @@ abbrev pub HasRegions : Kind → Regions → Type 0
 HasRegions k no_regions = is_container k ≡ false
 HasRegions (kind.Module symbol) (region args ops rest) = (args ≡ []) × (rest ≡ no_regions)
 HasRegions (kind.Func symbol private results) (region args ops rest) = rest ≡ no_regions
-HasRegions kind.Return (region args ops rest) = ⊥
-HasRegions (kind.Constant width bits) (region args ops rest) = ⊥
-HasRegions (kind.Binary which width) (region args ops rest) = ⊥
+HasRegions _ (region args ops rest) = ⊥
 
 abbrev mutual
   pub OpsHaveRegions : Ops → Type 0
@@ -110,30 +96,6 @@ pub record HasItsRegions (m : Module) : Type 0 where
   pub inner : RegionsHaveRegions m.root.regions
 
 -- ---- V4: each block ends in its row's terminator, and none stands elsewhere
-
--- whether an operation ends a block
-abbrev pub ends : Kind → Bool
-ends (kind.Module symbol) = false
-ends (kind.Func symbol private results) = false
-ends kind.Return = true
-ends (kind.Constant width bits) = false
-ends (kind.Binary which width) = false
-
--- whether an operation ends a block of the holder
-abbrev pub ends_for : Kind → Kind → Bool
-ends_for (kind.Module symbol) k = false
-ends_for (kind.Func symbol private results) k = ends k
-ends_for kind.Return k = false
-ends_for (kind.Constant width bits) k = false
-ends_for (kind.Binary which width) k = false
-
--- whether a block of the holder goes without a terminator
-abbrev pub is_endless : Kind → Bool
-is_endless (kind.Module symbol) = true
-is_endless (kind.Func symbol private results) = false
-is_endless kind.Return = false
-is_endless (kind.Constant width bits) = false
-is_endless (kind.Binary which width) = false
 
 abbrev pub EndsHere : Kind → Kind → Ops → Type 0
 EndsHere holder k no_ops = (ends k ≡ true → ends_for holder k ≡ true) × (ends k ≡ false → is_endless holder ≡ true)
@@ -187,14 +149,6 @@ abbrev pub type_at : Typed → ValueName → Option PayloadType
 type_at [] v = None
 type_at (x ∷ xs) v = type_or (place_of x.0 v) x.1 (type_at xs v)
 
--- the types that a block of the holder returns
-abbrev pub returned_types : Kind → List PayloadType
-returned_types (kind.Module symbol) = []
-returned_types (kind.Func symbol private results) = results
-returned_types kind.Return = []
-returned_types (kind.Constant width bits) = []
-returned_types (kind.Binary which width) = []
-
 -- the types of operands and results in a block of the holder
 abbrev pub FitsRow : Kind → Kind → List (Option PayloadType) → List PayloadType → Type 0
 FitsRow holder (kind.Module symbol) os ts = (os ≡ []) × (ts ≡ [])
@@ -202,6 +156,7 @@ FitsRow holder (kind.Func symbol private results) os ts = (os ≡ []) × (ts ≡
 FitsRow holder kind.Return os ts = (os ≡ map Some (returned_types holder)) × (ts ≡ [])
 FitsRow holder (kind.Constant width bits) os ts = (os ≡ []) × (ts ≡ Scalar width ∷ [])
 FitsRow holder (kind.Binary which width) os ts = (os ≡ Some (Scalar width) ∷ Some (Scalar width) ∷ []) × (ts ≡ Scalar width ∷ [])
+FitsRow holder _ os ts = ⊥
 
 abbrev mutual
   pub OpsFit : Kind → Typed → Ops → Type 0
@@ -225,9 +180,8 @@ FitsWord (Some s) = IsWord s
 abbrev pub HasOwnAttributes : Kind → Type 0
 HasOwnAttributes (kind.Module symbol) = FitsWord symbol
 HasOwnAttributes (kind.Func symbol private results) = IsWord symbol
-HasOwnAttributes kind.Return = Unit {0}
 HasOwnAttributes (kind.Constant width bits) = bits < 2 ^ bits_of width
-HasOwnAttributes (kind.Binary which width) = Unit {0}
+HasOwnAttributes _ = Unit {0}
 
 abbrev pub FitsAttribute : AttrValue → Type 0
 FitsAttribute unit_attr = Unit {0}

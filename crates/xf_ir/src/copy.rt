@@ -1,11 +1,23 @@
 //! Copies of trees and of what they are made of.
 ghost use Rattle.std.specs.Prelude.{◌≡◌, IfOk};
 
-use crate::kind::{Attr, Kind};
+use crate::kind::{Attr, IteratorKind, Kind, SliceIndex};
 use crate::op::{Block, Module, Op};
 use crate::values::ValueList;
 use std::alloc::Global;
 use xf_type::{ByteList, Duplicate, NoMemory};
+
+impl Duplicate for SliceIndex {
+    fn duplicate(&self, _alloc: Global) -> Result<SliceIndex, NoMemory> {
+        Ok(*self)
+    }
+}
+
+impl Duplicate for IteratorKind {
+    fn duplicate(&self, _alloc: Global) -> Result<IteratorKind, NoMemory> {
+        Ok(*self)
+    }
+}
 
 impl Duplicate for Attr {
     fn duplicate(&self, alloc: Global) -> Result<Attr, NoMemory> {
@@ -42,14 +54,53 @@ impl Duplicate for Kind {
                 results: results.duplicate(alloc)?,
             },
             Kind::Return => Kind::Return,
+            Kind::Call { callee } => Kind::Call {
+                callee: callee.duplicate(alloc)?,
+            },
             Kind::Constant { width, bits } => Kind::Constant {
                 width: *width,
                 bits: *bits,
+            },
+            Kind::Dense { shape, numbers } => Kind::Dense {
+                shape: shape.duplicate(alloc)?,
+                numbers: numbers.duplicate(alloc)?,
             },
             Kind::Binary { kind, width } => Kind::Binary {
                 kind: *kind,
                 width: *width,
             },
+            Kind::Compare { kind, width } => Kind::Compare {
+                kind: *kind,
+                width: *width,
+            },
+            Kind::Select { width } => Kind::Select { width: *width },
+            Kind::Convert { kind, from, to } => Kind::Convert {
+                kind: *kind,
+                from: *from,
+                to: *to,
+            },
+            Kind::For { width } => Kind::For { width: *width },
+            Kind::If => Kind::If,
+            Kind::Yield => Kind::Yield,
+            Kind::Empty => Kind::Empty,
+            Kind::Dim => Kind::Dim,
+            Kind::Extract => Kind::Extract,
+            Kind::Insert => Kind::Insert,
+            Kind::ExtractSlice { offsets, sizes } => Kind::ExtractSlice {
+                offsets: offsets.duplicate(alloc)?,
+                sizes: sizes.duplicate(alloc)?,
+            },
+            Kind::InsertSlice { offsets, sizes } => Kind::InsertSlice {
+                offsets: offsets.duplicate(alloc)?,
+                sizes: sizes.duplicate(alloc)?,
+            },
+            Kind::Cast => Kind::Cast,
+            Kind::Named { kind } => Kind::Named { kind: *kind },
+            Kind::Generic { maps, iterators } => Kind::Generic {
+                maps: maps.duplicate(alloc)?,
+                iterators: iterators.duplicate(alloc)?,
+            },
+            Kind::LinalgYield => Kind::LinalgYield,
         })
     }
 }

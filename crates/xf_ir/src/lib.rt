@@ -17,7 +17,10 @@ mod walk;
 pub use change::{Change, ChangeList};
 pub use dead::first_dead;
 pub use edit::{Edit, apply_edit, inverse};
-pub use kind::{Attr, AttrList, Kind};
+pub use kind::{
+    Attr, AttrList, IteratorKind, IteratorList, Kind, MapList, NamedKind, NumberList, SliceIndex,
+    SliceIndexList,
+};
 pub use laws::{
     erasing_fits, erasing_keeps_valid, erasing_lowers_count, erasing_lowers_weight,
     inverse_leads_back, valid_is_scoped,

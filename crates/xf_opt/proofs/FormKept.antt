@@ -7,7 +7,7 @@ use Rattle.xf_ir.specs.declared.edit.Edit.TheVariants.{Erase}
 use Rattle.xf_ir.specs.declared.op.Module.{Module}
 use Rattle.xf_ir.specs.Tree.{Ops, no_ops, op, Regions, no_regions, region, Tree}
 use Rattle.xf_ir.specs.Walk.{regions_find}
-use Rattle.xf_ir.specs.Valid.{is_container}
+use Rattle.xf_ir.specs.Kinds.{is_container}
 use Rattle.xf_ir.specs.Edits.{edited, ops_at, regions_at, tail}
 use Rattle.xf_ir.specs.Choices.{MayErase}
 use Rattle.xf_ir.proofs.ErasingLaws.{found_inside, valid_kept, lowers_count}
@@ -30,11 +30,8 @@ first_block_kept name no_regions h = tt
 first_block_kept name (region args ops rest) h = (h.0, (h.1.0, first_ops_kept name ops h.1.1))
 
 head_is_container : (k : Kind) → IsFirstHead k → is_container k ≡ true
-head_is_container (kind.Module symbol) h = absurd h
 head_is_container (kind.Func symbol private results) h = refl
-head_is_container kind.Return h = absurd h
-head_is_container (kind.Constant width bits) h = absurd h
-head_is_container (kind.Binary which width) h = absurd h
+head_is_container _ h = absurd h
 
 kind_or : Kind → Option Tree → Kind
 kind_or k None = k

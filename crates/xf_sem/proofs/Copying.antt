@@ -208,11 +208,8 @@ copied_signature : (k k' : Kind) (rs rs' : Regions) (more more' : List Signature
 copied_signature k k' rs rs' more more' p a q = subst (λ j. signature_before k rs more ≡ signature_before j rs' more') p (same_kind k)
   where
     same_kind : (j : Kind) → signature_before j rs more ≡ signature_before j rs' more'
-    same_kind (kind.Module symbol) = q
     same_kind (kind.Func symbol private types) = cc
-    same_kind kind.Return = q
-    same_kind (kind.Constant width bits) = q
-    same_kind (kind.Binary which width) = q
+    same_kind _ = q
 
 copied_signatures : (fs fs' : Ops) (s : ValueName → ValueName) → FunctionsCopy s fs fs' → signatures_of fs ≡ signatures_of fs'
 copied_signatures no_ops no_ops s y = refl

@@ -6,7 +6,8 @@ use Rattle.xf_ir.specs.declared.kind.Kind.{Kind}
 use Rattle.xf_ir.specs.declared.kind.Kind.TheVariants as kind
 use Rattle.xf_ir.specs.Tree.{Ops, no_ops, op, Regions, no_regions, region, Tree}
 use Rattle.xf_ir.specs.Places.{results_of}
-use Rattle.xf_ir.specs.Valid.{IsFunction, FunctionsAlone, is_container, ends, functions_of, block_of}
+use Rattle.xf_ir.specs.Valid.{IsFunction, FunctionsAlone, functions_of, block_of}
+use Rattle.xf_ir.specs.Kinds.{is_container, ends}
 use Rattle.xf_ir.specs.Edits.{tail}
 use Rattle.xf_ir.proofs.Found as found
 use Rattle.xf_ir.proofs.Scopes.{scoped}
@@ -55,11 +56,8 @@ functions_lead name no_ops h = tt
 functions_lead name (op n k ds os ts rs rest) h = (leads_where_regions name rs outside n 0 h.1.0, functions_lead name rest h.1.1)
 
 container : (k : Kind) → IsFunction k → is_container k ≡ true
-container (kind.Module symbol) f = refl
 container (kind.Func symbol private types) f = refl
-container kind.Return f = elim f [ ]
-container (kind.Constant width bits) f = elim f [ ]
-container (kind.Binary which width) f = elim f [ ]
+container _ f = elim f [ ]
 
 other_name : (b : Bool) (k : Kind) → IsFunction k → (b ≡ true → is_container k ≡ false) → b ≡ false
 other_name true k f h = let no = h refl in let yes = container k f in cc

@@ -6,7 +6,7 @@ use Rattle.xf_ir.specs.declared.name.OpName.{OpName}
 use Rattle.xf_ir.specs.declared.kind.Kind.{Kind}
 use Rattle.xf_ir.specs.declared.kind.Kind.TheVariants as kind
 use Rattle.xf_ir.specs.Lists.{same_bytes}
-use Rattle.xf_ir.specs.Valid.{ends}
+use Rattle.xf_ir.specs.Kinds.{ends}
 use Rattle.xf_sem.specs.declared.value.Value.{Value}
 use Rattle.xf_sem.specs.Values.{fit_types}
 use Rattle.xf_sem.specs.Meaning.{Answer, gives, fails, Run, finish, undefined, charge, next, and_then, Body, Bodies, first_body, Calls, Action, results, is_undefined, enters, calls, acts, performed, where_fit, elements, does, step, called}
@@ -114,8 +114,5 @@ step_leads k k' ts ts' n n' c c' bs bs' vs vs' go go' p t l h q r =
 
 -- the function that is called
 pub called_lead : (k : Kind) (f : List ℕ) (b b' later later' : Body) (vs : List Value) → Leads (b vs) (b' vs) → Leads (later vs) (later' vs) → Leads (called k f b later vs) (called k f b' later' vs)
-called_lead (kind.Module symbol) f b b' later later' vs h q = q
 called_lead (kind.Func symbol private types) f b b' later later' vs h q = leads_if (same_bytes symbol f) _ _ _ _ h q
-called_lead kind.Return f b b' later later' vs h q = q
-called_lead (kind.Constant width bits) f b b' later later' vs h q = q
-called_lead (kind.Binary which width) f b b' later later' vs h q = q
+called_lead _ f b b' later later' vs h q = q

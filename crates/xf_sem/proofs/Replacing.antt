@@ -7,7 +7,7 @@ use Rattle.xf_ir.specs.declared.name.ValueName.{ValueName}
 use Rattle.xf_ir.specs.Tree.{Ops, no_ops, op, Regions, no_regions, region}
 use Rattle.xf_ir.specs.Lists.{Each}
 use Rattle.xf_ir.specs.Places.{results_of, Seen, done, sees, OpsScoped}
-use Rattle.xf_ir.specs.Valid.{ends}
+use Rattle.xf_ir.specs.Kinds.{ends}
 use Rattle.xf_ir.specs.Choices.{ops_operands}
 use Rattle.xf_sem.specs.declared.value.Value.{Value}
 use Rattle.xf_sem.specs.Meaning.{Env, item, item_or, extend, gives, Calls, does, ops_run, bodies_of}

@@ -157,11 +157,8 @@ module _ (name : OpName) (change : Ops → Ops) where
   arguments_at (region args ops rest) = refl
 
   signature_at : (k : Kind) (rs : Regions) (more more' : List Signature) → more ≡ more' → signature_before k rs more ≡ signature_before k (regions_at name change rs) more'
-  signature_at (kind.Module symbol) rs more more' h = h
   signature_at (kind.Func symbol private types) rs more more' h = let a = arguments_at rs in cc
-  signature_at kind.Return rs more more' h = h
-  signature_at (kind.Constant width bits) rs more more' h = h
-  signature_at (kind.Binary which width) rs more more' h = h
+  signature_at _ rs more more' h = h
 
   signatures_at : (fs : Ops) → NoFunction name fs → signatures_of fs ≡ signatures_of (ops_at name change fs)
   signatures_at no_ops m = refl

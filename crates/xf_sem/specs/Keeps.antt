@@ -21,11 +21,8 @@ argument_types no_regions = []
 argument_types (region args ops rest) = args
 
 abbrev pub signature_before : Kind → Regions → List Signature → List Signature
-signature_before (kind.Module symbol) rs more = more
 signature_before (kind.Func symbol private types) rs more = record { symbol = symbol; args = argument_types rs; results = types } ∷ more
-signature_before kind.Return rs more = more
-signature_before (kind.Constant width bits) rs more = more
-signature_before (kind.Binary which width) rs more = more
+signature_before _ rs more = more
 
 abbrev pub signatures_of : Ops → List Signature
 signatures_of no_ops = []

@@ -3,9 +3,9 @@ use Rattle.std.specs.Prelude.{ℕ, zero, suc, ◌+◌, List, [], ◌∷◌, leng
 use Rattle.xf_type.specs.declared.payload_type.PayloadType.{PayloadType}
 use Rattle.xf_type.specs.declared.payload_type.Width.{Width}
 use Rattle.xf_type.specs.declared.payload_type.Width.TheVariants.{I1}
+use Rattle.xf_type.specs.declared.payload_type.Elem.{Elem}
 use Rattle.xf_type.specs.declared.payload_type.Elem.TheVariants.{Num, NoNumber}
-use Rattle.xf_type.specs.declared.kind.BinKind.{BinKind}
-use Rattle.xf_type.specs.Integers.{binary}
+use Rattle.xf_type.specs.Integers.{binary, compared, converted, selected}
 use Rattle.xf_ir.specs.declared.name.OpName.{OpName}
 use Rattle.xf_ir.specs.declared.name.ValueName.{ValueName}
 use Rattle.xf_ir.specs.declared.kind.Kind.{Kind}
@@ -14,7 +14,8 @@ use Rattle.xf_ir.specs.declared.op.Module.{Module}
 use Rattle.xf_ir.specs.Tree.{Ops, no_ops, op, Regions, no_regions, region}
 use Rattle.xf_ir.specs.Lists.{same_bytes}
 use Rattle.xf_ir.specs.Places.{Place, results_of, args_of}
-use Rattle.xf_ir.specs.Valid.{ends, functions_of}
+use Rattle.xf_ir.specs.Valid.{functions_of}
+use Rattle.xf_ir.specs.Kinds.{ends}
 use Rattle.xf_sem.specs.declared.value.Value.{Value}
 use Rattle.xf_sem.specs.declared.value.Value.TheVariants.{Scalar, Tensor}
 use Rattle.xf_sem.specs.Values.{is_same_width, fit_types}
@@ -100,18 +101,31 @@ pub data Action : Type 0 where
   enters : (number : ℕ) (args : List Value) (more : List Value → Action) → Action
   calls : (symbol : List ℕ) (args : List Value) (more : List Value → Action) → Action
 
-abbrev pub on_scalars : BinKind → Width → List Value → Action
-on_scalars which width (Scalar left a ∷ Scalar right b ∷ []) =
-    if is_same_width left width && is_same_width right width then results (Scalar width (binary which width a b) ∷ []) else is_undefined
-on_scalars which width _ = is_undefined
+abbrev pub on_one : Width → (Elem → Value) → List Value → Action
+on_one width f (Scalar own a ∷ []) = if is_same_width own width then results (f a ∷ []) else is_undefined
+on_one width f _ = is_undefined
 
--- the table of the kinds, from the types of an operation's results and the values of its operands
+abbrev pub on_two : Width → (Elem → Elem → Value) → List Value → Action
+on_two width f (Scalar left a ∷ Scalar right b ∷ []) =
+    if is_same_width left width && is_same_width right width then results (f a b ∷ []) else is_undefined
+on_two width f _ = is_undefined
+
+-- the condition has the width I1; what is not chosen is not looked at
+abbrev pub on_choice : Width → List Value → Action
+on_choice width (Scalar one c ∷ Scalar left a ∷ Scalar right b ∷ []) =
+    if is_same_width one I1 && (is_same_width left width && is_same_width right width) then results (Scalar width (selected c a b) ∷ []) else is_undefined
+on_choice width _ = is_undefined
+
+-- the table of the kinds, from the types of an operation's results and the values of its operands; a terminator gives its operands and
+-- never comes here. The operations of scf, tensor and linalg have no rows yet, so what holds one is undefined where that is reached.
 abbrev pub acts : Kind → List PayloadType → List Value → Action
-acts (kind.Module symbol) ts vs = is_undefined
-acts (kind.Func symbol private types) ts vs = is_undefined
-acts kind.Return ts vs = is_undefined
 acts (kind.Constant width bits) ts vs = results (Scalar width (Num bits) ∷ [])
-acts (kind.Binary which width) ts vs = on_scalars which width vs
+acts (kind.Binary which width) ts vs = on_two width (λ a b. Scalar width (binary which width a b)) vs
+acts (kind.Compare which width) ts vs = on_two width (λ a b. Scalar I1 (compared which width a b)) vs
+acts (kind.Select width) ts vs = on_choice width vs
+acts (kind.Convert which source target) ts vs = on_one source (λ a. Scalar target (converted which source target a)) vs
+acts (kind.Call callee) ts vs = calls callee vs results
+acts _ ts vs = is_undefined
 
 abbrev pub performed : Calls → OpName → Bodies → Action → Run (List Value)
 performed c n bodies (results vs) = finish vs
@@ -156,11 +170,8 @@ abbrev mutual
 
 -- whether this is the function
 abbrev pub called : Kind → List ℕ → Body → Body → Body
-called (kind.Module symbol) f here later vs = later vs
 called (kind.Func symbol private types) f here later vs = if same_bytes symbol f then here vs else later vs
-called kind.Return f here later vs = later vs
-called (kind.Constant width bits) f here later vs = later vs
-called (kind.Binary which width) f here later vs = later vs
+called _ f here later vs = later vs
 
 -- what the functions of a list return
 abbrev pub returned : Calls → Ops → Calls

@@ -9,7 +9,8 @@ use Rattle.xf_ir.specs.declared.op.Module.{Module}
 use Rattle.xf_ir.specs.Tree.{Ops, no_ops, op, Regions, no_regions, region}
 use Rattle.xf_ir.specs.Lists.{Each}
 use Rattle.xf_ir.specs.Places.{Place, results_of, Seen, done, sees, OpsScoped}
-use Rattle.xf_ir.specs.Valid.{ends, functions_of}
+use Rattle.xf_ir.specs.Valid.{functions_of}
+use Rattle.xf_ir.specs.Kinds.{ends}
 use Rattle.xf_ir.specs.Choices.{ops_operands}
 use Rattle.xf_sem.specs.declared.value.Value.{Value}
 use Rattle.xf_sem.specs.Meaning.{Env, item, extend, gives, Run, finish, charge, and_then, Calls, does, bodies_of}

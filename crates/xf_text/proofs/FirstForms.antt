@@ -17,7 +17,8 @@ use Rattle.xf_ir.specs.Tree.{Ops, no_ops, op, no_regions}
 use Rattle.xf_ir.specs.Count.{ops_count}
 use Rattle.xf_ir.specs.Walk.{ops_names, tree_names}
 use Rattle.xf_ir.specs.Places.{below, Seen, done, inside, sees}
-use Rattle.xf_ir.specs.Valid.{IsValid, IsNamedOnce, FitsRange, OpsInner, OpsHaveRegions, ends, EndsHere, OpsEnd, OpsSee, Typed, type_or, type_at, OpsFit, OpsHaveAttributes, OpsInRange}
+use Rattle.xf_ir.specs.Valid.{IsValid, IsNamedOnce, FitsRange, OpsInner, OpsHaveRegions, EndsHere, OpsEnd, OpsSee, Typed, type_or, type_at, OpsFit, OpsHaveAttributes, OpsInRange}
+use Rattle.xf_ir.specs.Kinds.{ends}
 use Rattle.xf_text.specs.Written.{Name, Literal, Line, constant, sum, Written, file_tokens}
 use Rattle.xf_text.specs.Spells.{i32, op_name, negative_bits, positive_bits, literal_bits, Scope, resolved, named, params_named, return_op, lines_meant, module_of}
 use Rattle.xf_text.specs.Form.{FirstOps, IsFirstForm}

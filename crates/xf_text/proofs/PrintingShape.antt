@@ -12,7 +12,8 @@ use Rattle.xf_ir.specs.declared.kind.Kind.TheVariants as kind
 use Rattle.xf_ir.specs.declared.kind.Attr.{Attr}
 use Rattle.xf_ir.specs.Tree.{Ops, no_ops, op, Regions, no_regions, region}
 use Rattle.xf_ir.specs.Places.{inside}
-use Rattle.xf_ir.specs.Valid.{Typed, ends, type_at, EndsHere, OpsEnd, HasRegions, RegionsHaveRegions, OpsHaveRegions, OpsFit, RegionsFit, FitsRow, RegionsEnd}
+use Rattle.xf_ir.specs.Valid.{Typed, type_at, EndsHere, OpsEnd, HasRegions, RegionsHaveRegions, OpsHaveRegions, OpsFit, RegionsFit, FitsRow, RegionsEnd}
+use Rattle.xf_ir.specs.Kinds.{ends}
 use Rattle.xf_text.specs.Spells.{i32}
 use Rattle.xf_text.specs.Form.{IsFirstKind, FirstOps, FirstFunctions, IsFirstHead, FirstBlock}
 use Rattle.xf_text.proofs.PrintingSteps.{Steps, last, number, added, steps_ops}
@@ -39,11 +40,10 @@ two_values env (v ∷ w ∷ x ∷ vs) t u e = absurd cc
 
 no_regions_of : (k : Kind) (rs : Regions) → IsFirstKind k → HasRegions k rs → rs ≡ no_regions
 no_regions_of k no_regions f h = refl
-no_regions_of (kind.Module symbol) (region args ops rest) f h = absurd f
-no_regions_of (kind.Func symbol private results) (region args ops rest) f h = absurd f
 no_regions_of kind.Return (region args ops rest) f h = absurd h
 no_regions_of (kind.Constant width bits) (region args ops rest) f h = absurd h
 no_regions_of (kind.Binary which width) (region args ops rest) f h = absurd h
+no_regions_of _ (region args ops rest) f h = absurd f
 
 nothing_behind : (symbol : List ℕ) (rest : Ops) → EndsHere (head symbol) kind.Return rest → rest ≡ no_ops
 nothing_behind symbol no_ops e = refl
@@ -60,8 +60,6 @@ not_last symbol k (op n k' ds os ts rs rest) e h q = absurd cc
 -- the operations of a block of the function
 pub straight : (ops : Ops) (symbol : List ℕ) (env : Typed) → (ops ≡ no_ops → ⊥) → FirstOps ops → OpsHaveRegions ops → OpsEnd (head symbol) ops → OpsFit (head symbol) env ops → (s : Steps) × (steps_ops s ≡ ops)
 straight no_ops symbol env some first have ends fit = absurd (some refl)
-straight (op n (kind.Module name) ds os ts rs rest) symbol env some first have ends fit = absurd first.0
-straight (op n (kind.Func name private results) ds os ts rs rest) symbol env some first have ends fit = absurd first.0
 straight (op n kind.Return ds os ts rs rest) symbol env some first have ends fit =
     let v = one_value env os _ fit.0.0 in
     (last n v.0, same_op n _ _ [] ds _ os [] ts no_regions rs no_ops rest refl (sym first.1.0) (sym v.1) (sym fit.0.1) (sym (no_regions_of kind.Return rs first.0 have.0)) (sym (nothing_behind symbol rest ends.0)))
@@ -82,6 +80,7 @@ straight (op n (kind.Binary which width) ds os ts rs rest) symbol env some first
       same_op n _ _ [] ds _ os (i32 ∷ []) ts no_regions rs (steps_ops more.0) rest
           (sym k) (sym first.1.0) (sym two.1.1) (sym (fit.0.1 ∙ ap (λ x. Scalar x ∷ []) w)) (sym (no_regions_of (kind.Binary which width) rs first.0 have.0)) more.1,
     )
+straight (op n _ ds os ts rs rest) symbol env some first have ends fit = absurd first.0
 
 -- ---- the module
 
@@ -94,11 +93,8 @@ pub record Shape (rs : Regions) : Type 0 where
   pub is : rs ≡ region [] (op name (head symbol) [] [] [] (region args (steps_ops steps) no_regions) no_ops) no_regions
 
 head_is : (k : Kind) → IsFirstHead k → (symbol : List ℕ) × (k ≡ head symbol)
-head_is (kind.Module symbol) h = absurd h
 head_is (kind.Func symbol private results) h = let a = h.0 in let b = h.1 in (symbol, cc)
-head_is kind.Return h = absurd h
-head_is (kind.Constant width bits) h = absurd h
-head_is (kind.Binary which width) h = absurd h
+head_is _ h = absurd h
 
 -- the block of the function
 block_shape : (symbol : List ℕ) (env : Typed) (n : OpName) (rs : Regions) → FirstBlock rs → HasRegions (head symbol) rs → RegionsHaveRegions rs → RegionsEnd (head symbol) rs → RegionsFit (head symbol) env n 0 rs

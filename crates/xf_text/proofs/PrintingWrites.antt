@@ -7,7 +7,8 @@ use Rattle.xf_type.specs.declared.payload_type.PayloadType.{PayloadType}
 use Rattle.xf_ir.specs.declared.name.OpName.{OpName}
 use Rattle.xf_ir.specs.declared.kind.Kind.{Kind}
 use Rattle.xf_ir.specs.Tree.{Tree, Ops}
-use Rattle.xf_ir.specs.Valid.{returned_types, functions_of}
+use Rattle.xf_ir.specs.Valid.{functions_of}
+use Rattle.xf_ir.specs.Kinds.{returned_types}
 use Rattle.xf_ir.specs.declared.op.Module.{Module}
 use Rattle.xf_ir.specs.View.{ops_of}
 use Rattle.xf_ir.specs.Places.{results_of, args_of}

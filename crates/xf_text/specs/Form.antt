@@ -12,11 +12,10 @@ use Rattle.xf_ir.specs.Valid.{IsValid}
 use Rattle.xf_text.specs.Spells.{i32}
 
 abbrev pub IsFirstKind : Kind → Type 0
-IsFirstKind (kind.Module symbol) = ⊥
-IsFirstKind (kind.Func symbol private results) = ⊥
 IsFirstKind kind.Return = Unit {0}
 IsFirstKind (kind.Constant width bits) = width ≡ I32
 IsFirstKind (kind.Binary which width) = (which ≡ Addi) × (width ≡ I32)
+IsFirstKind _ = ⊥
 
 -- without attributes
 abbrev pub FirstOps : Ops → Type 0
@@ -28,11 +27,8 @@ FirstBlock no_regions = Unit {0}
 FirstBlock (region args ops rest) = Each (λ t. t ≡ i32) args × ((length args < 2 ^ 32) × FirstOps ops)
 
 abbrev pub IsFirstHead : Kind → Type 0
-IsFirstHead (kind.Module symbol) = ⊥
 IsFirstHead (kind.Func symbol private results) = (private ≡ false) × (results ≡ i32 ∷ [])
-IsFirstHead kind.Return = ⊥
-IsFirstHead (kind.Constant width bits) = ⊥
-IsFirstHead (kind.Binary which width) = ⊥
+IsFirstHead _ = ⊥
 
 abbrev pub FirstFunction : Ops → Type 0
 FirstFunction no_ops = ⊥

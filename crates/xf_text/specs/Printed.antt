@@ -18,7 +18,8 @@ use Rattle.xf_ir.specs.declared.kind.Kind.TheVariants as kind
 use Rattle.xf_ir.specs.declared.op.Module.{Module}
 use Rattle.xf_ir.specs.Tree.{Ops, no_ops, op, Regions, no_regions, region}
 use Rattle.xf_ir.specs.Places.{Place, results_of, args_of}
-use Rattle.xf_ir.specs.Valid.{functions_of, returned_types}
+use Rattle.xf_ir.specs.Valid.{functions_of}
+use Rattle.xf_ir.specs.Kinds.{returned_types}
 
 -- ---- words
 
@@ -90,11 +91,10 @@ no_names v = []
 
 -- an operation without its results, in a block that returns these types
 abbrev pub op_text : Naming → List PayloadType → Kind → List ValueName → List ℕ
-op_text names returned (kind.Module symbol) os = []
-op_text names returned (kind.Func symbol private results) os = []
 op_text names returned kind.Return os = codes "func.return " ++ (listed (map names os) ++ (codes " : " ++ listed (map type_text returned)))
 op_text names returned (kind.Constant width bits) os = codes "arith.constant " ++ (signed_decimal (signed_value width bits) ++ (codes " : " ++ width_text width))
 op_text names returned (kind.Binary which width) os = binary_text which ++ (codes " " ++ (listed (map names os) ++ (codes " : " ++ width_text width)))
+op_text names returned _ os = []
 
 -- the result of an operation, where it has one
 abbrev pub result_text : ℕ → List PayloadType → List ℕ
@@ -121,11 +121,8 @@ param_texts k [] = []
 param_texts k (t ∷ ts) = (argument_text k ++ (codes ": " ++ type_text t)) ∷ param_texts (suc k) ts
 
 abbrev pub head_line : Kind → List PayloadType → List ℕ
-head_line (kind.Module symbol) args = []
 head_line (kind.Func symbol private results) args = codes "  func.func @" ++ (symbol ++ (codes "(" ++ (listed (param_texts 0 args) ++ (codes ") -> " ++ (listed (map type_text results) ++ codes " {")))))
-head_line kind.Return args = []
-head_line (kind.Constant width bits) args = []
-head_line (kind.Binary which width) args = []
+head_line _ args = []
 
 abbrev pub function_lines : OpName → Kind → Regions → List (List ℕ)
 function_lines n k no_regions = []

@@ -100,7 +100,7 @@ fn operation<'a>(
             name_result(scope, *name, number)?;
             let kind = Kind::Constant {
                 width: Width::I32,
-                bits,
+                bits: u128::from(bits),
             };
             Ok(plain_op(alloc, number, kind, &[], 1)?)
         }

@@ -1,6 +1,7 @@
 //! The printed lines of operations and functions, each appended to the line so far. They refuse for want of memory alone.
 ghost use Rattle.std.specs.Prelude.{◌≡◌, ◌≤◌, ◌++◌, OnOk, length, map, [], ◌∷◌, codes};
-ghost use Rattle.xf_ir.specs.Valid.{HasOwnAttributes, returned_types};
+ghost use Rattle.xf_ir.specs.Valid.{HasOwnAttributes};
+ghost use Rattle.xf_ir.specs.Kinds.{returned_types};
 ghost use Rattle.xf_text.specs.Names.{naming};
 ghost use Rattle.xf_text.specs.Printed.{listed, param_texts, op_text, result_text, head_line, argument_text, type_text};
 
@@ -46,7 +47,7 @@ fn write_kind(
         }
         Kind::Constant { width, bits } => {
             line.extend_from_slice(b"arith.constant ")?;
-            write_signed(*width, *bits, line)?;
+            write_signed(*width, *bits as u64, line)?;
             line.extend_from_slice(b" : ")?;
             write_width(*width, line)
         }
@@ -57,8 +58,7 @@ fn write_kind(
             line.extend_from_slice(b" : ")?;
             write_width(*width, line)
         }
-        Kind::Module { .. } => Ok(()),
-        Kind::Func { .. } => Ok(()),
+        _ => Ok(()),
     }
 }
 

@@ -3,7 +3,8 @@ ghost use Rattle.std.specs.Prelude.{◌≡◌, ◌≤◌, ◌<◌, ◌+◌, ◌^
 ghost use Rattle.std.specs.List.{flat_map};
 ghost use Rattle.xf_host.specs.Writes.{WritesText, FailsByCount};
 ghost use Rattle.xf_ir.specs.Places.{results_of};
-ghost use Rattle.xf_ir.specs.Valid.{HasOwnAttributes, block_of, functions_of, returned_types};
+ghost use Rattle.xf_ir.specs.Valid.{HasOwnAttributes, block_of, functions_of};
+ghost use Rattle.xf_ir.specs.Kinds.{returned_types};
 ghost use Rattle.xf_ir.specs.View.{ops_of};
 ghost use Rattle.xf_text.specs.Form.{IsFirstForm};
 ghost use Rattle.xf_text.specs.Names.{naming, OpsPrint, FunctionsPrint, lines_text, block_lines};

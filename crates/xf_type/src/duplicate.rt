@@ -32,6 +32,12 @@ impl Duplicate for u64 {
     }
 }
 
+impl Duplicate for u128 {
+    fn duplicate(&self, _alloc: Global) -> Result<u128, NoMemory> {
+        Ok(*self)
+    }
+}
+
 impl Duplicate for Dim {
     fn duplicate(&self, _alloc: Global) -> Result<Dim, NoMemory> {
         Ok(*self)

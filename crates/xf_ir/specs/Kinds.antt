@@ -1,0 +1,61 @@
+-- What the kinds of operations are among one another (MLIR: the pages of builtin, func, arith, scf, tensor and linalg).
+use Rattle.std.specs.Prelude.{ℕ, List, [], Bool, true, false}
+use Rattle.xf_type.specs.declared.payload_type.PayloadType.{PayloadType}
+use Rattle.xf_ir.specs.declared.kind.Kind.{Kind}
+use Rattle.xf_ir.specs.declared.kind.Kind.TheVariants as kind
+
+-- a module or a function
+abbrev pub is_container : Kind → Bool
+is_container (kind.Module symbol) = true
+is_container (kind.Func symbol private results) = true
+is_container _ = false
+
+abbrev pub is_module : Kind → Bool
+is_module (kind.Module symbol) = true
+is_module _ = false
+
+abbrev pub is_function : Kind → Bool
+is_function (kind.Func symbol private results) = true
+is_function _ = false
+
+-- whether an operation ends a block
+abbrev pub ends : Kind → Bool
+ends kind.Return = true
+ends kind.Yield = true
+ends kind.LinalgYield = true
+ends _ = false
+
+-- whether an operation ends a function, a block of scf, or the body of a linalg.generic
+abbrev pub is_return : Kind → Bool
+is_return kind.Return = true
+is_return _ = false
+
+abbrev pub is_yield : Kind → Bool
+is_yield kind.Yield = true
+is_yield _ = false
+
+abbrev pub is_linalg_yield : Kind → Bool
+is_linalg_yield kind.LinalgYield = true
+is_linalg_yield _ = false
+
+-- whether an operation ends a block of the holder
+abbrev pub ends_for : Kind → Kind → Bool
+ends_for (kind.Func symbol private results) k = is_return k
+ends_for (kind.For width) k = is_yield k
+ends_for kind.If k = is_yield k
+ends_for (kind.Generic maps iterators) k = is_linalg_yield k
+ends_for _ k = false
+
+-- whether a block of the holder goes without a terminator
+abbrev pub is_endless : Kind → Bool
+is_endless k = is_module k
+
+-- whether the blocks of the holder are bodies of linalg, which belong to no scope
+abbrev pub is_generic : Kind → Bool
+is_generic (kind.Generic maps iterators) = true
+is_generic _ = false
+
+-- the types that a function returns
+abbrev pub returned_types : Kind → List PayloadType
+returned_types (kind.Func symbol private results) = results
+returned_types _ = []
