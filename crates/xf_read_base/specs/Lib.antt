@@ -1,3 +1,5 @@
+pub mod Heads
 pub mod Reading
 pub mod Rows
+pub mod Verdicts
 pub mod Words

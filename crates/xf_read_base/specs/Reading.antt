@@ -3,27 +3,24 @@ use Rattle.std.specs.Prelude.{◌≡◌, ℕ, ◌+◌, ◌-◌, ◌^◌, min, Li
 use Rattle.xf_lex.specs.declared.token.Token.{Token}
 use Rattle.xf_lex.specs.declared.token.TokenKind.TheVariants as kind
 use Rattle.xf_type.specs.declared.kind.CmpKind.{CmpKind}
-use Rattle.xf_type.specs.declared.payload_type.PayloadType.{PayloadType}
 use Rattle.xf_type.specs.declared.payload_type.PayloadType.TheVariants.{Scalar}
 use Rattle.xf_type.specs.declared.payload_type.Width.{Width}
 use Rattle.xf_type.specs.declared.payload_type.Width.TheVariants as width
 use Rattle.xf_type.specs.Integers.{bits_of}
-use Rattle.xf_grammar.specs.Tokens.{looks, says, word_at, number_at, is_index_at, open_paren, close_paren, comma, minus, colon, equals, open_brace, close_brace}
-use Rattle.xf_grammar.specs.Reading.{Out, ◌>>=◌, expects, Reader, one_or_more, list_until}
+use Rattle.xf_grammar.specs.Tokens.{Seen, seen, digits_of, number_of, looks, says, word_at, number_at, is_index_at, open_paren, close_paren, minus, colon, equals, open_brace, close_brace}
+use Rattle.xf_grammar.specs.Reading.{Out, ◌>>=◌, expects, one_or_more, list_until}
 use Rattle.xf_read_base.specs.declared.due.Due.{Due}
 use Rattle.xf_read_base.specs.declared.due.Due.TheVariants as due
 use Rattle.xf_read_base.specs.declared.due.HeadFault.{HeadFault}
 use Rattle.xf_read_base.specs.declared.due.HeadFault.TheVariants as fault
 use Rattle.xf_read_base.specs.declared.list.Item.{Item}
 use Rattle.xf_read_base.specs.declared.list.Item.TheVariants as item
-use Rattle.xf_read_base.specs.declared.parts.Entry.{Entry}
 use Rattle.xf_read_base.specs.declared.parts.EntryValue.{EntryValue}
 use Rattle.xf_read_base.specs.declared.parts.EntryValue.TheVariants as value
 use Rattle.xf_read_base.specs.declared.parts.Literal.{Literal}
 use Rattle.xf_read_base.specs.declared.parts.Literal.TheVariants as literal
 use Rattle.xf_read_base.specs.declared.parts.Parts.{Parts}
 use Rattle.xf_read_base.specs.declared.parts.Ref.{Ref}
-use Rattle.xf_read_base.specs.declared.row.Keyword.{Keyword}
 use Rattle.xf_read_base.specs.declared.row.Row.{Row}
 use Rattle.xf_read_base.specs.declared.row.Slot.{Slot}
 use Rattle.xf_read_base.specs.declared.row.Slot.TheVariants as slot
@@ -51,8 +48,11 @@ abbrev pub ref : ℕ → ℕ → Ref
 ref at n = record { token = at; count = n }
 
 -- the number that stands there, up to 2 ^ 32 - 1
+abbrev pub count_of : Seen → ℕ
+count_of x = min (number_of (digits_of x)) (2 ^ 32 - 1)
+
 abbrev pub count_at : List Token → ℕ → ℕ
-count_at all at = min (number_at all at) (2 ^ 32 - 1)
+count_at all at = count_of (seen all at)
 
 abbrev pub with_define : Ref → Parts → Parts
 with_define r h = record h { defines = h.defines ++ r ∷ [] }
@@ -159,8 +159,8 @@ unfoldable pub entry_number : List Token → ℕ → Bool → Parts → ℕ → 
 entry_number all name negative h at =
     if looks all at kind.Integer
     then (if has_room width.I64 negative (number_at all at)
-        then (if looks all (at + 1) colon then entry_typed all name negative at h (at + 2) else Ok (with_entry name (value.Integer negative at width.I64) h, at + 1))
-        else Err (at, due.Other))
+    then (if looks all (at + 1) colon then entry_typed all name negative at h (at + 2) else Ok (with_entry name (value.Integer negative at width.I64) h, at + 1))
+    else Err (at, due.Other))
     else Err (at, due.Other)
 
 -- true, false, unit, a string or an integer

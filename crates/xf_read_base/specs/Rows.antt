@@ -11,10 +11,13 @@ use Rattle.xf_read_base.specs.declared.row.Slot.TheVariants.{Mark, Word, ModuleN
 
 abbrev pub paren : Slot
 paren = Mark 40
+
 abbrev pub comma : Slot
 comma = Mark 44
+
 abbrev pub colon : Slot
 colon = Mark 58
+
 abbrev pub equals : Slot
 equals = Mark 61
 

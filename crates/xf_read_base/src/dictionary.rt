@@ -37,7 +37,14 @@ fn add_entry(parts: &mut Parts, name: usize, value: EntryValue) -> Result<(), No
 
 /// The width of an integer, behind its colon.
 #[tactic(auto, unfolding(crate::specs::Reading::entry_typed))]
-fn entry_typed(tokens: &[Token], name: usize, negative: bool, digits: usize, parts: &mut Parts, at: usize) -> Result<usize, HeadFault>
+fn entry_typed(
+    tokens: &[Token],
+    name: usize,
+    negative: bool,
+    digits: usize,
+    parts: &mut Parts,
+    at: usize,
+) -> Result<usize, HeadFault>
     ensures gives { Gives (λ n. (parts.new, n)) result (entry_typed tokens.now name negative digits parts.old at) }
     ensures within { IfOk result (λ n. (at ≤ n) × (n ≤ length tokens.now)) }
 {
@@ -47,13 +54,27 @@ fn entry_typed(tokens: &[Token], name: usize, negative: bool, digits: usize, par
     if !has_room(width, negative, number_at(tokens, digits)) {
         return Err(HeadFault::At(at, Due::Other));
     }
-    add_entry(parts, name, EntryValue::Integer { negative, token: digits, width })?;
+    add_entry(
+        parts,
+        name,
+        EntryValue::Integer {
+            negative,
+            token: digits,
+            width,
+        },
+    )?;
     Ok(at + 1)
 }
 
 /// An integer, with its width or without.
 #[tactic(auto, unfolding(crate::specs::Reading::entry_number))]
-fn entry_number(tokens: &[Token], name: usize, negative: bool, parts: &mut Parts, at: usize) -> Result<usize, HeadFault>
+fn entry_number(
+    tokens: &[Token],
+    name: usize,
+    negative: bool,
+    parts: &mut Parts,
+    at: usize,
+) -> Result<usize, HeadFault>
     ensures gives { Gives (λ n. (parts.new, n)) result (entry_number tokens.now name negative parts.old at) }
     ensures within { IfOk result (λ n. (at ≤ n) × (n ≤ length tokens.now)) }
 {
@@ -66,13 +87,26 @@ fn entry_number(tokens: &[Token], name: usize, negative: bool, parts: &mut Parts
     if looks(tokens, at + 1, TokenKind::Mark(b':')) {
         return entry_typed(tokens, name, negative, at, parts, at + 2);
     }
-    add_entry(parts, name, EntryValue::Integer { negative, token: at, width: Width::I64 })?;
+    add_entry(
+        parts,
+        name,
+        EntryValue::Integer {
+            negative,
+            token: at,
+            width: Width::I64,
+        },
+    )?;
     Ok(at + 1)
 }
 
 /// The value of an attribute.
 #[tactic(auto, unfolding(crate::specs::Reading::entry_value))]
-fn entry_value(tokens: &[Token], name: usize, parts: &mut Parts, at: usize) -> Result<usize, HeadFault>
+fn entry_value(
+    tokens: &[Token],
+    name: usize,
+    parts: &mut Parts,
+    at: usize,
+) -> Result<usize, HeadFault>
     ensures gives { Gives (λ n. (parts.new, n)) result (entry_value tokens.now name parts.old at) }
     ensures within { IfOk result (λ n. (at ≤ n) × (n ≤ length tokens.now)) }
 {

@@ -5,14 +5,18 @@
 
 mod dictionary;
 mod due;
+mod head;
 mod list;
 mod parts;
 mod row;
 mod single;
 mod slot;
+mod verdict;
 mod word;
 
 pub use due::{Due, HeadFault};
+pub use head::{due_at, head_at};
 pub use parts::{Entry, EntryList, EntryValue, Literal, Parts, Ref, RefList};
 pub use row::{Keyword, Level, Opening, Row, Slot, row_slots};
 pub use slot::{dictionary_at, slots_at};
+pub use verdict::{Verdict, judge};

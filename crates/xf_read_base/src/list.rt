@@ -64,7 +64,12 @@ fn item_at(tokens: &[Token], item: Item, parts: &mut Parts, at: usize) -> Result
 }
 
 /// One item or several, with commas between them.
-pub fn list_at(tokens: &[Token], item: Item, parts: &mut Parts, at: usize) -> Result<usize, HeadFault>
+pub fn list_at(
+    tokens: &[Token],
+    item: Item,
+    parts: &mut Parts,
+    at: usize,
+) -> Result<usize, HeadFault>
     ensures gives { Gives (λ n. (parts.new, n)) result (list_at tokens.now item parts.old at) }
     ensures within { IfOk result (λ n. (at ≤ n) × (n ≤ length tokens.now)) }
 {
@@ -77,7 +82,14 @@ pub fn list_at(tokens: &[Token], item: Item, parts: &mut Parts, at: usize) -> Re
 
 /// Items, possibly none, and the token that ends them. `due` is due behind an item.
 #[tactic(auto, unfolding(xf_grammar::specs::Reading::list_until))]
-pub fn list_until(tokens: &[Token], item: Item, close: TokenKind, due: Due, parts: &mut Parts, at: usize) -> Result<usize, HeadFault>
+pub fn list_until(
+    tokens: &[Token],
+    item: Item,
+    close: TokenKind,
+    due: Due,
+    parts: &mut Parts,
+    at: usize,
+) -> Result<usize, HeadFault>
     ensures gives { Gives (λ n. (parts.new, n)) result (list_until close due tokens.now (item_at item) parts.old at) }
     ensures within { IfOk result (λ n. (at ≤ n) × (n ≤ length tokens.now)) }
 {

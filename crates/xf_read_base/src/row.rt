@@ -88,11 +88,15 @@ pub enum Slot {
 }
 
 const OPEN: Slot = Slot::Mark(b'(');
+
 const COMMA: Slot = Slot::Mark(b',');
+
 const COLON: Slot = Slot::Mark(b':');
+
 const EQUALS: Slot = Slot::Mark(b'=');
 
 const MODULE: [Slot; 2] = [Slot::ModuleName, Slot::Attributes];
+
 const FUNCTION: [Slot; 5] = [
     Slot::FunctionName,
     OPEN,
@@ -100,7 +104,9 @@ const FUNCTION: [Slot; 5] = [
     Slot::FunctionResults,
     Slot::Attributes,
 ];
+
 const TERMINATOR: [Slot; 2] = [Slot::Dictionary, Slot::Operands];
+
 const CALL: [Slot; 8] = [
     Slot::Symbol,
     OPEN,
@@ -111,7 +117,9 @@ const CALL: [Slot; 8] = [
     Slot::Types,
     Slot::CallResults,
 ];
+
 const CONSTANT: [Slot; 2] = [Slot::Dictionary, Slot::Literal];
+
 const BINARY: [Slot; 6] = [
     Slot::Use,
     COMMA,
@@ -120,6 +128,7 @@ const BINARY: [Slot; 6] = [
     COLON,
     Slot::Width,
 ];
+
 const COMPARE: [Slot; 8] = [
     Slot::Predicate,
     COMMA,
@@ -130,6 +139,7 @@ const COMPARE: [Slot; 8] = [
     COLON,
     Slot::Width,
 ];
+
 const SELECT: [Slot; 8] = [
     Slot::Use,
     COMMA,
@@ -140,6 +150,7 @@ const SELECT: [Slot; 8] = [
     COLON,
     Slot::Width,
 ];
+
 const CONVERT: [Slot; 6] = [
     Slot::Use,
     Slot::Dictionary,
@@ -148,6 +159,7 @@ const CONVERT: [Slot; 6] = [
     Slot::Word(Keyword::To),
     Slot::Width,
 ];
+
 const FOR: [Slot; 9] = [
     Slot::Argument,
     EQUALS,
@@ -159,6 +171,7 @@ const FOR: [Slot; 9] = [
     Slot::IterArgs,
     Slot::LoopWidth,
 ];
+
 const IF: [Slot; 2] = [Slot::Use, Slot::IfResults];
 
 /// What stands behind the first word of a row, up to its first brace.

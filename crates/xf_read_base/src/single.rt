@@ -13,7 +13,13 @@ use xf_type::PayloadType;
 
 /// A token of this kind, which is due.
 #[tactic(auto, unfolding(xf_grammar::specs::Reading::expects))]
-pub fn expects(tokens: &[Token], kind: TokenKind, due: Due, parts: &Parts, at: usize) -> Result<usize, HeadFault>
+pub fn expects(
+    tokens: &[Token],
+    kind: TokenKind,
+    due: Due,
+    parts: &Parts,
+    at: usize,
+) -> Result<usize, HeadFault>
     ensures gives { Gives (λ n. (parts.now, n)) result (expects due tokens.now kind parts.now at) }
     ensures within { IfOk result (λ n. (at ≤ n) × (n ≤ length tokens.now)) }
 {
@@ -91,7 +97,10 @@ pub fn argument_at(tokens: &[Token], parts: &mut Parts, at: usize) -> Result<usi
     if !looks(tokens, at, TokenKind::Value) {
         return Err(HeadFault::At(at, Due::Other));
     }
-    parts.args.push(Ref { token: at, count: 1 })?;
+    parts.args.push(Ref {
+        token: at,
+        count: 1,
+    })?;
     Ok(at + 1)
 }
 
@@ -121,13 +130,21 @@ pub fn use_at(tokens: &[Token], parts: &mut Parts, at: usize) -> Result<usize, H
         parts.uses.push(Ref { token: at, count })?;
         return Ok(at + 2);
     }
-    parts.uses.push(Ref { token: at, count: 0 })?;
+    parts.uses.push(Ref {
+        token: at,
+        count: 0,
+    })?;
     Ok(at + 1)
 }
 
 /// A width.
 #[tactic(auto, unfolding(crate::specs::Reading::width_at))]
-pub fn width_at(tokens: &[Token], due: Due, parts: &mut Parts, at: usize) -> Result<usize, HeadFault>
+pub fn width_at(
+    tokens: &[Token],
+    due: Due,
+    parts: &mut Parts,
+    at: usize,
+) -> Result<usize, HeadFault>
     ensures gives { Gives (λ n. (parts.new, n)) result (width_at tokens.now due parts.old at) }
     ensures within { IfOk result (λ n. (at ≤ n) × (n ≤ length tokens.now)) }
 {

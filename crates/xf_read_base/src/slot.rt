@@ -10,7 +10,10 @@ use crate::due::{Due, HeadFault};
 use crate::list::{Item, list_at, list_until};
 use crate::parts::{Literal, Parts};
 use crate::row::Slot;
-use crate::single::{argument_at, expects, function_name_at, module_name_at, predicate_at, symbol_at, use_at, width_at, word_is};
+use crate::single::{
+    argument_at, expects, function_name_at, module_name_at, predicate_at, symbol_at, use_at,
+    width_at, word_is,
+};
 use crate::word::spelling;
 use xf_grammar::{looks, says};
 use xf_lex::{Token, TokenKind};
@@ -18,14 +21,22 @@ use xf_type::{NoMemory, PayloadType, Width};
 
 /// An integer with its width.
 #[tactic(auto, unfolding(crate::specs::Reading::number_is))]
-fn number_is(tokens: &[Token], negative: bool, parts: &mut Parts, at: usize) -> Result<usize, HeadFault>
+fn number_is(
+    tokens: &[Token],
+    negative: bool,
+    parts: &mut Parts,
+    at: usize,
+) -> Result<usize, HeadFault>
     ensures gives { Gives (λ n. (parts.new, n)) result (number_is tokens.now negative parts.old at) }
     ensures within { IfOk result (λ n. (at ≤ n) × (n ≤ length tokens.now)) }
 {
     if !looks(tokens, at, TokenKind::Integer) {
         return Err(HeadFault::At(at, Due::Other));
     }
-    parts.literal = Some(Literal::Integer { negative, token: at });
+    parts.literal = Some(Literal::Integer {
+        negative,
+        token: at,
+    });
     let at = expects(tokens, TokenKind::Mark(b':'), Due::Other, parts, at + 1)?;
     width_at(tokens, Due::Width, parts, at)
 }
@@ -73,7 +84,14 @@ pub fn dictionary_at(tokens: &[Token], parts: &mut Parts, at: usize) -> Result<u
     ensures within { IfOk result (λ n. (at ≤ n) × (n ≤ length tokens.now)) }
 {
     if looks(tokens, at, TokenKind::Mark(b'{')) {
-        list_until(tokens, Item::Entry, TokenKind::Mark(b'}'), Due::Other, parts, at + 1)
+        list_until(
+            tokens,
+            Item::Entry,
+            TokenKind::Mark(b'}'),
+            Due::Other,
+            parts,
+            at + 1,
+        )
     } else {
         Ok(at)
     }
@@ -90,11 +108,24 @@ fn attributes_at(tokens: &[Token], parts: &mut Parts, at: usize) -> Result<usize
         return Ok(at);
     }
     let at = expects(tokens, TokenKind::Mark(b'{'), Due::Other, parts, at + 1)?;
-    list_until(tokens, Item::Entry, TokenKind::Mark(b'}'), Due::Other, parts, at)
+    list_until(
+        tokens,
+        Item::Entry,
+        TokenKind::Mark(b'}'),
+        Due::Other,
+        parts,
+        at,
+    )
 }
 
 /// Items up to a `)`. `due` is due behind an item.
-fn enclosed(tokens: &[Token], item: Item, due: Due, parts: &mut Parts, at: usize) -> Result<usize, HeadFault>
+fn enclosed(
+    tokens: &[Token],
+    item: Item,
+    due: Due,
+    parts: &mut Parts,
+    at: usize,
+) -> Result<usize, HeadFault>
     ensures gives { Gives (λ n. (parts.new, n)) result (enclosed tokens.now item due parts.old at) }
     ensures within { IfOk result (λ n. (at ≤ n) × (n ≤ length tokens.now)) }
 {
@@ -239,7 +270,12 @@ fn slot_at(tokens: &[Token], slot: Slot, parts: &mut Parts, at: usize) -> Result
 }
 
 /// What the slots of a row write, from a token on.
-pub fn slots_at(tokens: &[Token], slots: &[Slot], parts: &mut Parts, at: usize) -> Result<usize, HeadFault>
+pub fn slots_at(
+    tokens: &[Token],
+    slots: &[Slot],
+    parts: &mut Parts,
+    at: usize,
+) -> Result<usize, HeadFault>
     requires { at ≤ length tokens.now }
     ensures gives { Gives (λ n. (parts.new, n)) result (slots_at tokens.now slots.now parts.old at) }
     ensures within { IfOk result (λ n. (at ≤ n) × (n ≤ length tokens.now)) }

@@ -1,4 +1,4 @@
-use Rattle.std.proofs.Common.{◌≡◌, refl, arith, length}
+use Rattle.std.proofs.Common.{refl, arith, length}
 use Rattle.xf_read_base.proofs.list.list_at.Goals as goal
 
 pub list-init : goal.list-init

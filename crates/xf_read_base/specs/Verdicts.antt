@@ -1,0 +1,145 @@
+-- The code of the fault at the token that fits no head: whether it is a form of MLIR that is listed as not supported, by what
+-- was due there, the token and the one behind it.
+use Rattle.std.specs.Prelude.{ℕ, List, [], ◌∷◌, length, drop, Option, Some, None, Bool, true, false, not, ◌&&◌, ◌||◌, ◌==◌, if◌then◌else◌, is_some, codes}
+use Rattle.std.specs.List.{starts_with, list_any}
+use Rattle.std.specs.Str.{bytes_eq}
+use Rattle.xf_lex.specs.declared.token.TokenKind.TheVariants as kind
+use Rattle.xf_lex.specs.Bytes.{is_digit}
+use Rattle.xf_grammar.specs.Tokens.{Seen, is_kind, is_word, word_of, less, open_paren, open_bracket, open_brace, close_brace}
+use Rattle.xf_read_base.specs.declared.due.Due.{Due}
+use Rattle.xf_read_base.specs.declared.due.Due.TheVariants as due
+use Rattle.xf_read_base.specs.declared.verdict.Verdict.{Verdict}
+use Rattle.xf_read_base.specs.declared.verdict.Verdict.TheVariants.{Syntax, OutOfProfile, NotBuilt}
+use Rattle.xf_read_base.specs.Words.{lookup, widths}
+
+abbrev pub one_of : List (List ℕ) → List ℕ → Bool
+one_of [] w = false
+one_of (k ∷ ks) w = bytes_eq w k || one_of ks w
+
+abbrev pub begins : List ℕ → List ℕ → Bool
+begins p w = starts_with ◌==◌ w p
+
+abbrev pub has_dot : List ℕ → Bool
+has_dot w = list_any (λ b. b == 46) w
+
+-- ---- words in the place of an operation or a function
+
+-- division and remainder
+abbrev pub divisions : List (List ℕ)
+divisions =
+    codes "arith.divsi" ∷ codes "arith.divui" ∷ codes "arith.ceildivsi" ∷ codes "arith.ceildivui" ∷ codes "arith.floordivsi" ∷ codes "arith.remsi" ∷ codes "arith.remui" ∷ codes "arith.divf" ∷ codes "arith.remf" ∷ []
+
+abbrev pub loops : List (List ℕ)
+loops = codes "scf.for" ∷ codes "scf.if" ∷ codes "scf.yield" ∷ []
+
+abbrev pub structured : List (List ℕ)
+structured =
+    codes "linalg.matmul" ∷ codes "linalg.batch_matmul" ∷ codes "linalg.matvec" ∷ codes "linalg.dot" ∷ codes "linalg.fill" ∷ codes "linalg.generic" ∷ codes "linalg.yield" ∷ codes "linalg.index" ∷ []
+
+-- a word with a dot; a module is listed in every place but at the begin of a file
+abbrev pub dotted_number : List ℕ → Option ℕ
+dotted_number w =
+    if one_of divisions w then Some 2
+    else (if begins (codes "memref.") w || begins (codes "vector.") w then Some 5
+    else (if begins (codes "affine.") w then Some 6
+    else (if begins (codes "cf.") w then Some 7
+    else (if begins (codes "scf.") w && not (one_of loops w) then Some 8
+    else (if begins (codes "linalg.") w && not (one_of structured w) then Some 9
+    else (if bytes_eq w (codes "linalg.index") then Some 10
+    else (if has_dot w then Some 21 else None)))))))
+
+abbrev pub word_number : List ℕ → Option ℕ
+word_number w = if one_of (codes "module" ∷ codes "builtin.module" ∷ []) w then Some 15 else dotted_number w
+
+-- ---- words in the place of a type
+
+abbrev pub floats : List (List ℕ)
+floats = codes "f16" ∷ codes "f32" ∷ codes "f64" ∷ codes "f80" ∷ codes "f128" ∷ codes "bf16" ∷ codes "tf32" ∷ []
+
+abbrev pub all_digits : List ℕ → Bool
+all_digits [] = true
+all_digits (b ∷ bs) = is_digit b && all_digits bs
+
+-- letters, and then one digit or more
+abbrev pub digits_behind : List ℕ → List ℕ → Bool
+digits_behind p w = begins p w && (not (bytes_eq w p) && all_digits (drop (length p) w))
+
+abbrev pub type_number : List ℕ → Option ℕ
+type_number w =
+    if one_of floats w || begins (codes "f8E") w then Some 1
+    else (if digits_behind (codes "i") w || (digits_behind (codes "si") w || digits_behind (codes "ui") w) then Some 4
+    else (if one_of (codes "memref" ∷ codes "vector" ∷ []) w then Some 5 else None))
+
+-- ---- the value of an attribute
+
+-- words that begin another attribute, or a type
+abbrev pub attribute_words : List (List ℕ)
+attribute_words =
+    codes "dense" ∷ codes "dense_resource" ∷ codes "sparse" ∷ codes "array" ∷ codes "affine_map" ∷ codes "affine_set" ∷ codes "strided" ∷ codes "distinct" ∷ codes "opaque" ∷ codes "tensor" ∷ codes "complex" ∷ codes "tuple" ∷ codes "none" ∷ []
+
+abbrev pub begins_attribute : Seen → Bool
+begins_attribute x =
+    (is_kind open_bracket x || (is_kind open_brace x || is_kind open_paren x))
+    || ((is_kind kind.Symbol x || (is_kind kind.Hash x || is_kind kind.DialectType x))
+    || (one_of attribute_words (word_of x) || is_some (lookup widths (word_of x))))
+
+-- ---- all places
+
+-- what is listed wherever it stands: overflow<, <{, loc(
+abbrev pub anywhere : Seen → Seen → Option ℕ
+anywhere x y =
+    if is_word (codes "overflow") x && is_kind less y then Some 3
+    else (if is_kind less x && is_kind open_brace y then Some 11
+    else (if is_word (codes "loc") x && is_kind open_paren y then Some 12 else None))
+
+abbrev pub number_if : Bool → ℕ → Option ℕ
+number_if true n = Some n
+number_if false n = None
+
+-- where an operation or a function is due: a string, a block name before an operation, or a word
+abbrev pub operation_number : Seen → Option ℕ
+operation_number x = if is_kind kind.Text x then Some 11 else (if is_kind kind.BlockName x then Some 7 else word_number (word_of x))
+
+abbrev pub function_number : Seen → Option ℕ
+function_number x = if is_kind kind.Text x then Some 11 else word_number (word_of x)
+
+abbrev pub file_number : Seen → Option ℕ
+file_number x = if is_kind kind.Text x then Some 11 else dotted_number (word_of x)
+
+abbrev pub listed_number : Due → Seen → Option ℕ
+listed_number due.File x = file_number x
+listed_number due.Function x = function_number x
+listed_number due.Operation x = operation_number x
+listed_number due.OtherReader x = None
+listed_number due.Type x = type_number (word_of x)
+listed_number due.Width x = type_number (word_of x)
+listed_number due.ArithWidth x = if is_word (codes "tensor") x then Some 18 else type_number (word_of x)
+listed_number due.AttributeValue x = number_if (begins_attribute x) 14
+listed_number due.ConstantValue x = number_if ((is_kind kind.Text x || is_word (codes "unit") x) || begins_attribute x) 14
+listed_number due.FunctionName x = number_if (one_of (codes "public" ∷ codes "nested" ∷ []) (word_of x)) 19
+listed_number due.AfterArgument x = number_if (is_kind open_brace x) 13
+listed_number due.AfterResult x = number_if (is_kind open_brace x) 13
+listed_number due.FunctionBody x = number_if (is_kind close_brace x || is_word (codes "func.func") x) 19
+listed_number due.Other x = None
+
+-- what is a text, and not built yet: an alias, an operation of another reader, a tensor type
+abbrev pub is_not_built : Due → Seen → Bool
+is_not_built due.File x = is_kind kind.Hash x
+is_not_built due.OtherReader x = true
+is_not_built due.Type x = is_word (codes "tensor") x
+is_not_built d x = false
+
+abbrev pub numbered : Option ℕ → Verdict
+numbered (Some n) = OutOfProfile n
+numbered None = Syntax
+
+abbrev pub listed : Due → Seen → Verdict
+listed d x = if is_not_built d x then NotBuilt else numbered (listed_number d x)
+
+abbrev pub numbered_or : Option ℕ → Verdict → Verdict
+numbered_or (Some n) v = OutOfProfile n
+numbered_or None v = v
+
+-- by what was due, the token that fits no head, and the one behind it
+abbrev pub verdict : Due → Seen → Seen → Verdict
+verdict d x y = numbered_or (anywhere x y) (listed d x)

@@ -1,0 +1,95 @@
+//! Heads of operations.
+ghost use Rattle.std.specs.Prelude.{◌≡◌, ◌≤◌, ◌<◌, length, IfOk};
+ghost use Rattle.xf_read_base.specs.Reading.{Gives};
+ghost use Rattle.xf_read_base.specs.Heads.{defines_at, due_at, has_operations, row_at, head_at};
+
+use crate::due::{Due, HeadFault};
+use crate::parts::{Parts, Ref};
+use crate::row::{Level, Opening, Row, fits, row_slots};
+use crate::single::{count_at, expects};
+use crate::slot::slots_at;
+use crate::word::opening_of;
+use std::alloc::Global;
+use xf_grammar::{looks, word_at};
+use xf_lex::{Token, TokenKind};
+
+/// The names of the results, at a value's name.
+#[tactic(auto, unfolding(crate::specs::Heads::defines_at))]
+fn defines_at(tokens: &[Token], parts: &mut Parts, at: usize) -> Result<usize, HeadFault>
+    requires { at < length tokens.now }
+    ensures gives { Gives (λ n. (parts.new, n)) result (defines_at tokens.now parts.old at) }
+    ensures within { IfOk result (λ n. (at ≤ n) × (n ≤ length tokens.now)) }
+{
+    if looks(tokens, at + 1, TokenKind::Mark(b':')) {
+        if !looks(tokens, at + 2, TokenKind::Integer) {
+            return Err(HeadFault::At(at + 2, Due::Other));
+        }
+        let count = count_at(tokens, at + 2);
+        parts.defines.push(Ref { token: at, count })?;
+        return expects(tokens, TokenKind::Mark(b'='), Due::Other, parts, at + 3);
+    }
+    parts.defines.push(Ref {
+        token: at,
+        count: 1,
+    })?;
+    expects(tokens, TokenKind::Mark(b'='), Due::Other, parts, at + 1)
+}
+
+/// What is due where an operation begins.
+pub fn due_at(level: Level) -> Due
+    ensures { result ≡ due_at level }
+{
+    match level {
+        Level::File => Due::File,
+        Level::Functions => Due::Function,
+        Level::Body | Level::Any => Due::Operation,
+    }
+}
+
+/// Whether operations other than modules and functions stand at a level.
+fn has_operations(level: Level) -> bool
+    ensures { result ≡ has_operations level }
+{
+    match level {
+        Level::File | Level::Functions => false,
+        Level::Body | Level::Any => true,
+    }
+}
+
+/// The first word of an operation and the slots of its row.
+#[tactic(auto, unfolding(crate::specs::Heads::row_at))]
+fn row_at(tokens: &[Token], level: Level, parts: &mut Parts, at: usize) -> Result<usize, HeadFault>
+    ensures gives { Gives (λ n. (parts.new, n)) result (row_at tokens.now level parts.old at) }
+    ensures within { IfOk result (λ n. (at < n) × (n ≤ length tokens.now)) }
+{
+    match opening_of(word_at(tokens, at)) {
+        Opening::Row(row) if fits(level, row) => {
+            parts.row = row;
+            slots_at(tokens, row_slots(row), parts, at + 1)
+        }
+        Opening::Other if has_operations(level) => Err(HeadFault::At(at, Due::OtherReader)),
+        _ => Err(HeadFault::At(at, due_at(level))),
+    }
+}
+
+/// The head of the operation at a token, and the number of the token behind it. It refuses with the
+/// first token that fits no head, which is the end where all before fit, and with what was due there.
+#[tactic(auto, unfolding(crate::specs::Heads::head_at))]
+pub fn head_at(
+    alloc: Global,
+    tokens: &[Token],
+    level: Level,
+    at: usize,
+) -> Result<(Parts, usize), HeadFault>
+    ensures gives { Gives (λ x. x) result (head_at tokens.now level at) }
+    ensures within { IfOk result (λ x. (at < x.1) × (x.1 ≤ length tokens.now)) }
+{
+    let mut parts = Parts::new(alloc, Row::Module);
+    if has_operations(level) && looks(tokens, at, TokenKind::Value) {
+        let next = defines_at(tokens, &mut parts, at)?;
+        let next = row_at(tokens, Level::Body, &mut parts, next)?;
+        return Ok((parts, next));
+    }
+    let next = row_at(tokens, level, &mut parts, at)?;
+    Ok((parts, next))
+}

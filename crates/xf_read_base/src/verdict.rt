@@ -1,0 +1,309 @@
+//! The code of the fault at the token that fits no head.
+ghost use Rattle.std.specs.Prelude.{◌≡◌, ◌+◌, length, drop};
+ghost use Rattle.xf_grammar.specs.Tokens.{seen};
+ghost use Rattle.xf_read_base.specs.Verdicts.{number_if, one_of, divisions, loops, structured, floats, attribute_words, begins, has_dot, dotted_number, word_number, all_digits, digits_behind, type_number, begins_attribute, anywhere, operation_number, function_number, file_number, listed_number, is_not_built, listed, verdict};
+
+use crate::due::Due;
+use crate::word::width_of;
+use xf_grammar::{looks, says, word_at};
+use xf_lex::{Token, TokenKind};
+
+/// What a token is that fits no head.
+#[derive(Clone, Copy, Debug, PartialEq, Eq)]
+pub enum Verdict {
+    /// A token that no text has there.
+    Syntax,
+    /// A form of MLIR that is not supported, by its number.
+    OutOfProfile(u32),
+    /// A form that is not built yet.
+    NotBuilt,
+}
+
+fn is_division(word: &[u8]) -> bool
+    ensures { result ≡ one_of divisions word.now }
+{
+    word == b"arith.divsi".as_slice()
+        || word == b"arith.divui".as_slice()
+        || word == b"arith.ceildivsi".as_slice()
+        || word == b"arith.ceildivui".as_slice()
+        || word == b"arith.floordivsi".as_slice()
+        || word == b"arith.remsi".as_slice()
+        || word == b"arith.remui".as_slice()
+        || word == b"arith.divf".as_slice()
+        || word == b"arith.remf".as_slice()
+}
+
+fn is_loop(word: &[u8]) -> bool
+    ensures { result ≡ one_of loops word.now }
+{
+    word == b"scf.for".as_slice() || word == b"scf.if".as_slice() || word == b"scf.yield".as_slice()
+}
+
+fn is_structured(word: &[u8]) -> bool
+    ensures { result ≡ one_of structured word.now }
+{
+    word == b"linalg.matmul".as_slice()
+        || word == b"linalg.batch_matmul".as_slice()
+        || word == b"linalg.matvec".as_slice()
+        || word == b"linalg.dot".as_slice()
+        || word == b"linalg.fill".as_slice()
+        || word == b"linalg.generic".as_slice()
+        || word == b"linalg.yield".as_slice()
+        || word == b"linalg.index".as_slice()
+}
+
+fn is_float(word: &[u8]) -> bool
+    ensures { result ≡ one_of floats word.now }
+{
+    word == b"f16".as_slice()
+        || word == b"f32".as_slice()
+        || word == b"f64".as_slice()
+        || word == b"f80".as_slice()
+        || word == b"f128".as_slice()
+        || word == b"bf16".as_slice()
+        || word == b"tf32".as_slice()
+}
+
+fn is_attribute_word(word: &[u8]) -> bool
+    ensures { result ≡ one_of attribute_words word.now }
+{
+    word == b"dense".as_slice()
+        || word == b"dense_resource".as_slice()
+        || word == b"sparse".as_slice()
+        || word == b"array".as_slice()
+        || word == b"affine_map".as_slice()
+        || word == b"affine_set".as_slice()
+        || word == b"strided".as_slice()
+        || word == b"distinct".as_slice()
+        || word == b"opaque".as_slice()
+        || word == b"tensor".as_slice()
+        || word == b"complex".as_slice()
+        || word == b"tuple".as_slice()
+        || word == b"none".as_slice()
+}
+
+fn begins(prefix: &[u8], word: &[u8]) -> bool
+    ensures { result ≡ begins prefix.now word.now }
+{
+    word.starts_with(prefix)
+}
+
+fn has_dot(word: &[u8]) -> bool
+    ensures { result ≡ has_dot word.now }
+{
+    word.contains(&b'.')
+}
+
+/// The number of a word with a dot in the place of an operation.
+fn dotted_number(word: &[u8]) -> Option<u32>
+    ensures { result ≡ dotted_number word.now }
+{
+    if is_division(word) {
+        Some(2)
+    } else if begins(b"memref.", word) || begins(b"vector.", word) {
+        Some(5)
+    } else if begins(b"affine.", word) {
+        Some(6)
+    } else if begins(b"cf.", word) {
+        Some(7)
+    } else if begins(b"scf.", word) && !is_loop(word) {
+        Some(8)
+    } else if begins(b"linalg.", word) && !is_structured(word) {
+        Some(9)
+    } else if word == b"linalg.index".as_slice() {
+        Some(10)
+    } else if has_dot(word) {
+        Some(21)
+    } else {
+        None
+    }
+}
+
+/// The number of a word in the place of an operation or a function.
+fn word_number(word: &[u8]) -> Option<u32>
+    ensures { result ≡ word_number word.now }
+{
+    if word == b"module".as_slice() || word == b"builtin.module".as_slice() {
+        Some(15)
+    } else {
+        dotted_number(word)
+    }
+}
+
+fn all_digits(bytes: &[u8]) -> bool
+    ensures { result ≡ all_digits bytes.now }
+{
+    for b in bytes {
+        if !b.is_ascii_digit() {
+            return false;
+        }
+    }
+    true
+}
+
+/// Whether a word is these letters and one digit or more.
+fn digits_behind(letters: &[u8], word: &[u8]) -> bool
+    ensures { result ≡ digits_behind letters.now word.now }
+{
+    word.starts_with(letters) && word != letters && all_digits(&word[letters.len()..])
+}
+
+/// The number of a word in the place of a type.
+fn type_number(word: &[u8]) -> Option<u32>
+    ensures { result ≡ type_number word.now }
+{
+    if is_float(word) || begins(b"f8E", word) {
+        Some(1)
+    } else if digits_behind(b"i", word)
+        || digits_behind(b"si", word)
+        || digits_behind(b"ui", word)
+    {
+        Some(4)
+    } else if word == b"memref".as_slice() || word == b"vector".as_slice() {
+        Some(5)
+    } else {
+        None
+    }
+}
+
+/// Whether a token begins an attribute that is not supported.
+fn begins_attribute(tokens: &[Token], at: usize) -> bool
+    ensures { result ≡ begins_attribute (seen tokens.now at) }
+{
+    let word = word_at(tokens, at);
+    looks(tokens, at, TokenKind::Mark(b'['))
+        || looks(tokens, at, TokenKind::Mark(b'{'))
+        || looks(tokens, at, TokenKind::Mark(b'('))
+        || looks(tokens, at, TokenKind::Symbol)
+        || looks(tokens, at, TokenKind::Hash)
+        || looks(tokens, at, TokenKind::DialectType)
+        || is_attribute_word(word)
+        || width_of(word).is_some()
+}
+
+/// The number of what is not supported wherever it stands.
+fn anywhere(tokens: &[Token], at: usize, next: usize) -> Option<u32>
+    ensures { result ≡ anywhere (seen tokens.now at) (seen tokens.now next) }
+{
+    if says(tokens, at, b"overflow") && looks(tokens, next, TokenKind::Mark(b'<')) {
+        Some(3)
+    } else if looks(tokens, at, TokenKind::Mark(b'<'))
+        && looks(tokens, next, TokenKind::Mark(b'{'))
+    {
+        Some(11)
+    } else if says(tokens, at, b"loc") && looks(tokens, next, TokenKind::Mark(b'(')) {
+        Some(12)
+    } else {
+        None
+    }
+}
+
+/// The number of a token in the place of an operation.
+fn operation_number(tokens: &[Token], at: usize) -> Option<u32>
+    ensures { result ≡ operation_number (seen tokens.now at) }
+{
+    if looks(tokens, at, TokenKind::Text) {
+        Some(11)
+    } else if looks(tokens, at, TokenKind::BlockName) {
+        Some(7)
+    } else {
+        word_number(word_at(tokens, at))
+    }
+}
+
+/// The number of a token in the place of a function.
+fn function_number(tokens: &[Token], at: usize) -> Option<u32>
+    ensures { result ≡ function_number (seen tokens.now at) }
+{
+    if looks(tokens, at, TokenKind::Text) {
+        Some(11)
+    } else {
+        word_number(word_at(tokens, at))
+    }
+}
+
+/// The number of a token where a file begins.
+fn file_number(tokens: &[Token], at: usize) -> Option<u32>
+    ensures { result ≡ file_number (seen tokens.now at) }
+{
+    if looks(tokens, at, TokenKind::Text) {
+        Some(11)
+    } else {
+        dotted_number(word_at(tokens, at))
+    }
+}
+
+fn number_if(is_listed: bool, number: u32) -> Option<u32>
+    ensures { result ≡ number_if is_listed number }
+{
+    if is_listed { Some(number) } else { None }
+}
+
+/// The number of what is not supported in the place of what was due.
+fn listed_number(tokens: &[Token], at: usize, due: Due) -> Option<u32>
+    ensures { result ≡ listed_number due (seen tokens.now at) }
+{
+    let word = word_at(tokens, at);
+    match due {
+        Due::File => file_number(tokens, at),
+        Due::Function => function_number(tokens, at),
+        Due::Operation => operation_number(tokens, at),
+        Due::ArithWidth if says(tokens, at, b"tensor") => Some(18),
+        Due::Type | Due::Width | Due::ArithWidth => type_number(word),
+        Due::AttributeValue => number_if(begins_attribute(tokens, at), 14),
+        Due::ConstantValue => number_if(
+            looks(tokens, at, TokenKind::Text)
+                || says(tokens, at, b"unit")
+                || begins_attribute(tokens, at),
+            14,
+        ),
+        Due::FunctionName => number_if(
+            word == b"public".as_slice() || word == b"nested".as_slice(),
+            19,
+        ),
+        Due::AfterArgument | Due::AfterResult => {
+            number_if(looks(tokens, at, TokenKind::Mark(b'{')), 13)
+        }
+        Due::FunctionBody => number_if(
+            looks(tokens, at, TokenKind::Mark(b'}')) || says(tokens, at, b"func.func"),
+            19,
+        ),
+        Due::OtherReader | Due::Other => None,
+    }
+}
+
+/// Whether a token begins what is not built yet.
+fn is_not_built(tokens: &[Token], at: usize, due: Due) -> bool
+    ensures { result ≡ is_not_built due (seen tokens.now at) }
+{
+    match due {
+        Due::File => looks(tokens, at, TokenKind::Hash),
+        Due::OtherReader => true,
+        Due::Type => says(tokens, at, b"tensor"),
+        _ => false,
+    }
+}
+
+/// The number of the token behind a token; behind the end stands the end.
+#[tactic(auto, using(crate::proofs::Ends::seen_past))]
+fn behind(tokens: &[Token], at: usize) -> usize
+    ensures { seen tokens.now result ≡ seen tokens.now (at + 1) }
+{
+    if at < tokens.len() { at + 1 } else { at }
+}
+
+/// What the token is that fits no head, by what was due there.
+pub fn judge(tokens: &[Token], at: usize, due: Due) -> Verdict
+    ensures { result ≡ verdict due (seen tokens.now at) (seen tokens.now (at + 1)) }
+{
+    if let Some(number) = anywhere(tokens, at, behind(tokens, at)) {
+        return Verdict::OutOfProfile(number);
+    }
+    if is_not_built(tokens, at, due) {
+        return Verdict::NotBuilt;
+    }
+    match listed_number(tokens, at, due) {
+        Some(number) => Verdict::OutOfProfile(number),
+        None => Verdict::Syntax,
+    }
+}
