@@ -1,2 +1,3 @@
+pub mod Syntax
 pub mod Tree
 pub mod View

@@ -57,11 +57,12 @@ impl Model for Body {
     ghost size_decreases = { λ b h. Prim.omega (arith, trees_fall b.nodes.items) };
 }
 
-/// A whole text. Where the module is left out, `module` has no parts, its first token is that of
-/// the text, and its body is closed by the end of the text; its place is the start of the text.
+/// A whole text: its module. Where the module is left out, `root` has no parts, its first token is
+/// that of the text, and its body is closed by the end of the text; its place is the start of the
+/// text.
 #[derive(Drop)]
 pub struct File {
     /// Whether the module is written.
     pub written: bool,
-    pub module: Node,
+    pub root: Node,
 }
