@@ -1,3 +1,9 @@
+pub mod Meant
+pub mod Names
+pub mod Scopes
+pub mod Spells
 pub mod Syntax
 pub mod Tree
+pub mod Types
+pub mod Values
 pub mod View
