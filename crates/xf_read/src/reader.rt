@@ -1,7 +1,8 @@
 //! Reading the syntax of a whole text.
 ghost use Rattle.std.specs.Prelude.{◌≡◌, ◌≤◌, ◌<◌, ◌+◌, ℕ, length, IfOk};
+ghost use Rattle.xf_grammar.specs.Tokens.{seen};
 ghost use Rattle.xf_read_base.specs.declared.row.Level.TheVariants as level;
-ghost use Rattle.xf_read.specs.Syntax.{Gives, begins_at, inside, due_before, behind, may_end_open, lacks_yield, closed, braced, bodies_at, tail_at, node_at, nodes_at, file_at, block};
+ghost use Rattle.xf_read.specs.Syntax.{Gives, begins_at, ends_in_yield, is_yield, inside, due_before, behind, may_end_open, lacks_yield, closed, closes, braced, with_else, bodies_at, tail_at, node_at, nodes_at, file_at, block};
 ghost use Rattle.xf_read.specs.View.{nodes_of, bodies_of};
 
 use crate::fault::{Cause, SyntaxFault};
@@ -58,6 +59,27 @@ fn may_end_open(parts: &Parts) -> bool
     }
 }
 
+/// Whether an operation is a yield.
+fn is_yield(row: Row) -> bool
+    ensures { result ≡ is_yield row }
+{
+    match row {
+        Row::Yield => true,
+        _ => false,
+    }
+}
+
+/// Whether the last operation of a body is a yield.
+#[tactic(auto, using(crate::proofs::TreeLemmas::last_yields))]
+fn ends_in_yield(nodes: &[Node]) -> bool
+    ensures { result ≡ ends_in_yield (nodes_of nodes.now) }
+{
+    match nodes {
+        [.., last] => is_yield(last.parts.row),
+        [] => false,
+    }
+}
+
 /// The head of the operation that begins at a token, unless the operation is one too many.
 #[tactic(auto, unfolding(crate::specs::Syntax::begins_at))]
 fn begins_at(
@@ -82,4 +104,179 @@ fn begins_at(
         )),
         _ => Err(SyntaxFault::At(at, Cause::TooManyOps)),
     }
+}
+
+/// Whether a brace that closes stands there, or the end.
+fn closes(tokens: &[Token], at: usize) -> bool
+    ensures { result ≡ closes (seen tokens.now at) }
+{
+    at >= tokens.len() || looks(tokens, at, TokenKind::Mark(b'}'))
+}
+
+/// The brace that closes a body, with the yield that is left out before it.
+#[tactic(auto, unfolding(crate::specs::Syntax::closed))]
+fn closed(
+    tokens: &[Token],
+    parts: &Parts,
+    nodes: &[Node],
+    count: &mut u32,
+    at: usize,
+) -> Result<usize, SyntaxFault>
+    ensures gives { Gives (λ n. ((block (nodes_of nodes.now) at, count.new), n)) result (closed tokens.now parts.now (nodes_of nodes.now) count.old at) }
+    ensures within { IfOk result (λ n. (at ≤ n) × (n ≤ length tokens.now)) }
+{
+    if !looks(tokens, at, TokenKind::Mark(b'}')) {
+        return Err(SyntaxFault::At(at, Cause::Due(Due::Other)));
+    }
+    if may_end_open(parts) && !ends_in_yield(nodes) {
+        if *count >= MOST_OPERATIONS {
+            return Err(SyntaxFault::At(at, Cause::TooManyOps));
+        }
+        *count += 1;
+    }
+    Ok(at + 1)
+}
+
+/// What stands behind the bodies.
+fn tail_at(tokens: &[Token], parts: &mut Parts, at: usize) -> Result<usize, SyntaxFault>
+    requires { at ≤ length tokens.now }
+    ensures gives { Gives (λ n. (parts.new, n)) result (tail_at tokens.now parts.old.row parts.old at) }
+    ensures within { IfOk result (λ n. (at ≤ n) × (n ≤ length tokens.now)) }
+{
+    match parts.row {
+        Row::For | Row::If => Ok(dictionary_at(tokens, parts, at)?),
+        _ => Ok(at),
+    }
+}
+
+/// Operations between braces, inside so many open regions.
+#[cycle(tree)]
+#[tactic(auto, unfolding(crate::specs::Syntax::braced))]
+fn braced(
+    alloc: Global,
+    tokens: &[Token],
+    parts: &Parts,
+    depth: u32,
+    count: &mut u32,
+    at: usize,
+) -> Result<(Body, usize), SyntaxFault>
+    requires { at ≤ length tokens.now }
+    ensures gives { (f : ℕ) → length tokens.now < f + at → Gives (λ x. ((x.0, count.new), x.1)) result (braced tokens.now (nodes_at f tokens.now) parts.now depth count.old at) }
+    ensures within { IfOk result (λ x. (at ≤ x.1) × (x.1 ≤ length tokens.now)) }
+{
+    if !looks(tokens, at, TokenKind::Mark(b'{')) {
+        return Err(SyntaxFault::At(at, Cause::Due(due_before(parts.row))));
+    }
+    if depth >= MOST_OPEN {
+        return Err(SyntaxFault::At(at, Cause::NestLimit));
+    }
+    let (nodes, close) = nodes_at(alloc, tokens, inside(parts.row), depth + 1, count, at + 1)?;
+    let next = closed(tokens, parts, nodes.as_slice(), count, close)?;
+    Ok((Body { nodes, close }, next))
+}
+
+/// A body, and one behind `else` where this stands.
+#[cycle(tree)]
+#[tactic(auto, unfolding(crate::specs::Syntax::with_else))]
+fn with_else(
+    alloc: Global,
+    tokens: &[Token],
+    parts: &Parts,
+    depth: u32,
+    count: &mut u32,
+    at: usize,
+) -> Result<(Vec<Body>, usize), SyntaxFault>
+    requires { at ≤ length tokens.now }
+    ensures gives { (f : ℕ) → length tokens.now < f + at → Gives (λ x. ((bodies_of x.0.items, count.new), x.1)) result (with_else tokens.now (braced tokens.now (nodes_at f tokens.now) parts.now depth) count.old at) }
+    ensures within { IfOk result (λ x. (at ≤ x.1) × (x.1 ≤ length tokens.now)) }
+{
+    let mut bodies = Vec::new(alloc);
+    let (first, next) = braced(alloc, tokens, parts, depth, count, at)?;
+    bodies.push(first)?;
+    if !says(tokens, next, b"else") {
+        return Ok((bodies, next));
+    }
+    let (other, next) = braced(alloc, tokens, parts, depth, count, next + 1)?;
+    bodies.push(other)?;
+    Ok((bodies, next))
+}
+
+/// The bodies of an operation.
+#[cycle(tree)]
+fn bodies_at(
+    alloc: Global,
+    tokens: &[Token],
+    parts: &Parts,
+    depth: u32,
+    count: &mut u32,
+    at: usize,
+) -> Result<(Vec<Body>, usize), SyntaxFault>
+    requires { at ≤ length tokens.now }
+    ensures gives { (f : ℕ) → length tokens.now < f + at → Gives (λ x. ((bodies_of x.0.items, count.new), x.1)) result (bodies_at tokens.now (braced tokens.now (nodes_at f tokens.now) parts.now depth) parts.now.row count.old at) }
+    ensures within { IfOk result (λ x. (at ≤ x.1) × (x.1 ≤ length tokens.now)) }
+{
+    match parts.row {
+        Row::If => with_else(alloc, tokens, parts, depth, count, at),
+        Row::Module | Row::Function | Row::For => {
+            let mut bodies = Vec::new(alloc);
+            let (one, next) = braced(alloc, tokens, parts, depth, count, at)?;
+            bodies.push(one)?;
+            Ok((bodies, next))
+        }
+        _ => Ok((Vec::new(alloc), at)),
+    }
+}
+
+/// An operation, inside so many open regions.
+#[cycle(tree)]
+#[tactic(auto, unfolding(crate::specs::Syntax::node_at))]
+fn node_at(
+    alloc: Global,
+    tokens: &[Token],
+    level: Level,
+    depth: u32,
+    count: &mut u32,
+    at: usize,
+) -> Result<(Node, usize), SyntaxFault>
+    ensures gives { (f : ℕ) → length tokens.now ≤ f + at → Gives (λ x. ((x.0, count.new), x.1)) result (node_at tokens.now (nodes_at f tokens.now) level depth count.old at) }
+    ensures within { IfOk result (λ x. (at < x.1) × (x.1 ≤ length tokens.now)) }
+{
+    let (mut parts, next) = begins_at(alloc, tokens, level, *count, at)?;
+    *count += 1;
+    let (bodies, next) = bodies_at(alloc, tokens, &parts, depth, count, next)?;
+    let next = tail_at(tokens, &mut parts, next)?;
+    Ok((
+        Node {
+            first: at,
+            parts,
+            bodies,
+        },
+        next,
+    ))
+}
+
+/// Operations up to a brace or the end, inside so many open regions.
+#[cycle(tree)]
+fn nodes_at(
+    alloc: Global,
+    tokens: &[Token],
+    level: Level,
+    depth: u32,
+    count: &mut u32,
+    at: usize,
+) -> Result<(Vec<Node>, usize), SyntaxFault>
+    requires { at ≤ length tokens.now }
+    ensures gives { (f : ℕ) → length tokens.now < f + at → Gives (λ x. ((nodes_of x.0.items, count.new), x.1)) result (nodes_at f tokens.now level depth count.old at) }
+    ensures within { IfOk result (λ x. (at ≤ x.1) × (x.1 ≤ length tokens.now)) }
+{
+    let mut nodes = Vec::new(alloc);
+    let mut level = level;
+    let mut at = at;
+    'ops: while !closes(tokens, at) {
+        let (node, next) = node_at(alloc, tokens, level, depth, count, at)?;
+        nodes.push(node)?;
+        level = behind(level);
+        at = next;
+    }
+    Ok((nodes, at))
 }

@@ -25,7 +25,7 @@ use Rattle.xf_read_base.specs.declared.row.Slot.{Slot}
 use Rattle.xf_read_base.specs.declared.row.Slot.TheVariants as slot
 use Rattle.xf_read_base.specs.Words.{lookup, widths, predicates, spelling, opening_of}
 use Rattle.xf_read_base.specs.Rows.{slots, fits}
-use Rattle.xf_read_base.specs.Reading.{Read, no_parts, ref, count_of, with_define, with_arg, with_use, with_width, with_entry, with_symbol, with_literal, word_is, symbol_at, module_name_at, function_name_at, argument_at, use_at, stated, width_at, predicated, predicate_at, has_room, number_is, literal_at, entry_width, entry_typed, entry_number, entry_value, entry_at, param_at, pair_at, item_at, list_at, enclosed, dictionary_at, attributes_at, types_at, call_results_at, function_results_at, listed_types_at, if_results_at, operands_at, iter_args_at, loop_width_at, slot_at, slots_at}
+use Rattle.xf_read_base.specs.Reading.{Read, no_parts, ref, count_of, with_define, with_arg, with_use, with_width, with_result, with_entry, with_symbol, with_literal, word_is, symbol_at, module_name_at, function_name_at, argument_at, use_at, stated, width_at, resulted, result_at, predicated, predicate_at, has_room, number_is, literal_at, entry_width, entry_typed, entry_number, entry_value, entry_at, param_at, pair_at, item_at, list_at, enclosed, dictionary_at, attributes_at, result_types_at, call_results_at, function_results_at, listed_results_at, if_results_at, operands_at, iter_args_at, loop_width_at, slot_at, slots_at}
 use Rattle.xf_read_base.specs.Heads.{defines_at, due_at, has_operations, opened, row_at, head_at}
 
 -- ---- single tokens
@@ -76,6 +76,14 @@ width_steady d all h at = by_seen all at (λ x ts. stated d (lookup widths (word
     by : (o : Option Width) → Steady all at (λ ts. stated d o h at)
     by (Some w) = done all at (with_width w h) (at + 1) (omega arith)
     by None = stops all at at d (omega arith)
+
+result_steady : (all : List Token) (h : Parts) (at : ℕ) → Steady all at (λ ts. result_at ts h at)
+unfolding result_at
+result_steady all h at = by_seen all at (λ x ts. resulted (lookup widths (word_of x)) h at) (λ x. by (lookup widths (word_of x)))
+  where
+    by : (o : Option Width) → Steady all at (λ ts. resulted o h at)
+    by (Some w) = done all at (with_result w h) (at + 1) (omega arith)
+    by None = stops all at at due.Type (omega arith)
 
 predicate_steady : (all : List Token) (h : Parts) (at : ℕ) → Steady all at (λ ts. predicate_at ts h at)
 unfolding predicate_at
@@ -170,6 +178,7 @@ pair_steady all h at = chain all at _ _ (argument_steady all h at) (λ n. chain 
 item_steady : (i : Item) (all : List Token) (h : Parts) (at : ℕ) → Steady all at (λ ts. item_at i ts h at)
 item_steady item.Use all h at = use_steady all h at
 item_steady item.Type all h at = width_steady due.Type all h at
+item_steady item.Result all h at = result_steady all h at
 item_steady item.Param all h at = param_steady all h at
 item_steady item.Pair all h at = pair_steady all h at
 item_steady item.Entry all h at = entry_steady all h at
@@ -197,25 +206,25 @@ attributes_steady all h at =
 
 -- ---- types and operands
 
-types_steady : (d : Due) (all : List Token) (h : Parts) (at : ℕ) → Steady all at (λ ts. types_at ts d h at)
-unfolding types_at
-types_steady d all h at = ask (is_kind open_paren) all at _ _ (later all at (at + 1) _ (omega arith) (enclosed_steady item.Type d all h (at + 1))) (width_steady due.Type all h at)
+result_types_steady : (d : Due) (all : List Token) (h : Parts) (at : ℕ) → Steady all at (λ ts. result_types_at ts d h at)
+unfolding result_types_at
+result_types_steady d all h at = ask (is_kind open_paren) all at _ _ (later all at (at + 1) _ (omega arith) (enclosed_steady item.Result d all h (at + 1))) (result_steady all h at)
 
 call_results_steady : (all : List Token) (h : Parts) (at : ℕ) → Steady all at (λ ts. call_results_at ts h at)
 unfolding call_results_at
-call_results_steady all h at = chain all at _ _ (expects_steady due.Other all kind.Arrow h at) (λ x. types_steady due.Other all x.0 x.1)
+call_results_steady all h at = chain all at _ _ (expects_steady due.Other all kind.Arrow h at) (λ x. result_types_steady due.Other all x.0 x.1)
 
 function_results_steady : (all : List Token) (h : Parts) (at : ℕ) → Steady all at (λ ts. function_results_at ts h at)
 unfolding function_results_at
-function_results_steady all h at = ask (is_kind kind.Arrow) all at _ _ (later all at (at + 1) _ (omega arith) (types_steady due.AfterResult all h (at + 1))) (done all at h at (omega arith))
+function_results_steady all h at = ask (is_kind kind.Arrow) all at _ _ (later all at (at + 1) _ (omega arith) (result_types_steady due.AfterResult all h (at + 1))) (done all at h at (omega arith))
 
-listed_types_steady : (all : List Token) (h : Parts) (at : ℕ) → Steady all at (λ ts. listed_types_at ts h at)
-unfolding listed_types_at
-listed_types_steady all h at = chain all at _ _ (expects_steady due.Other all open_paren h at) (λ x. enclosed_steady item.Type due.Other all x.0 x.1)
+listed_results_steady : (all : List Token) (h : Parts) (at : ℕ) → Steady all at (λ ts. listed_results_at ts h at)
+unfolding listed_results_at
+listed_results_steady all h at = chain all at _ _ (expects_steady due.Other all open_paren h at) (λ x. enclosed_steady item.Result due.Other all x.0 x.1)
 
 if_results_steady : (all : List Token) (h : Parts) (at : ℕ) → Steady all at (λ ts. if_results_at ts h at)
 unfolding if_results_at
-if_results_steady all h at = ask (is_kind kind.Arrow) all at _ _ (later all at (at + 1) _ (omega arith) (listed_types_steady all h (at + 1))) (done all at h at (omega arith))
+if_results_steady all h at = ask (is_kind kind.Arrow) all at _ _ (later all at (at + 1) _ (omega arith) (listed_results_steady all h (at + 1))) (done all at h at (omega arith))
 
 operands_steady : (all : List Token) (h : Parts) (at : ℕ) → Steady all at (λ ts. operands_at ts h at)
 unfolding operands_at
@@ -229,7 +238,7 @@ unfolding iter_args_at
 iter_args_steady all h at =
     ask (is_word (codes "iter_args")) all at _ _
     (later all at (at + 1) _ (omega arith) (chain all (at + 1) _ _ (expects_steady due.Other all open_paren h (at + 1)) (λ a. chain all a.1 _ _ (enclosed_steady item.Pair due.Other all a.0 a.1)
-    (λ b. chain all b.1 _ _ (expects_steady due.Other all kind.Arrow b.0 b.1) (λ c. listed_types_steady all c.0 c.1)))))
+    (λ b. chain all b.1 _ _ (expects_steady due.Other all kind.Arrow b.0 b.1) (λ c. listed_results_steady all c.0 c.1)))))
     (done all at h at (omega arith))
 
 loop_width_steady : (all : List Token) (h : Parts) (at : ℕ) → Steady all at (λ ts. loop_width_at ts h at)

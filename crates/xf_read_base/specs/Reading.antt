@@ -42,7 +42,7 @@ Gives view (Err e) read = Fails e read
 -- ---- parts
 
 abbrev pub no_parts : Row → Parts
-no_parts r = record { row = r; symbol = None; private = false; predicate = None; literal = None; entries = []; defines = []; args = []; uses = []; types = [] }
+no_parts r = record { row = r; symbol = None; private = false; predicate = None; literal = None; entries = []; defines = []; args = []; uses = []; types = []; results = [] }
 
 abbrev pub ref : ℕ → ℕ → Ref
 ref at n = record { token = at; count = n }
@@ -65,6 +65,9 @@ with_use r h = record h { uses = h.uses ++ r ∷ [] }
 
 abbrev pub with_width : Width → Parts → Parts
 with_width w h = record h { types = h.types ++ Scalar w ∷ [] }
+
+abbrev pub with_result : Width → Parts → Parts
+with_result w h = record h { results = h.results ++ Scalar w ∷ [] }
 
 abbrev pub with_entry : ℕ → EntryValue → Parts → Parts
 with_entry name v h = record h { entries = h.entries ++ (record { name = name; value = v }) ∷ [] }
@@ -113,6 +116,14 @@ width_at all d h at = stated d (lookup widths (word_at all at)) h at
 
 abbrev pub type_at : List Token → Parts → ℕ → Read
 type_at all h at = width_at all due.Type h at
+
+-- a type of a result
+abbrev pub resulted : Option Width → Parts → ℕ → Read
+resulted (Some w) h at = Ok (with_result w h, at + 1)
+resulted None h at = Err (at, due.Type)
+
+unfoldable pub result_at : List Token → Parts → ℕ → Read
+result_at all h at = resulted (lookup widths (word_at all at)) h at
 
 abbrev pub predicated : Option CmpKind → Parts → ℕ → Read
 predicated (Some k) h at = Ok (record h { predicate = Some k }, at + 1)
@@ -194,6 +205,7 @@ pair_at all h at = argument_at all h at >>= λ n. expects due.Other all equals n
 abbrev pub item_at : Item → List Token → Parts → ℕ → Read
 item_at item.Use all h at = use_at all h at
 item_at item.Type all h at = type_at all h at
+item_at item.Result all h at = result_at all h at
 item_at item.Param all h at = param_at all h at
 item_at item.Pair all h at = pair_at all h at
 item_at item.Entry all h at = entry_at all h at
@@ -219,25 +231,25 @@ attributes_at all h at =
 
 -- ---- types and operands
 
--- one type, or types in parentheses, behind one of which this is due
-unfoldable pub types_at : List Token → Due → Parts → ℕ → Read
-types_at all d h at = if looks all at open_paren then enclosed all item.Type d h (at + 1) else type_at all h at
+-- one result type, or result types in parentheses, behind one of which this is due
+unfoldable pub result_types_at : List Token → Due → Parts → ℕ → Read
+result_types_at all d h at = if looks all at open_paren then enclosed all item.Result d h (at + 1) else result_at all h at
 
 -- -> types
 unfoldable pub call_results_at : List Token → Parts → ℕ → Read
-call_results_at all h at = expects due.Other all kind.Arrow h at >>= λ x. types_at all due.Other x.0 x.1
+call_results_at all h at = expects due.Other all kind.Arrow h at >>= λ x. result_types_at all due.Other x.0 x.1
 
 -- optional -> types
 unfoldable pub function_results_at : List Token → Parts → ℕ → Read
-function_results_at all h at = if looks all at kind.Arrow then types_at all due.AfterResult h (at + 1) else Ok (h, at)
+function_results_at all h at = if looks all at kind.Arrow then result_types_at all due.AfterResult h (at + 1) else Ok (h, at)
 
--- ( types )
-unfoldable pub listed_types_at : List Token → Parts → ℕ → Read
-listed_types_at all h at = expects due.Other all open_paren h at >>= λ x. enclosed all item.Type due.Other x.0 x.1
+-- ( result types )
+unfoldable pub listed_results_at : List Token → Parts → ℕ → Read
+listed_results_at all h at = expects due.Other all open_paren h at >>= λ x. enclosed all item.Result due.Other x.0 x.1
 
 -- optional -> ( types )
 unfoldable pub if_results_at : List Token → Parts → ℕ → Read
-if_results_at all h at = if looks all at kind.Arrow then listed_types_at all h (at + 1) else Ok (h, at)
+if_results_at all h at = if looks all at kind.Arrow then listed_results_at all h (at + 1) else Ok (h, at)
 
 -- optional operands : types
 unfoldable pub operands_at : List Token → Parts → ℕ → Read
@@ -250,7 +262,7 @@ operands_at all h at =
 unfoldable pub iter_args_at : List Token → Parts → ℕ → Read
 iter_args_at all h at =
     if says all at (codes "iter_args")
-    then (expects due.Other all open_paren h (at + 1) >>= λ a. enclosed all item.Pair due.Other a.0 a.1 >>= λ b. expects due.Other all kind.Arrow b.0 b.1 >>= λ c. listed_types_at all c.0 c.1)
+    then (expects due.Other all open_paren h (at + 1) >>= λ a. enclosed all item.Pair due.Other a.0 a.1 >>= λ b. expects due.Other all kind.Arrow b.0 b.1 >>= λ c. listed_results_at all c.0 c.1)
     else Ok (h, at)
 
 -- optional : width, else index

@@ -11,6 +11,8 @@ mod parts;
 mod row;
 mod single;
 mod slot;
+#[cfg(test)]
+mod tests;
 mod verdict;
 mod word;
 

@@ -8,7 +8,7 @@ ghost use Rattle.xf_read_base.specs.Reading.{Gives, param_at, pair_at, item_at, 
 use crate::dictionary::entry_at;
 use crate::due::{Due, HeadFault};
 use crate::parts::Parts;
-use crate::single::{argument_at, expects, use_at, width_at};
+use crate::single::{argument_at, expects, result_at, use_at, width_at};
 use xf_grammar::looks;
 use xf_lex::{Token, TokenKind};
 
@@ -19,6 +19,8 @@ pub enum Item {
     Use,
     /// A type.
     Type,
+    /// A type of a result.
+    Result,
     /// A block argument with its type.
     Param,
     /// A block argument and an operand, with `=` between them.
@@ -57,6 +59,7 @@ fn item_at(tokens: &[Token], item: Item, parts: &mut Parts, at: usize) -> Result
     match item {
         Item::Use => use_at(tokens, parts, at),
         Item::Type => width_at(tokens, Due::Type, parts, at),
+        Item::Result => result_at(tokens, parts, at),
         Item::Param => param_at(tokens, parts, at),
         Item::Pair => pair_at(tokens, parts, at),
         Item::Entry => entry_at(tokens, parts, at),

@@ -72,8 +72,11 @@ pub struct Parts {
     pub args: RefList,
     /// The names of the operands.
     pub uses: RefList,
-    /// The types that are stated, in order; of a loop without a width, the width `index` last.
+    /// The types that are stated but for those of results, in order: of arguments, of operands, and
+    /// the widths of the operation; of a loop without a width, `index`.
     pub types: TypeList,
+    /// The types behind `->`, in order.
+    pub results: TypeList,
 }
 
 impl Parts {
@@ -92,6 +95,7 @@ impl Parts {
             args: ListOf::new(alloc),
             uses: ListOf::new(alloc),
             types: ListOf::new(alloc),
+            results: ListOf::new(alloc),
         }
     }
 }

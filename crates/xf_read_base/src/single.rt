@@ -2,7 +2,7 @@
 ghost use Rattle.std.specs.Prelude.{◌≡◌, ◌≤◌, length, IfOk};
 ghost use Rattle.xf_grammar.specs.Reading.{expects};
 ghost use Rattle.xf_read_base.specs.declared.due.Due.TheVariants as due;
-ghost use Rattle.xf_read_base.specs.Reading.{Gives, count_at, word_is, symbol_at, module_name_at, function_name_at, argument_at, use_at, width_at, predicate_at};
+ghost use Rattle.xf_read_base.specs.Reading.{Gives, count_at, word_is, symbol_at, module_name_at, function_name_at, argument_at, use_at, width_at, result_at, predicate_at};
 
 use crate::due::{Due, HeadFault};
 use crate::parts::{Parts, Ref};
@@ -154,6 +154,21 @@ pub fn width_at(
             Ok(at + 1)
         }
         None => Err(HeadFault::At(at, due)),
+    }
+}
+
+/// A type of a result.
+#[tactic(auto, unfolding(crate::specs::Reading::result_at))]
+pub fn result_at(tokens: &[Token], parts: &mut Parts, at: usize) -> Result<usize, HeadFault>
+    ensures gives { Gives (λ n. (parts.new, n)) result (result_at tokens.now parts.old at) }
+    ensures within { IfOk result (λ n. (at ≤ n) × (n ≤ length tokens.now)) }
+{
+    match width_of(word_at(tokens, at)) {
+        Some(width) => {
+            parts.results.push(PayloadType::Scalar(width))?;
+            Ok(at + 1)
+        }
+        None => Err(HeadFault::At(at, Due::Type)),
     }
 }
 

@@ -2,7 +2,7 @@
 ghost use Rattle.std.specs.Prelude.{◌≡◌, ◌≤◌, length, IfOk, OnOk};
 ghost use Rattle.xf_lex.specs.declared.token.TokenKind.TheVariants as kind;
 ghost use Rattle.xf_read_base.specs.declared.due.Due.TheVariants as due;
-ghost use Rattle.xf_read_base.specs.Reading.{Gives, with_width, with_literal, number_is, literal_at, dictionary_at, attributes_at, types_at, call_results_at, function_results_at, listed_types_at, if_results_at, operands_at, iter_args_at, loop_width_at, slot_at, slots_at, enclosed};
+ghost use Rattle.xf_read_base.specs.Reading.{Gives, with_width, with_literal, number_is, literal_at, dictionary_at, attributes_at, result_types_at, call_results_at, function_results_at, listed_results_at, if_results_at, operands_at, iter_args_at, loop_width_at, slot_at, slots_at, enclosed};
 ghost use Rattle.xf_type.specs.declared.payload_type.Width.TheVariants as width;
 ghost use Rattle.xf_read_base.specs.declared.parts.Literal.TheVariants as literal;
 
@@ -11,7 +11,7 @@ use crate::list::{Item, list_at, list_until};
 use crate::parts::{Literal, Parts};
 use crate::row::Slot;
 use crate::single::{
-    argument_at, expects, function_name_at, module_name_at, predicate_at, symbol_at, use_at,
+    argument_at, expects, function_name_at, module_name_at, predicate_at, result_at, symbol_at, use_at,
     width_at, word_is,
 };
 use crate::word::spelling;
@@ -132,16 +132,16 @@ fn enclosed(
     list_until(tokens, item, TokenKind::Mark(b')'), due, parts, at)
 }
 
-/// One type, or types in parentheses. `due` is due behind one of those.
-#[tactic(auto, unfolding(crate::specs::Reading::types_at))]
-fn types_at(tokens: &[Token], due: Due, parts: &mut Parts, at: usize) -> Result<usize, HeadFault>
-    ensures gives { Gives (λ n. (parts.new, n)) result (types_at tokens.now due parts.old at) }
+/// One result type, or result types in parentheses. `due` is due behind one of those.
+#[tactic(auto, unfolding(crate::specs::Reading::result_types_at))]
+fn result_types_at(tokens: &[Token], due: Due, parts: &mut Parts, at: usize) -> Result<usize, HeadFault>
+    ensures gives { Gives (λ n. (parts.new, n)) result (result_types_at tokens.now due parts.old at) }
     ensures within { IfOk result (λ n. (at ≤ n) × (n ≤ length tokens.now)) }
 {
     if looks(tokens, at, TokenKind::Mark(b'(')) {
-        enclosed(tokens, Item::Type, due, parts, at + 1)
+        enclosed(tokens, Item::Result, due, parts, at + 1)
     } else {
-        width_at(tokens, Due::Type, parts, at)
+        result_at(tokens, parts, at)
     }
 }
 
@@ -152,7 +152,7 @@ fn call_results_at(tokens: &[Token], parts: &mut Parts, at: usize) -> Result<usi
     ensures within { IfOk result (λ n. (at ≤ n) × (n ≤ length tokens.now)) }
 {
     let at = expects(tokens, TokenKind::Arrow, Due::Other, parts, at)?;
-    types_at(tokens, Due::Other, parts, at)
+    result_types_at(tokens, Due::Other, parts, at)
 }
 
 /// `->` and the result types of a function, which may be left out.
@@ -163,20 +163,20 @@ fn function_results_at(tokens: &[Token], parts: &mut Parts, at: usize) -> Result
     ensures within { IfOk result (λ n. (at ≤ n) × (n ≤ length tokens.now)) }
 {
     if looks(tokens, at, TokenKind::Arrow) {
-        types_at(tokens, Due::AfterResult, parts, at + 1)
+        result_types_at(tokens, Due::AfterResult, parts, at + 1)
     } else {
         Ok(at)
     }
 }
 
-/// Types in parentheses.
-#[tactic(auto, unfolding(crate::specs::Reading::listed_types_at))]
-fn listed_types_at(tokens: &[Token], parts: &mut Parts, at: usize) -> Result<usize, HeadFault>
-    ensures gives { Gives (λ n. (parts.new, n)) result (listed_types_at tokens.now parts.old at) }
+/// Result types in parentheses.
+#[tactic(auto, unfolding(crate::specs::Reading::listed_results_at))]
+fn listed_results_at(tokens: &[Token], parts: &mut Parts, at: usize) -> Result<usize, HeadFault>
+    ensures gives { Gives (λ n. (parts.new, n)) result (listed_results_at tokens.now parts.old at) }
     ensures within { IfOk result (λ n. (at ≤ n) × (n ≤ length tokens.now)) }
 {
     let at = expects(tokens, TokenKind::Mark(b'('), Due::Other, parts, at)?;
-    enclosed(tokens, Item::Type, Due::Other, parts, at)
+    enclosed(tokens, Item::Result, Due::Other, parts, at)
 }
 
 /// `->` and result types in parentheses, which may be left out.
@@ -187,7 +187,7 @@ fn if_results_at(tokens: &[Token], parts: &mut Parts, at: usize) -> Result<usize
     ensures within { IfOk result (λ n. (at ≤ n) × (n ≤ length tokens.now)) }
 {
     if looks(tokens, at, TokenKind::Arrow) {
-        listed_types_at(tokens, parts, at + 1)
+        listed_results_at(tokens, parts, at + 1)
     } else {
         Ok(at)
     }
@@ -221,7 +221,7 @@ fn iter_args_at(tokens: &[Token], parts: &mut Parts, at: usize) -> Result<usize,
     let at = expects(tokens, TokenKind::Mark(b'('), Due::Other, parts, at + 1)?;
     let at = enclosed(tokens, Item::Pair, Due::Other, parts, at)?;
     let at = expects(tokens, TokenKind::Arrow, Due::Other, parts, at)?;
-    listed_types_at(tokens, parts, at)
+    listed_results_at(tokens, parts, at)
 }
 
 /// `:` and the width of a loop, else `index`.
