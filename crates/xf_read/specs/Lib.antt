@@ -1,3 +1,4 @@
+pub mod Attributes
 pub mod Meant
 pub mod Names
 pub mod Scopes
@@ -6,4 +7,6 @@ pub mod Syntax
 pub mod Tree
 pub mod Types
 pub mod Values
+pub mod Visible
 pub mod View
+pub mod Walks

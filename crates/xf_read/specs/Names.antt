@@ -1,6 +1,5 @@
 -- The checks of names and types: the first token in the text that each of them refuses.
-use Rattle.std.specs.Prelude.{ℕ, ◌+◌, ◌==◌, ◌&&◌, min, List, [], ◌∷◌, length, Option, Some, None, Bool, true, false, if◌then◌else◌, is_some, slice_get}
-use Rattle.std.specs.List.{list_any}
+use Rattle.std.specs.Prelude.{ℕ, ◌+◌, ◌==◌, ◌&&◌, ◌||◌, min, List, [], ◌∷◌, length, Option, Some, None, Bool, true, false, if◌then◌else◌, is_some, slice_get}
 use Rattle.std.specs.Str.{bytes_eq}
 use Rattle.xf_type.specs.declared.payload_type.PayloadType.{PayloadType}
 use Rattle.xf_lex.specs.declared.token.Token.{Token}
@@ -15,8 +14,8 @@ use Rattle.xf_read.specs.declared.scope.Definer.TheVariants.{Results, Argument}
 use Rattle.xf_read.specs.declared.scope.Named.{Named}
 use Rattle.xf_read.specs.Scopes.{text, Scope, with_name, means, type_used}
 use Rattle.xf_read.specs.Syntax.{lacks_yield}
-use Rattle.xf_read.specs.Tree.{Nodes, no_nodes, node, Bodies, no_bodies, body}
-use Rattle.xf_read.specs.Types.{results_by, args_by, operands_by, stated_by, fits}
+use Rattle.xf_read.specs.Tree.{Nodes, no_nodes, node, Bodies, no_bodies, body, Tree}
+use Rattle.xf_read.specs.Types.{one_type, results_by, args_by, operands_by, stated_by, fits}
 
 abbrev pub op_name : ℕ → OpName
 op_name n = record { 0 = n }
@@ -31,6 +30,9 @@ earlier (Some i) (Some j) = Some (min i j)
 abbrev pub no_faults : Faults
 no_faults = record { undefined = None; twice = None; mismatch = None }
 
+abbrev pub twice_fault : Option ℕ → Faults
+twice_fault t = record { undefined = None; twice = t; mismatch = None }
+
 abbrev pub with_faults : Faults → Faults → Faults
 with_faults a b = record { undefined = earlier a.undefined b.undefined; twice = earlier a.twice b.twice; mismatch = earlier a.mismatch b.mismatch }
 
@@ -44,21 +46,21 @@ yield_count p ns = if lacks_yield p ns then 1 else 0
 abbrev mutual
   pub nodes_count : Nodes → ℕ
   nodes_count no_nodes = 0
-  nodes_count (node first p bs rest) = 1 + bodies_count p bs + nodes_count rest
+  nodes_count (node first p bs rest) = (1 + bodies_count p bs) + nodes_count rest
 
   pub bodies_count : Parts → Bodies → ℕ
   bodies_count p no_bodies = 0
-  bodies_count p (body ns close rest) = nodes_count ns + yield_count p ns + bodies_count p rest
+  bodies_count p (body ns close rest) = (nodes_count ns + yield_count p ns) + bodies_count p rest
+
+-- with what an operation holds
+abbrev pub tree_count : Tree → ℕ
+tree_count t = 1 + bodies_count t.parts t.bodies
 
 -- ---- what an operation defines
 
 -- a number of an argument above 2 ^ 32 - 1 is 2 ^ 32 - 1
 abbrev pub argument_number : ℕ → ℕ
 argument_number j = min j 4294967295
-
-abbrev pub one_type : Option PayloadType → List PayloadType
-one_type None = []
-one_type (Some t) = t ∷ []
 
 -- what the name of argument j of operation n stands for
 abbrev pub argument_named : ℕ → ℕ → Option PayloadType → Named
@@ -119,14 +121,20 @@ abbrev pub args_twice : List Token → ℕ → ℕ → List PayloadType → List
 args_twice all n j ts [] scope = None
 args_twice all n j ts (r ∷ rs) scope = earlier (visible_at all scope r.token) (args_twice all n (j + 1) ts rs (with_name (text all r.token) (argument_named n j (slice_get ts j)) scope))
 
--- the first attribute that has one of these names, or that of an attribute before
-abbrev pub entries_twice : List Token → List (List ℕ) → List Entry → Option ℕ
+-- the first attribute that has a name of one before it, or one of these
+abbrev pub also : List ℕ → (List ℕ → Bool) → List ℕ → Bool
+also name names other = bytes_eq name other || names other
+
+abbrev pub entries_twice : List Token → (List ℕ → Bool) → List Entry → Option ℕ
 entries_twice all names [] = None
-entries_twice all names (e ∷ es) = if list_any (bytes_eq (text all e.name)) names then Some e.name else entries_twice all (text all e.name ∷ names) es
+entries_twice all names (e ∷ es) = if names (text all e.name) then Some e.name else entries_twice all (also (text all e.name) names) es
+
+-- the symbol of a function, or the name of results
+abbrev pub names_twice : List Token → Parts → Scope → Option ℕ
+names_twice all p scope = earlier (symbol_twice all scope (function_symbol p.row p.symbol)) (results_twice all scope p.defines)
 
 abbrev pub twice : List Token → ℕ → Parts → Scope → Option ℕ
-twice all n p scope =
-    earlier (entries_twice all [] p.entries) (earlier (symbol_twice all scope (function_symbol p.row p.symbol)) (earlier (results_twice all scope p.defines) (args_twice all n 0 (args_by p.row p) p.args scope)))
+twice all n p scope = earlier (entries_twice all (λ name. false) p.entries) (earlier (names_twice all p scope) (args_twice all n 0 (args_by p.row p) p.args scope))
 
 -- ---- types and numbers that differ
 
@@ -159,9 +167,13 @@ abbrev mutual
   pub nodes_faults : List Token → ℕ → Scope → Nodes → Faults
   nodes_faults all n scope no_nodes = no_faults
   nodes_faults all n scope (node first p bs rest) =
-      with_faults (head_faults all n first p scope)
-      (with_faults (bodies_faults all (n + 1) p (inside all n p scope) bs) (nodes_faults all (n + 1 + bodies_count p bs) (behind all n p scope) rest))
+      with_faults (with_faults (head_faults all n first p scope) (bodies_faults all (n + 1) p (inside all n p scope) bs))
+      (nodes_faults all (n + (1 + bodies_count p bs)) (behind all n p scope) rest)
 
   pub bodies_faults : List Token → ℕ → Parts → Scope → Bodies → Faults
   bodies_faults all n p scope no_bodies = no_faults
   bodies_faults all n p scope (body ns close rest) = with_faults (nodes_faults all n scope ns) (bodies_faults all (n + (nodes_count ns + yield_count p ns)) p scope rest)
+
+-- the faults of operation n and of what it holds
+abbrev pub tree_faults : List Token → ℕ → Scope → Tree → Faults
+tree_faults all n scope t = with_faults (head_faults all n t.first t.parts scope) (bodies_faults all (n + 1) t.parts (inside all n t.parts scope) t.bodies)

@@ -1,5 +1,5 @@
 -- The types of an operation's operands, results and arguments, by its row.
-use Rattle.std.specs.Prelude.{ℕ, ◌+◌, ◌-◌, List, [], ◌∷◌, ◌++◌, length, drop, Option, Some, None, Bool, true, false, ◌==◌, ◌&&◌, if◌then◌else◌, nat_lt, slice_get}
+use Rattle.std.specs.Prelude.{ℕ, ◌+◌, ◌-◌, List, [], ◌∷◌, ◌++◌, length, Option, Some, None, Bool, true, false, ◌==◌, ◌&&◌, if◌then◌else◌, nat_lt, slice_get}
 use Rattle.xf_type.specs.declared.payload_type.PayloadType.{PayloadType}
 use Rattle.xf_type.specs.declared.payload_type.PayloadType.TheVariants.{Scalar, Tensor}
 use Rattle.xf_type.specs.declared.payload_type.Shape.{Shape}
@@ -42,6 +42,10 @@ same_type (Tensor s) (Tensor t) = same_width s.elem t.elem && same_dims s.dims t
 
 -- ---- what a row has
 
+abbrev pub one_type : Option PayloadType → List PayloadType
+one_type None = []
+one_type (Some t) = t ∷ []
+
 -- the types of the results
 abbrev pub results_by : Row → Parts → List PayloadType
 results_by row.Module p = []
@@ -52,7 +56,7 @@ results_by row.Constant p = p.types
 results_by (row.Binary k) p = p.types
 results_by row.Compare p = Scalar I1 ∷ []
 results_by row.Select p = p.types
-results_by (row.Convert k) p = drop 1 p.types
+results_by (row.Convert k) p = one_type (slice_get p.types 1)
 results_by row.For p = p.results
 results_by row.If p = p.results
 results_by row.Yield p = []

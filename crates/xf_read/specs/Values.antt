@@ -1,5 +1,5 @@
 -- What the parts of an operation mean: its kind, and its attributes.
-use Rattle.std.specs.Prelude.{ℕ, ◌+◌, ◌-◌, ◌*◌, ◌^◌, ℤ, pos, neg_ℤ, List, [], ◌∷◌, drop, Option, Some, None, Bool, true, false, ◌==◌, ◌||◌, if◌then◌else◌, slice_get}
+use Rattle.std.specs.Prelude.{ℕ, ◌+◌, ◌-◌, ◌*◌, ◌%◌, ◌^◌, ℤ, pos, neg_ℤ, List, [], ◌∷◌, drop, Option, Some, None, Bool, true, false, ◌==◌, if◌then◌else◌, slice_get}
 use Rattle.std.specs.Char.{digit_value}
 use Rattle.std.specs.Option.{option_map}
 use Rattle.std.specs.Ordering.{nat_cmp, match_ordering}
@@ -30,6 +30,8 @@ use Rattle.xf_ir.specs.declared.kind.Kind.{Kind}
 use Rattle.xf_ir.specs.declared.kind.Kind.TheVariants as kind
 use Rattle.xf_read.specs.declared.quoted.Escape.{Escape}
 use Rattle.xf_read.specs.declared.quoted.Escape.TheVariants as escape
+use Rattle.xf_read.specs.declared.quoted.Step.{Step}
+use Rattle.xf_read.specs.declared.quoted.Step.TheVariants as step
 use Rattle.xf_read.specs.Scopes.{text}
 
 -- ---- numbers
@@ -56,12 +58,22 @@ literal_bits all w (Some (literal.Integer negative at)) = integer_bits w negativ
 abbrev pub escaped_byte : ℕ → ℕ
 escaped_byte b = if b == 110 then 10 else (if b == 116 then 9 else b)
 
--- the bytes that a string stands for, up to the quote that ends it, from behind a \ or the first of two digits on
+-- what a byte of a string is, behind this
+abbrev pub step_of : Escape → ℕ → Step
+step_of escape.Nothing b = if b == 34 then step.End else (if b == 92 then step.Wait escape.Backslash else step.Byte b)
+step_of escape.Backslash b = if is_hex b then step.Wait (escape.Digit b) else step.Byte (escaped_byte b)
+step_of (escape.Digit a) b = step.Byte ((digit_value a * 16 + digit_value b) % 256)
+
+-- what a byte gives, and what those behind it give
+abbrev pub given : Step → (Escape → List ℕ) → List ℕ
+given step.End rest = []
+given (step.Wait e) rest = rest e
+given (step.Byte b) rest = b ∷ rest escape.Nothing
+
+-- the bytes that a string stands for, up to the quote that ends it
 abbrev pub decoded_from : Escape → List ℕ → List ℕ
 decoded_from e [] = []
-decoded_from escape.Nothing (b ∷ bs) = if b == 34 then [] else (if b == 92 then decoded_from escape.Backslash bs else b ∷ decoded_from escape.Nothing bs)
-decoded_from escape.Backslash (b ∷ bs) = if is_hex b then decoded_from (escape.Digit b) bs else escaped_byte b ∷ decoded_from escape.Nothing bs
-decoded_from (escape.Digit a) (b ∷ bs) = (digit_value a * 16 + digit_value b) ∷ decoded_from escape.Nothing bs
+decoded_from e (b ∷ bs) = given (step_of e b) (λ f. decoded_from f bs)
 
 -- the bytes that a string with its quotes stands for
 abbrev pub decoded : List ℕ → List ℕ
@@ -78,10 +90,10 @@ value_of_entry all (entry.Text at) = attr.Text (decoded (text all at))
 abbrev pub attr_of : List Token → Entry → Attr
 attr_of all e = record { name = text all e.name; value = value_of_entry all e.value }
 
--- with an attribute at its place by the bytes of the names
+-- with an attribute at its place by the bytes of the names, instead of one of its name
 abbrev pub with_attr : Attr → List Attr → List Attr
 with_attr a [] = a ∷ []
-with_attr a (b ∷ bs) = match_ordering (slice_cmp nat_cmp a.name b.name) (a ∷ b ∷ bs) (a ∷ bs) (b ∷ with_attr a bs)
+with_attr a (b ∷ bs) = match_ordering (slice_cmp nat_cmp a.name b.name) (a ∷ b ∷ bs) (record { name = b.name; value = a.value } ∷ bs) (b ∷ with_attr a bs)
 
 abbrev pub with_entries : List Token → List Entry → List Attr → List Attr
 with_entries all [] attrs = attrs

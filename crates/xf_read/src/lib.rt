@@ -2,14 +2,22 @@
 //! module.
 #![tactic(auto)]
 
+mod attributes;
+mod defining;
 mod fault;
 mod faults;
+mod head;
+mod kinds;
 mod quoted;
 mod reader;
 mod scope;
 mod tree;
+mod types;
+mod uses;
+mod walk;
 
 pub use fault::{Cause, SyntaxFault};
 pub use faults::Faults;
+pub use walk::PlaceOfList;
 pub use scope::{Definer, Named};
 pub use tree::{Body, File, Node};
