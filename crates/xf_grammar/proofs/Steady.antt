@@ -76,7 +76,7 @@ expects_steady due all k h at = ask (is_kind k) all at _ _ (done all at h (at + 
 pub record SteadyItem {A D : Type 0} (all : List Token) (item : Reader A D) : Type 0 where
   pub steady : (h : A) (at : ℕ) → Steady all at (λ ts. item ts h at)
 
-past : (all : List Token) (at : ℕ) (k : TokenKind) → length all ≤ at → looks all at k ≡ false
+pub past : (all : List Token) (at : ℕ) (k : TokenKind) → length all ≤ at → looks all at k ≡ false
 past [] zero k le = refl
 past [] (suc n) k le = refl
 past (t ∷ ts) zero k le = absurd (omega arith)

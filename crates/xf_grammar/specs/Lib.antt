@@ -1,3 +1,4 @@
+pub mod Grammar
 pub mod Place
 pub mod Reading
 pub mod Tokens

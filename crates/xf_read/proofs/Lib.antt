@@ -1,6 +1,7 @@
 pub mod Arguments
 pub mod Earlier
 pub mod Ends
+pub mod Place
 pub mod SameTypes
 pub mod Scoping
 pub mod Sorting

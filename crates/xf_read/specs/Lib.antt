@@ -1,4 +1,5 @@
 pub mod Attributes
+pub mod Laws
 pub mod Meant
 pub mod Names
 pub mod Scopes
@@ -7,6 +8,6 @@ pub mod Syntax
 pub mod Tree
 pub mod Types
 pub mod Values
-pub mod Visible
 pub mod View
+pub mod Visible
 pub mod Walks

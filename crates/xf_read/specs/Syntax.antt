@@ -12,8 +12,7 @@ use Rattle.xf_read_base.specs.declared.row.Level.{Level}
 use Rattle.xf_read_base.specs.declared.row.Level.TheVariants as level
 use Rattle.xf_read_base.specs.declared.row.Row.{Row}
 use Rattle.xf_read_base.specs.declared.row.Row.TheVariants as row
-use Rattle.xf_read_base.specs.Reading.{no_parts, dictionary_at}
-use Rattle.xf_read_base.specs.Heads.{head_at}
+use Rattle.xf_read_base.specs.Reading.{no_parts, dictionary_at, head_at}
 use Rattle.xf_read.specs.declared.fault.Cause.{Cause}
 use Rattle.xf_read.specs.declared.fault.Cause.TheVariants as cause
 use Rattle.xf_read.specs.declared.fault.SyntaxFault.{SyntaxFault}
@@ -87,13 +86,13 @@ abbrev pub due_before : Row → Due
 due_before row.Function = due.FunctionBody
 due_before r = due.Other
 
--- whether the yield of a body may be left out: a loop whose one type is that of its bounds, and an if without types
+-- whether the yield of a body may be left out: in a loop and an if without results
 abbrev pub may_end_open : Parts → Bool
 may_end_open p = by p.row
   where
     by : Row → Bool
-    by row.For = length p.types == 1
-    by row.If = length p.types == 0
+    by row.For = length p.results == 0
+    by row.If = length p.results == 0
     by r = false
 
 abbrev pub is_yield : Row → Bool

@@ -20,4 +20,5 @@ pub use fault::{Cause, SyntaxFault};
 pub use faults::Faults;
 pub use walk::PlaceOfList;
 pub use scope::{Definer, Named};
+pub use reader::syntax;
 pub use tree::{Body, File, Node};

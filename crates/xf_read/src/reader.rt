@@ -1,8 +1,10 @@
 //! Reading the syntax of a whole text.
-ghost use Rattle.std.specs.Prelude.{◌≡◌, ◌≤◌, ◌<◌, ◌+◌, ℕ, length, IfOk};
+ghost use Rattle.std.specs.Prelude.{OnOk, ◌≡◌, ◌≤◌, ◌<◌, ◌+◌, ℕ, length, IfOk};
 ghost use Rattle.xf_grammar.specs.Tokens.{seen};
 ghost use Rattle.xf_read_base.specs.declared.row.Level.TheVariants as level;
-ghost use Rattle.xf_read.specs.Syntax.{Gives, begins_at, ends_in_yield, is_yield, inside, due_before, behind, may_end_open, lacks_yield, closed, closes, braced, with_else, bodies_at, tail_at, node_at, nodes_at, file_at, block};
+ghost use Rattle.xf_read.specs.declared.tree.File.{File};
+ghost use Rattle.xf_read.specs.Syntax.{Gives, begins_at, ends_in_yield, is_yield, inside, due_before, behind, may_end_open, lacks_yield, closed, closes, braced, with_else, bodies_at, tail_at, node_at, nodes_at, ended, file_at, block};
+ghost use Rattle.xf_read.specs.Laws.{AtNoText};
 ghost use Rattle.xf_read.specs.View.{nodes_of, bodies_of};
 
 use crate::fault::{Cause, SyntaxFault};
@@ -49,12 +51,11 @@ fn due_before(row: Row) -> Due
 }
 
 /// Whether the yield of a body may be left out.
-fn may_end_open(parts: &Parts) -> bool
+pub fn may_end_open(parts: &Parts) -> bool
     ensures { result ≡ may_end_open parts.now }
 {
     match parts.row {
-        Row::For => parts.types.len() == 1,
-        Row::If => parts.types.len() == 0,
+        Row::For | Row::If => parts.results.len() == 0,
         _ => false,
     }
 }
@@ -71,7 +72,7 @@ fn is_yield(row: Row) -> bool
 
 /// Whether the last operation of a body is a yield.
 #[tactic(auto, using(crate::proofs::TreeLemmas::last_yields))]
-fn ends_in_yield(nodes: &[Node]) -> bool
+pub fn ends_in_yield(nodes: &[Node]) -> bool
     ensures { result ≡ ends_in_yield (nodes_of nodes.now) }
 {
     match nodes {
@@ -279,4 +280,57 @@ fn nodes_at(
         at = next;
     }
     Ok((nodes, at))
+}
+
+/// The end of a text, which is due.
+fn ended(tokens: &[Token], due: Due, at: usize) -> Result<(), SyntaxFault>
+    ensures gives { (file : File) → Gives (λ _. (file, at)) result (ended tokens.now due file at) }
+    ensures whole { at ≤ length tokens.now → OnOk result (at ≡ length tokens.now) }
+{
+    if at < tokens.len() {
+        return Err(SyntaxFault::At(at, Cause::Due(due)));
+    }
+    Ok(())
+}
+
+/// The syntax tree of a text.
+fn file(alloc: Global, tokens: &[Token]) -> Result<File, SyntaxFault>
+    ensures { (f : ℕ) → length tokens.now < f → Gives (λ file. (file, length tokens.now)) result (file_at f tokens.now) }
+{
+    let mut count = 0;
+    if says(tokens, 0, b"module") {
+        let (root, next) = node_at(alloc, tokens, Level::File, 0, &mut count, 0)?;
+        ended(tokens, Due::Other, next)?;
+        return Ok(File {
+            written: true,
+            root,
+        });
+    }
+    count += 1;
+    let (nodes, close) = nodes_at(alloc, tokens, Level::File, 1, &mut count, 0)?;
+    ended(tokens, Due::Function, close)?;
+    let mut bodies = Vec::new(alloc);
+    bodies.push(Body { nodes, close })?;
+    let parts = Parts::new(alloc, Row::Module);
+    Ok(File {
+        written: false,
+        root: Node {
+            first: 0,
+            parts,
+            bodies,
+        },
+    })
+}
+
+/// The syntax tree of a text: a module, or functions alone, and then the end.
+///
+/// It refuses with the first token that no text of the syntax has there, which is the end of the
+/// text where all of them fit, and with what is wrong there. It takes time in the number of
+/// tokens, and its calls nest no deeper than the regions of a text may.
+#[tactic(auto, using(crate::proofs::Place::at_no_text))]
+pub fn syntax(alloc: Global, tokens: &[Token]) -> Result<File, SyntaxFault>
+    ensures exact { (f : ℕ) → length tokens.now < f → Gives (λ file. (file, length tokens.now)) result (file_at f tokens.now) }
+    ensures place { AtNoText result tokens.now }
+{
+    file(alloc, tokens)
 }

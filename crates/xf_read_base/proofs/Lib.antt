@@ -1,2 +1,4 @@
 pub mod Ends
+pub mod HeadLaws
 pub mod Steady
+pub mod Tells

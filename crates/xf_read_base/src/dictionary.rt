@@ -1,6 +1,9 @@
 //! Discardable attributes.
 ghost use Rattle.std.specs.Prelude.{◌≡◌, ◌≤◌, length, IfOk, OnOk};
-ghost use Rattle.xf_read_base.specs.Reading.{Gives, has_room, with_entry, entry_width, entry_typed, entry_number, entry_value, entry_at};
+ghost use Rattle.xf_read_base.specs.Reading.{Gives, by};
+ghost use Rattle.xf_grammar.specs.Tokens.{seen};
+ghost use Rattle.xf_read_base.specs.Parts.{with_entry, text_at};
+ghost use Rattle.xf_read_base.specs.Rules.{has_room, entry_number_rule, entry_rule, entry_value_rule, entry_width_rule};
 
 use crate::due::{Due, HeadFault};
 use crate::parts::{Entry, EntryValue, Parts};
@@ -36,7 +39,7 @@ fn add_entry(parts: &mut Parts, name: usize, value: EntryValue) -> Result<(), No
 }
 
 /// The width of an integer, behind its colon.
-#[tactic(auto, unfolding(crate::specs::Reading::entry_typed))]
+#[tactic(auto, unfolding(crate::specs::Rules::entry_width_rule))]
 fn entry_typed(
     tokens: &[Token],
     name: usize,
@@ -45,7 +48,7 @@ fn entry_typed(
     parts: &mut Parts,
     at: usize,
 ) -> Result<usize, HeadFault>
-    ensures gives { Gives (λ n. (parts.new, n)) result (entry_typed tokens.now name negative digits parts.old at) }
+    ensures gives { Gives (λ n. (parts.new, n)) result (by (entry_width_rule name (text_at tokens.now name) negative digits (seen tokens.now digits)) tokens.now parts.old at) }
     ensures within { IfOk result (λ n. (at ≤ n) × (n ≤ length tokens.now)) }
 {
     let Some(width) = width_of(word_at(tokens, at)) else {
@@ -67,25 +70,27 @@ fn entry_typed(
 }
 
 /// An integer, with its width or without.
-#[tactic(auto, unfolding(crate::specs::Reading::entry_number))]
+#[tactic(auto, unfolding(crate::specs::Rules::entry_number_rule))]
 fn entry_number(
     tokens: &[Token],
     name: usize,
     negative: bool,
+    due: Due,
     parts: &mut Parts,
     at: usize,
 ) -> Result<usize, HeadFault>
-    ensures gives { Gives (λ n. (parts.new, n)) result (entry_number tokens.now name negative parts.old at) }
+    ensures gives { Gives (λ n. (parts.new, n)) result (by (entry_number_rule name (text_at tokens.now name) negative due) tokens.now parts.old at) }
     ensures within { IfOk result (λ n. (at ≤ n) × (n ≤ length tokens.now)) }
 {
     if !looks(tokens, at, TokenKind::Integer) {
-        return Err(HeadFault::At(at, Due::Other));
+        return Err(HeadFault::At(at, due));
     }
     if !has_room(Width::I64, negative, number_at(tokens, at)) {
         return Err(HeadFault::At(at, Due::Other));
     }
-    if looks(tokens, at + 1, TokenKind::Mark(b':')) {
-        return entry_typed(tokens, name, negative, at, parts, at + 2);
+    let next = at + 1;
+    if looks(tokens, next, TokenKind::Mark(b':')) {
+        return entry_typed(tokens, name, negative, at, parts, next + 1);
     }
     add_entry(
         parts,
@@ -96,18 +101,18 @@ fn entry_number(
             width: Width::I64,
         },
     )?;
-    Ok(at + 1)
+    Ok(next)
 }
 
 /// The value of an attribute.
-#[tactic(auto, unfolding(crate::specs::Reading::entry_value))]
+#[tactic(auto, unfolding(crate::specs::Rules::entry_value_rule))]
 fn entry_value(
     tokens: &[Token],
     name: usize,
     parts: &mut Parts,
     at: usize,
 ) -> Result<usize, HeadFault>
-    ensures gives { Gives (λ n. (parts.new, n)) result (entry_value tokens.now name parts.old at) }
+    ensures gives { Gives (λ n. (parts.new, n)) result (by (entry_value_rule name (text_at tokens.now name)) tokens.now parts.old at) }
     ensures within { IfOk result (λ n. (at ≤ n) × (n ≤ length tokens.now)) }
 {
     if says(tokens, at, b"true") {
@@ -127,26 +132,24 @@ fn entry_value(
         return Ok(at + 1);
     }
     if looks(tokens, at, TokenKind::Mark(b'-')) {
-        return entry_number(tokens, name, true, parts, at + 1);
+        return entry_number(tokens, name, true, Due::Other, parts, at + 1);
     }
-    if looks(tokens, at, TokenKind::Integer) {
-        return entry_number(tokens, name, false, parts, at);
-    }
-    Err(HeadFault::At(at, Due::AttributeValue))
+    entry_number(tokens, name, false, Due::AttributeValue, parts, at)
 }
 
 /// An attribute: a word, and `=` and a value or neither.
-#[tactic(auto, unfolding(crate::specs::Reading::entry_at))]
+#[tactic(auto, unfolding(crate::specs::Rules::entry_rule))]
 pub fn entry_at(tokens: &[Token], parts: &mut Parts, at: usize) -> Result<usize, HeadFault>
-    ensures gives { Gives (λ n. (parts.new, n)) result (entry_at tokens.now parts.old at) }
+    ensures gives { Gives (λ n. (parts.new, n)) result (by entry_rule tokens.now parts.old at) }
     ensures within { IfOk result (λ n. (at ≤ n) × (n ≤ length tokens.now)) }
 {
     if !looks(tokens, at, TokenKind::Word) {
         return Err(HeadFault::At(at, Due::Other));
     }
-    if looks(tokens, at + 1, TokenKind::Mark(b'=')) {
-        return entry_value(tokens, at, parts, at + 2);
+    let next = at + 1;
+    if looks(tokens, next, TokenKind::Mark(b'=')) {
+        return entry_value(tokens, at, parts, next + 1);
     }
     add_entry(parts, at, EntryValue::Unit)?;
-    Ok(at + 1)
+    Ok(next)
 }

@@ -1,7 +1,8 @@
 //! Heads of operations.
 ghost use Rattle.std.specs.Prelude.{◌≡◌, ◌≤◌, ◌<◌, length, IfOk};
-ghost use Rattle.xf_read_base.specs.Reading.{Gives};
-ghost use Rattle.xf_read_base.specs.Heads.{defines_at, due_at, has_operations, row_at, head_at};
+ghost use Rattle.xf_grammar.specs.Tokens.{seen};
+ghost use Rattle.xf_read_base.specs.Reading.{Gives, by, head_at};
+ghost use Rattle.xf_read_base.specs.Rules.{defines_rule, row_rule, due_at, has_operations};
 
 use crate::due::{Due, HeadFault};
 use crate::parts::{Parts, Ref};
@@ -13,26 +14,29 @@ use std::alloc::Global;
 use xf_grammar::{looks, word_at};
 use xf_lex::{Token, TokenKind};
 
-/// The names of the results, at a value's name.
-#[tactic(auto, unfolding(crate::specs::Heads::defines_at))]
-fn defines_at(tokens: &[Token], parts: &mut Parts, at: usize) -> Result<usize, HeadFault>
-    requires { at < length tokens.now }
-    ensures gives { Gives (λ n. (parts.new, n)) result (defines_at tokens.now parts.old at) }
+/// The results of an operation, behind the name of them, which is the token with the number `name`.
+#[tactic(auto, unfolding(crate::specs::Rules::defines_rule))]
+fn defines_at(
+    tokens: &[Token],
+    name: usize,
+    parts: &mut Parts,
+    at: usize,
+) -> Result<usize, HeadFault>
+    ensures gives { Gives (λ n. (parts.new, n)) result (by (defines_rule (seen tokens.now name) name) tokens.now parts.old at) }
     ensures within { IfOk result (λ n. (at ≤ n) × (n ≤ length tokens.now)) }
 {
-    if looks(tokens, at + 1, TokenKind::Mark(b':')) {
-        if !looks(tokens, at + 2, TokenKind::Integer) {
-            return Err(HeadFault::At(at + 2, Due::Other));
+    let mut count = 1;
+    let mut next = at;
+    if looks(tokens, at, TokenKind::Mark(b':')) {
+        next = at + 1;
+        if !looks(tokens, next, TokenKind::Integer) {
+            return Err(HeadFault::At(next, Due::Other));
         }
-        let count = count_at(tokens, at + 2);
-        parts.defines.push(Ref { token: at, count })?;
-        return expects(tokens, TokenKind::Mark(b'='), Due::Other, parts, at + 3);
+        count = count_at(tokens, next);
+        next = next + 1;
     }
-    parts.defines.push(Ref {
-        token: at,
-        count: 1,
-    })?;
-    expects(tokens, TokenKind::Mark(b'='), Due::Other, parts, at + 1)
+    parts.defines.push(Ref { token: name, count })?;
+    expects(tokens, TokenKind::Mark(b'='), Due::Other, parts, next)
 }
 
 /// What is due where an operation begins.
@@ -57,9 +61,9 @@ fn has_operations(level: Level) -> bool
 }
 
 /// The first word of an operation and the slots of its row.
-#[tactic(auto, unfolding(crate::specs::Heads::row_at))]
+#[tactic(auto, unfolding(crate::specs::Rules::row_rule))]
 fn row_at(tokens: &[Token], level: Level, parts: &mut Parts, at: usize) -> Result<usize, HeadFault>
-    ensures gives { Gives (λ n. (parts.new, n)) result (row_at tokens.now level parts.old at) }
+    ensures gives { Gives (λ n. (parts.new, n)) result (by (row_rule level) tokens.now parts.old at) }
     ensures within { IfOk result (λ n. (at < n) × (n ≤ length tokens.now)) }
 {
     match opening_of(word_at(tokens, at)) {
@@ -74,7 +78,7 @@ fn row_at(tokens: &[Token], level: Level, parts: &mut Parts, at: usize) -> Resul
 
 /// The head of the operation at a token, and the number of the token behind it. It refuses with the
 /// first token that fits no head, which is the end where all before fit, and with what was due there.
-#[tactic(auto, unfolding(crate::specs::Heads::head_at))]
+#[tactic(auto, unfolding(crate::specs::Rules::head_rule))]
 pub fn head_at(
     alloc: Global,
     tokens: &[Token],
@@ -86,7 +90,7 @@ pub fn head_at(
 {
     let mut parts = Parts::new(alloc, Row::Module);
     if has_operations(level) && looks(tokens, at, TokenKind::Value) {
-        let next = defines_at(tokens, &mut parts, at)?;
+        let next = defines_at(tokens, at, &mut parts, at + 1)?;
         let next = row_at(tokens, Level::Body, &mut parts, next)?;
         return Ok((parts, next));
     }

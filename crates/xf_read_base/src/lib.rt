@@ -6,6 +6,7 @@
 mod dictionary;
 mod due;
 mod head;
+mod law;
 mod list;
 mod parts;
 mod row;
@@ -18,6 +19,7 @@ mod word;
 
 pub use due::{Due, HeadFault};
 pub use head::{due_at, head_at};
+pub use law::{heads_are_read_as_written, no_head_goes_on};
 pub use parts::{Entry, EntryList, EntryValue, Literal, Parts, Ref, RefList};
 pub use row::{Keyword, Level, Opening, Row, Slot, row_slots};
 pub use slot::{dictionary_at, slots_at};

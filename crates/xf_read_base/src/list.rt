@@ -1,9 +1,9 @@
 //! Lists in a head.
 ghost use Rattle.std.specs.Prelude.{◌≡◌, ◌≤◌, length, IfOk};
+ghost use Rattle.xf_read_base.specs.Reading.{Gives, by};
+ghost use Rattle.xf_read_base.specs.Rules.{item_rule, list_rule, pair_rule, param_rule, until_rule};
 ghost use Rattle.xf_lex.specs.declared.token.TokenKind.TheVariants as kind;
-ghost use Rattle.xf_grammar.specs.Reading.{list_until};
 ghost use Rattle.xf_read_base.specs.declared.due.Due.TheVariants as due;
-ghost use Rattle.xf_read_base.specs.Reading.{Gives, param_at, pair_at, item_at, list_at};
 
 use crate::dictionary::entry_at;
 use crate::due::{Due, HeadFault};
@@ -30,9 +30,9 @@ pub enum Item {
 }
 
 /// A block argument with its type.
-#[tactic(auto, unfolding(crate::specs::Reading::param_at))]
+#[tactic(auto, unfolding(crate::specs::Rules::param_rule))]
 fn param_at(tokens: &[Token], parts: &mut Parts, at: usize) -> Result<usize, HeadFault>
-    ensures gives { Gives (λ n. (parts.new, n)) result (param_at tokens.now parts.old at) }
+    ensures gives { Gives (λ n. (parts.new, n)) result (by param_rule tokens.now parts.old at) }
     ensures within { IfOk result (λ n. (at ≤ n) × (n ≤ length tokens.now)) }
 {
     let at = argument_at(tokens, parts, at)?;
@@ -41,9 +41,9 @@ fn param_at(tokens: &[Token], parts: &mut Parts, at: usize) -> Result<usize, Hea
 }
 
 /// A block argument and an operand, with `=` between them.
-#[tactic(auto, unfolding(crate::specs::Reading::pair_at))]
+#[tactic(auto, unfolding(crate::specs::Rules::pair_rule))]
 fn pair_at(tokens: &[Token], parts: &mut Parts, at: usize) -> Result<usize, HeadFault>
-    ensures gives { Gives (λ n. (parts.new, n)) result (pair_at tokens.now parts.old at) }
+    ensures gives { Gives (λ n. (parts.new, n)) result (by pair_rule tokens.now parts.old at) }
     ensures within { IfOk result (λ n. (at ≤ n) × (n ≤ length tokens.now)) }
 {
     let at = argument_at(tokens, parts, at)?;
@@ -53,7 +53,7 @@ fn pair_at(tokens: &[Token], parts: &mut Parts, at: usize) -> Result<usize, Head
 
 /// An item.
 fn item_at(tokens: &[Token], item: Item, parts: &mut Parts, at: usize) -> Result<usize, HeadFault>
-    ensures gives { Gives (λ n. (parts.new, n)) result (item_at item tokens.now parts.old at) }
+    ensures gives { Gives (λ n. (parts.new, n)) result (by (item_rule item) tokens.now parts.old at) }
     ensures within { IfOk result (λ n. (at ≤ n) × (n ≤ length tokens.now)) }
 {
     match item {
@@ -73,7 +73,7 @@ pub fn list_at(
     parts: &mut Parts,
     at: usize,
 ) -> Result<usize, HeadFault>
-    ensures gives { Gives (λ n. (parts.new, n)) result (list_at tokens.now item parts.old at) }
+    ensures gives { Gives (λ n. (parts.new, n)) result (by (list_rule item) tokens.now parts.old at) }
     ensures within { IfOk result (λ n. (at ≤ n) × (n ≤ length tokens.now)) }
 {
     let mut at = item_at(tokens, item, parts, at)?;
@@ -84,7 +84,7 @@ pub fn list_at(
 }
 
 /// Items, possibly none, and the token that ends them. `due` is due behind an item.
-#[tactic(auto, unfolding(xf_grammar::specs::Reading::list_until))]
+#[tactic(auto, unfolding(crate::specs::Rules::until_rule))]
 pub fn list_until(
     tokens: &[Token],
     item: Item,
@@ -93,7 +93,7 @@ pub fn list_until(
     parts: &mut Parts,
     at: usize,
 ) -> Result<usize, HeadFault>
-    ensures gives { Gives (λ n. (parts.new, n)) result (list_until close due tokens.now (item_at item) parts.old at) }
+    ensures gives { Gives (λ n. (parts.new, n)) result (by (until_rule close due item) tokens.now parts.old at) }
     ensures within { IfOk result (λ n. (at ≤ n) × (n ≤ length tokens.now)) }
 {
     if looks(tokens, at, close) {

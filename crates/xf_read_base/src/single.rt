@@ -1,8 +1,9 @@
 //! Parts of one token or two.
 ghost use Rattle.std.specs.Prelude.{◌≡◌, ◌≤◌, length, IfOk};
-ghost use Rattle.xf_grammar.specs.Reading.{expects};
+ghost use Rattle.xf_read_base.specs.Reading.{Gives, by};
+ghost use Rattle.xf_read_base.specs.Parts.{count_at};
+ghost use Rattle.xf_read_base.specs.Rules.{argument_rule, function_name_rule, kind_rule, module_name_rule, predicate_rule, result_rule, symbol_rule, use_rule, width_rule, word_rule};
 ghost use Rattle.xf_read_base.specs.declared.due.Due.TheVariants as due;
-ghost use Rattle.xf_read_base.specs.Reading.{Gives, count_at, word_is, symbol_at, module_name_at, function_name_at, argument_at, use_at, width_at, result_at, predicate_at};
 
 use crate::due::{Due, HeadFault};
 use crate::parts::{Parts, Ref};
@@ -12,7 +13,7 @@ use xf_lex::{Token, TokenKind};
 use xf_type::PayloadType;
 
 /// A token of this kind, which is due.
-#[tactic(auto, unfolding(xf_grammar::specs::Reading::expects))]
+#[tactic(auto, unfolding(crate::specs::Rules::kind_rule))]
 pub fn expects(
     tokens: &[Token],
     kind: TokenKind,
@@ -20,7 +21,7 @@ pub fn expects(
     parts: &Parts,
     at: usize,
 ) -> Result<usize, HeadFault>
-    ensures gives { Gives (λ n. (parts.now, n)) result (expects due tokens.now kind parts.now at) }
+    ensures gives { Gives (λ n. (parts.now, n)) result (by (kind_rule due kind) tokens.now parts.now at) }
     ensures within { IfOk result (λ n. (at ≤ n) × (n ≤ length tokens.now)) }
 {
     if looks(tokens, at, kind) {
@@ -31,9 +32,9 @@ pub fn expects(
 }
 
 /// A word.
-#[tactic(auto, unfolding(crate::specs::Reading::word_is))]
+#[tactic(auto, unfolding(crate::specs::Rules::word_rule))]
 pub fn word_is(tokens: &[Token], word: &[u8], parts: &Parts, at: usize) -> Result<usize, HeadFault>
-    ensures gives { Gives (λ n. (parts.now, n)) result (word_is tokens.now word.now parts.now at) }
+    ensures gives { Gives (λ n. (parts.now, n)) result (by (word_rule word.now) tokens.now parts.now at) }
     ensures within { IfOk result (λ n. (at ≤ n) × (n ≤ length tokens.now)) }
 {
     if says(tokens, at, word) {
@@ -44,9 +45,9 @@ pub fn word_is(tokens: &[Token], word: &[u8], parts: &Parts, at: usize) -> Resul
 }
 
 /// A symbol.
-#[tactic(auto, unfolding(crate::specs::Reading::symbol_at))]
+#[tactic(auto, unfolding(crate::specs::Rules::symbol_rule))]
 pub fn symbol_at(tokens: &[Token], parts: &mut Parts, at: usize) -> Result<usize, HeadFault>
-    ensures gives { Gives (λ n. (parts.new, n)) result (symbol_at tokens.now parts.old at) }
+    ensures gives { Gives (λ n. (parts.new, n)) result (by symbol_rule tokens.now parts.old at) }
     ensures within { IfOk result (λ n. (at ≤ n) × (n ≤ length tokens.now)) }
 {
     if !looks(tokens, at, TokenKind::Symbol) {
@@ -57,10 +58,10 @@ pub fn symbol_at(tokens: &[Token], parts: &mut Parts, at: usize) -> Result<usize
 }
 
 /// The symbol of a module, which may be left out.
-#[tactic(auto, unfolding(crate::specs::Reading::module_name_at))]
+#[tactic(auto, unfolding(crate::specs::Rules::module_name_rule))]
 pub fn module_name_at(tokens: &[Token], parts: &mut Parts, at: usize) -> Result<usize, HeadFault>
     requires { at ≤ length tokens.now }
-    ensures gives { Gives (λ n. (parts.new, n)) result (module_name_at tokens.now parts.old at) }
+    ensures gives { Gives (λ n. (parts.new, n)) result (by module_name_rule tokens.now parts.old at) }
     ensures within { IfOk result (λ n. (at ≤ n) × (n ≤ length tokens.now)) }
 {
     if looks(tokens, at, TokenKind::Symbol) {
@@ -72,9 +73,9 @@ pub fn module_name_at(tokens: &[Token], parts: &mut Parts, at: usize) -> Result<
 }
 
 /// The symbol of a function, with `private` before it or not.
-#[tactic(auto, unfolding(crate::specs::Reading::function_name_at))]
+#[tactic(auto, unfolding(crate::specs::Rules::function_name_rule))]
 pub fn function_name_at(tokens: &[Token], parts: &mut Parts, at: usize) -> Result<usize, HeadFault>
-    ensures gives { Gives (λ n. (parts.new, n)) result (function_name_at tokens.now parts.old at) }
+    ensures gives { Gives (λ n. (parts.new, n)) result (by function_name_rule tokens.now parts.old at) }
     ensures within { IfOk result (λ n. (at ≤ n) × (n ≤ length tokens.now)) }
 {
     if says(tokens, at, b"private") {
@@ -89,9 +90,9 @@ pub fn function_name_at(tokens: &[Token], parts: &mut Parts, at: usize) -> Resul
 }
 
 /// The name of a block argument.
-#[tactic(auto, unfolding(crate::specs::Reading::argument_at))]
+#[tactic(auto, unfolding(crate::specs::Rules::argument_rule))]
 pub fn argument_at(tokens: &[Token], parts: &mut Parts, at: usize) -> Result<usize, HeadFault>
-    ensures gives { Gives (λ n. (parts.new, n)) result (argument_at tokens.now parts.old at) }
+    ensures gives { Gives (λ n. (parts.new, n)) result (by argument_rule tokens.now parts.old at) }
     ensures within { IfOk result (λ n. (at ≤ n) × (n ≤ length tokens.now)) }
 {
     if !looks(tokens, at, TokenKind::Value) {
@@ -117,35 +118,36 @@ pub fn count_at(tokens: &[Token], at: usize) -> u32
 }
 
 /// The name of an operand, with its number or without.
-#[tactic(auto, unfolding(crate::specs::Reading::use_at))]
+#[tactic(auto, unfolding(crate::specs::Rules::use_rule))]
 pub fn use_at(tokens: &[Token], parts: &mut Parts, at: usize) -> Result<usize, HeadFault>
-    ensures gives { Gives (λ n. (parts.new, n)) result (use_at tokens.now parts.old at) }
+    ensures gives { Gives (λ n. (parts.new, n)) result (by use_rule tokens.now parts.old at) }
     ensures within { IfOk result (λ n. (at ≤ n) × (n ≤ length tokens.now)) }
 {
     if !looks(tokens, at, TokenKind::Value) {
         return Err(HeadFault::At(at, Due::Other));
     }
-    if is_index_at(tokens, at + 1) {
-        let count = count_at(tokens, at + 1);
+    let next = at + 1;
+    if is_index_at(tokens, next) {
+        let count = count_at(tokens, next);
         parts.uses.push(Ref { token: at, count })?;
-        return Ok(at + 2);
+        return Ok(next + 1);
     }
     parts.uses.push(Ref {
         token: at,
         count: 0,
     })?;
-    Ok(at + 1)
+    Ok(next)
 }
 
 /// A width.
-#[tactic(auto, unfolding(crate::specs::Reading::width_at))]
+#[tactic(auto, unfolding(crate::specs::Rules::width_rule))]
 pub fn width_at(
     tokens: &[Token],
     due: Due,
     parts: &mut Parts,
     at: usize,
 ) -> Result<usize, HeadFault>
-    ensures gives { Gives (λ n. (parts.new, n)) result (width_at tokens.now due parts.old at) }
+    ensures gives { Gives (λ n. (parts.new, n)) result (by (width_rule due) tokens.now parts.old at) }
     ensures within { IfOk result (λ n. (at ≤ n) × (n ≤ length tokens.now)) }
 {
     match width_of(word_at(tokens, at)) {
@@ -158,9 +160,9 @@ pub fn width_at(
 }
 
 /// A type of a result.
-#[tactic(auto, unfolding(crate::specs::Reading::result_at))]
+#[tactic(auto, unfolding(crate::specs::Rules::result_rule))]
 pub fn result_at(tokens: &[Token], parts: &mut Parts, at: usize) -> Result<usize, HeadFault>
-    ensures gives { Gives (λ n. (parts.new, n)) result (result_at tokens.now parts.old at) }
+    ensures gives { Gives (λ n. (parts.new, n)) result (by result_rule tokens.now parts.old at) }
     ensures within { IfOk result (λ n. (at ≤ n) × (n ≤ length tokens.now)) }
 {
     match width_of(word_at(tokens, at)) {
@@ -173,9 +175,9 @@ pub fn result_at(tokens: &[Token], parts: &mut Parts, at: usize) -> Result<usize
 }
 
 /// The predicate of a comparison.
-#[tactic(auto, unfolding(crate::specs::Reading::predicate_at))]
+#[tactic(auto, unfolding(crate::specs::Rules::predicate_rule))]
 pub fn predicate_at(tokens: &[Token], parts: &mut Parts, at: usize) -> Result<usize, HeadFault>
-    ensures gives { Gives (λ n. (parts.new, n)) result (predicate_at tokens.now parts.old at) }
+    ensures gives { Gives (λ n. (parts.new, n)) result (by predicate_rule tokens.now parts.old at) }
     ensures within { IfOk result (λ n. (at ≤ n) × (n ≤ length tokens.now)) }
 {
     match predicate_of(word_at(tokens, at)) {

@@ -1,8 +1,10 @@
 //! The slots of a row.
 ghost use Rattle.std.specs.Prelude.{◌≡◌, ◌≤◌, length, IfOk, OnOk};
+ghost use Rattle.xf_read_base.specs.Reading.{Gives, by};
+ghost use Rattle.xf_read_base.specs.Parts.{with_width, with_literal};
+ghost use Rattle.xf_read_base.specs.Rules.{attributes_rule, call_results_rule, dictionary_rule, enclosed_rule, function_results_rule, if_results_rule, iter_args_rule, listed_results_rule, literal_rule, loop_width_rule, number_rule, operands_rule, result_types_rule, slot_rule, slots_rule};
 ghost use Rattle.xf_lex.specs.declared.token.TokenKind.TheVariants as kind;
 ghost use Rattle.xf_read_base.specs.declared.due.Due.TheVariants as due;
-ghost use Rattle.xf_read_base.specs.Reading.{Gives, with_width, with_literal, number_is, literal_at, dictionary_at, attributes_at, result_types_at, call_results_at, function_results_at, listed_results_at, if_results_at, operands_at, iter_args_at, loop_width_at, slot_at, slots_at, enclosed};
 ghost use Rattle.xf_type.specs.declared.payload_type.Width.TheVariants as width;
 ghost use Rattle.xf_read_base.specs.declared.parts.Literal.TheVariants as literal;
 
@@ -11,8 +13,8 @@ use crate::list::{Item, list_at, list_until};
 use crate::parts::{Literal, Parts};
 use crate::row::Slot;
 use crate::single::{
-    argument_at, expects, function_name_at, module_name_at, predicate_at, result_at, symbol_at, use_at,
-    width_at, word_is,
+    argument_at, expects, function_name_at, module_name_at, predicate_at, result_at, symbol_at,
+    use_at, width_at, word_is,
 };
 use crate::word::spelling;
 use xf_grammar::{looks, says};
@@ -20,18 +22,19 @@ use xf_lex::{Token, TokenKind};
 use xf_type::{NoMemory, PayloadType, Width};
 
 /// An integer with its width.
-#[tactic(auto, unfolding(crate::specs::Reading::number_is))]
+#[tactic(auto, unfolding(crate::specs::Rules::number_rule))]
 fn number_is(
     tokens: &[Token],
     negative: bool,
+    due: Due,
     parts: &mut Parts,
     at: usize,
 ) -> Result<usize, HeadFault>
-    ensures gives { Gives (λ n. (parts.new, n)) result (number_is tokens.now negative parts.old at) }
+    ensures gives { Gives (λ n. (parts.new, n)) result (by (number_rule negative due) tokens.now parts.old at) }
     ensures within { IfOk result (λ n. (at ≤ n) × (n ≤ length tokens.now)) }
 {
     if !looks(tokens, at, TokenKind::Integer) {
-        return Err(HeadFault::At(at, Due::Other));
+        return Err(HeadFault::At(at, due));
     }
     parts.literal = Some(Literal::Integer {
         negative,
@@ -51,9 +54,9 @@ fn add_truth(parts: &mut Parts, truth: bool) -> Result<(), NoMemory>
 }
 
 /// The value of a scalar constant.
-#[tactic(auto, unfolding(crate::specs::Reading::literal_at))]
+#[tactic(auto, unfolding(crate::specs::Rules::literal_rule))]
 fn literal_at(tokens: &[Token], parts: &mut Parts, at: usize) -> Result<usize, HeadFault>
-    ensures gives { Gives (λ n. (parts.new, n)) result (literal_at tokens.now parts.old at) }
+    ensures gives { Gives (λ n. (parts.new, n)) result (by literal_rule tokens.now parts.old at) }
     ensures within { IfOk result (λ n. (at ≤ n) × (n ≤ length tokens.now)) }
 {
     if says(tokens, at, b"true") {
@@ -68,19 +71,16 @@ fn literal_at(tokens: &[Token], parts: &mut Parts, at: usize) -> Result<usize, H
         return Err(HeadFault::At(at, Due::OtherReader));
     }
     if looks(tokens, at, TokenKind::Mark(b'-')) {
-        return number_is(tokens, true, parts, at + 1);
+        return number_is(tokens, true, Due::Other, parts, at + 1);
     }
-    if looks(tokens, at, TokenKind::Integer) {
-        return number_is(tokens, false, parts, at);
-    }
-    Err(HeadFault::At(at, Due::ConstantValue))
+    number_is(tokens, false, Due::ConstantValue, parts, at)
 }
 
 /// Discardable attributes, which may be left out.
-#[tactic(auto, unfolding(crate::specs::Reading::dictionary_at))]
+#[tactic(auto, unfolding(crate::specs::Rules::dictionary_rule))]
 pub fn dictionary_at(tokens: &[Token], parts: &mut Parts, at: usize) -> Result<usize, HeadFault>
     requires { at ≤ length tokens.now }
-    ensures gives { Gives (λ n. (parts.new, n)) result (dictionary_at tokens.now parts.old at) }
+    ensures gives { Gives (λ n. (parts.new, n)) result (by dictionary_rule tokens.now parts.old at) }
     ensures within { IfOk result (λ n. (at ≤ n) × (n ≤ length tokens.now)) }
 {
     if looks(tokens, at, TokenKind::Mark(b'{')) {
@@ -98,10 +98,10 @@ pub fn dictionary_at(tokens: &[Token], parts: &mut Parts, at: usize) -> Result<u
 }
 
 /// `attributes` and discardable attributes, which may be left out.
-#[tactic(auto, unfolding(crate::specs::Reading::attributes_at))]
+#[tactic(auto, unfolding(crate::specs::Rules::attributes_rule))]
 fn attributes_at(tokens: &[Token], parts: &mut Parts, at: usize) -> Result<usize, HeadFault>
     requires { at ≤ length tokens.now }
-    ensures gives { Gives (λ n. (parts.new, n)) result (attributes_at tokens.now parts.old at) }
+    ensures gives { Gives (λ n. (parts.new, n)) result (by attributes_rule tokens.now parts.old at) }
     ensures within { IfOk result (λ n. (at ≤ n) × (n ≤ length tokens.now)) }
 {
     if !says(tokens, at, b"attributes") {
@@ -126,16 +126,21 @@ fn enclosed(
     parts: &mut Parts,
     at: usize,
 ) -> Result<usize, HeadFault>
-    ensures gives { Gives (λ n. (parts.new, n)) result (enclosed tokens.now item due parts.old at) }
+    ensures gives { Gives (λ n. (parts.new, n)) result (by (enclosed_rule item due) tokens.now parts.old at) }
     ensures within { IfOk result (λ n. (at ≤ n) × (n ≤ length tokens.now)) }
 {
     list_until(tokens, item, TokenKind::Mark(b')'), due, parts, at)
 }
 
 /// One result type, or result types in parentheses. `due` is due behind one of those.
-#[tactic(auto, unfolding(crate::specs::Reading::result_types_at))]
-fn result_types_at(tokens: &[Token], due: Due, parts: &mut Parts, at: usize) -> Result<usize, HeadFault>
-    ensures gives { Gives (λ n. (parts.new, n)) result (result_types_at tokens.now due parts.old at) }
+#[tactic(auto, unfolding(crate::specs::Rules::result_types_rule))]
+fn result_types_at(
+    tokens: &[Token],
+    due: Due,
+    parts: &mut Parts,
+    at: usize,
+) -> Result<usize, HeadFault>
+    ensures gives { Gives (λ n. (parts.new, n)) result (by (result_types_rule due) tokens.now parts.old at) }
     ensures within { IfOk result (λ n. (at ≤ n) × (n ≤ length tokens.now)) }
 {
     if looks(tokens, at, TokenKind::Mark(b'(')) {
@@ -146,9 +151,9 @@ fn result_types_at(tokens: &[Token], due: Due, parts: &mut Parts, at: usize) -> 
 }
 
 /// `->` and the result types of a call.
-#[tactic(auto, unfolding(crate::specs::Reading::call_results_at))]
+#[tactic(auto, unfolding(crate::specs::Rules::call_results_rule))]
 fn call_results_at(tokens: &[Token], parts: &mut Parts, at: usize) -> Result<usize, HeadFault>
-    ensures gives { Gives (λ n. (parts.new, n)) result (call_results_at tokens.now parts.old at) }
+    ensures gives { Gives (λ n. (parts.new, n)) result (by call_results_rule tokens.now parts.old at) }
     ensures within { IfOk result (λ n. (at ≤ n) × (n ≤ length tokens.now)) }
 {
     let at = expects(tokens, TokenKind::Arrow, Due::Other, parts, at)?;
@@ -156,10 +161,10 @@ fn call_results_at(tokens: &[Token], parts: &mut Parts, at: usize) -> Result<usi
 }
 
 /// `->` and the result types of a function, which may be left out.
-#[tactic(auto, unfolding(crate::specs::Reading::function_results_at))]
+#[tactic(auto, unfolding(crate::specs::Rules::function_results_rule))]
 fn function_results_at(tokens: &[Token], parts: &mut Parts, at: usize) -> Result<usize, HeadFault>
     requires { at ≤ length tokens.now }
-    ensures gives { Gives (λ n. (parts.new, n)) result (function_results_at tokens.now parts.old at) }
+    ensures gives { Gives (λ n. (parts.new, n)) result (by function_results_rule tokens.now parts.old at) }
     ensures within { IfOk result (λ n. (at ≤ n) × (n ≤ length tokens.now)) }
 {
     if looks(tokens, at, TokenKind::Arrow) {
@@ -170,9 +175,9 @@ fn function_results_at(tokens: &[Token], parts: &mut Parts, at: usize) -> Result
 }
 
 /// Result types in parentheses.
-#[tactic(auto, unfolding(crate::specs::Reading::listed_results_at))]
+#[tactic(auto, unfolding(crate::specs::Rules::listed_results_rule))]
 fn listed_results_at(tokens: &[Token], parts: &mut Parts, at: usize) -> Result<usize, HeadFault>
-    ensures gives { Gives (λ n. (parts.new, n)) result (listed_results_at tokens.now parts.old at) }
+    ensures gives { Gives (λ n. (parts.new, n)) result (by listed_results_rule tokens.now parts.old at) }
     ensures within { IfOk result (λ n. (at ≤ n) × (n ≤ length tokens.now)) }
 {
     let at = expects(tokens, TokenKind::Mark(b'('), Due::Other, parts, at)?;
@@ -180,10 +185,10 @@ fn listed_results_at(tokens: &[Token], parts: &mut Parts, at: usize) -> Result<u
 }
 
 /// `->` and result types in parentheses, which may be left out.
-#[tactic(auto, unfolding(crate::specs::Reading::if_results_at))]
+#[tactic(auto, unfolding(crate::specs::Rules::if_results_rule))]
 fn if_results_at(tokens: &[Token], parts: &mut Parts, at: usize) -> Result<usize, HeadFault>
     requires { at ≤ length tokens.now }
-    ensures gives { Gives (λ n. (parts.new, n)) result (if_results_at tokens.now parts.old at) }
+    ensures gives { Gives (λ n. (parts.new, n)) result (by if_results_rule tokens.now parts.old at) }
     ensures within { IfOk result (λ n. (at ≤ n) × (n ≤ length tokens.now)) }
 {
     if looks(tokens, at, TokenKind::Arrow) {
@@ -194,10 +199,10 @@ fn if_results_at(tokens: &[Token], parts: &mut Parts, at: usize) -> Result<usize
 }
 
 /// Operands, `:` and their types, which may be left out.
-#[tactic(auto, unfolding(crate::specs::Reading::operands_at))]
+#[tactic(auto, unfolding(crate::specs::Rules::operands_rule))]
 fn operands_at(tokens: &[Token], parts: &mut Parts, at: usize) -> Result<usize, HeadFault>
     requires { at ≤ length tokens.now }
-    ensures gives { Gives (λ n. (parts.new, n)) result (operands_at tokens.now parts.old at) }
+    ensures gives { Gives (λ n. (parts.new, n)) result (by operands_rule tokens.now parts.old at) }
     ensures within { IfOk result (λ n. (at ≤ n) × (n ≤ length tokens.now)) }
 {
     if !looks(tokens, at, TokenKind::Value) {
@@ -209,10 +214,10 @@ fn operands_at(tokens: &[Token], parts: &mut Parts, at: usize) -> Result<usize, 
 }
 
 /// `iter_args` with its pairs, and `->` with result types, which may be left out.
-#[tactic(auto, unfolding(crate::specs::Reading::iter_args_at))]
+#[tactic(auto, unfolding(crate::specs::Rules::iter_args_rule))]
 fn iter_args_at(tokens: &[Token], parts: &mut Parts, at: usize) -> Result<usize, HeadFault>
     requires { at ≤ length tokens.now }
-    ensures gives { Gives (λ n. (parts.new, n)) result (iter_args_at tokens.now parts.old at) }
+    ensures gives { Gives (λ n. (parts.new, n)) result (by iter_args_rule tokens.now parts.old at) }
     ensures within { IfOk result (λ n. (at ≤ n) × (n ≤ length tokens.now)) }
 {
     if !says(tokens, at, b"iter_args") {
@@ -225,10 +230,10 @@ fn iter_args_at(tokens: &[Token], parts: &mut Parts, at: usize) -> Result<usize,
 }
 
 /// `:` and the width of a loop, else `index`.
-#[tactic(auto, unfolding(crate::specs::Reading::loop_width_at))]
+#[tactic(auto, unfolding(crate::specs::Rules::loop_width_rule))]
 fn loop_width_at(tokens: &[Token], parts: &mut Parts, at: usize) -> Result<usize, HeadFault>
     requires { at ≤ length tokens.now }
-    ensures gives { Gives (λ n. (parts.new, n)) result (loop_width_at tokens.now parts.old at) }
+    ensures gives { Gives (λ n. (parts.new, n)) result (by loop_width_rule tokens.now parts.old at) }
     ensures within { IfOk result (λ n. (at ≤ n) × (n ≤ length tokens.now)) }
 {
     if looks(tokens, at, TokenKind::Mark(b':')) {
@@ -241,7 +246,7 @@ fn loop_width_at(tokens: &[Token], parts: &mut Parts, at: usize) -> Result<usize
 /// A slot.
 fn slot_at(tokens: &[Token], slot: Slot, parts: &mut Parts, at: usize) -> Result<usize, HeadFault>
     requires { at ≤ length tokens.now }
-    ensures gives { Gives (λ n. (parts.new, n)) result (slot_at tokens.now slot parts.old at) }
+    ensures gives { Gives (λ n. (parts.new, n)) result (by (slot_rule slot) tokens.now parts.old at) }
     ensures within { IfOk result (λ n. (at ≤ n) × (n ≤ length tokens.now)) }
 {
     match slot {
@@ -277,7 +282,7 @@ pub fn slots_at(
     at: usize,
 ) -> Result<usize, HeadFault>
     requires { at ≤ length tokens.now }
-    ensures gives { Gives (λ n. (parts.new, n)) result (slots_at tokens.now slots.now parts.old at) }
+    ensures gives { Gives (λ n. (parts.new, n)) result (by (slots_rule slots.now) tokens.now parts.old at) }
     ensures within { IfOk result (λ n. (at ≤ n) × (n ≤ length tokens.now)) }
 {
     let mut at = at;

@@ -1,7 +1,9 @@
 //! Heads of texts, and the verdicts on the tokens that fit none. The values are those of the table of
 //! operations and of the forms that are not supported, written by hand.
 
-use crate::{Due, Entry, EntryValue, HeadFault, Level, Literal, Parts, Ref, Row, Verdict, head_at, judge};
+use crate::{
+    Due, Entry, EntryValue, HeadFault, Level, Literal, Parts, Ref, Row, Verdict, head_at, judge,
+};
 use std::alloc::Global;
 use std::process::Abort;
 use xf_lex::{TokenList, tokens};
@@ -47,33 +49,101 @@ fn each_row_is_read(rt: HostRuntime) {
     let alloc = rt.alloc();
     let outside: [Wanted; 6] = [
         ("module {", Row::Module, [0, 0, 0, 0, 0, 0, 1]),
-        ("module @m attributes {a, b = 1 : i8} {", Row::Module, [0, 0, 0, 0, 0, 2, 12]),
+        (
+            "module @m attributes {a, b = 1 : i8} {",
+            Row::Module,
+            [0, 0, 0, 0, 0, 2, 12],
+        ),
         ("func.func @f() {", Row::Function, [0, 0, 0, 0, 0, 0, 4]),
-        ("func.func private @f(%a: i1, %0: index) -> i8 {", Row::Function, [0, 2, 0, 2, 1, 0, 14]),
-        ("func.func @f() -> () attributes {} {", Row::Function, [0, 0, 0, 0, 0, 0, 10]),
-        ("func.func @f(%a: i16) -> (i32, i64) {", Row::Function, [0, 1, 0, 1, 2, 0, 13]),
+        (
+            "func.func private @f(%a: i1, %0: index) -> i8 {",
+            Row::Function,
+            [0, 2, 0, 2, 1, 0, 14],
+        ),
+        (
+            "func.func @f() -> () attributes {} {",
+            Row::Function,
+            [0, 0, 0, 0, 0, 0, 10],
+        ),
+        (
+            "func.func @f(%a: i16) -> (i32, i64) {",
+            Row::Function,
+            [0, 1, 0, 1, 2, 0, 13],
+        ),
     ];
     for wanted in outside.iter() {
         assert_head(&rt, alloc, Level::File, wanted);
     }
     let inside: [Wanted; 17] = [
         ("return", Row::Return, [0, 0, 0, 0, 0, 0, 1]),
-        ("func.return {u} %a#1, %b : i32, i64 }", Row::Return, [0, 0, 2, 2, 0, 1, 12]),
+        (
+            "func.return {u} %a#1, %b : i32, i64 }",
+            Row::Return,
+            [0, 0, 2, 2, 0, 1, 12],
+        ),
         ("scf.yield %a : i1", Row::Yield, [0, 0, 1, 1, 0, 0, 4]),
         ("call @f() : () -> ()", Row::Call, [0, 0, 0, 0, 0, 0, 10]),
-        ("%r:2 = func.call @f(%a, %b) {x} : (i1, i8) -> (i1, i8)", Row::Call, [1, 0, 2, 2, 2, 1, 26]),
-        ("%0 = call @f(%a) : (i1) -> i1", Row::Call, [1, 0, 1, 1, 1, 0, 13]),
-        ("%0 = arith.constant true", Row::Constant, [1, 0, 0, 1, 0, 0, 4]),
-        ("arith.constant {x = \"t\"} - 5 : i8", Row::Constant, [0, 0, 0, 1, 0, 1, 10]),
-        ("%0 = arith.maxui %a, %b {} : i32", Row::Binary(BinKind::Maxui), [1, 0, 2, 1, 0, 0, 10]),
-        ("%0 = arith.cmpi ule, %a, %b : index", Row::Compare, [1, 0, 2, 1, 0, 0, 10]),
-        ("%0 = arith.select %c, %a, %b : i1", Row::Select, [1, 0, 3, 1, 0, 0, 10]),
-        ("arith.index_castui %a : i8 to index", Row::Convert(ConvKind::IndexCastui), [0, 0, 1, 2, 0, 0, 6]),
-        ("scf.for %i = %a to %b#3 step %c {", Row::For, [0, 1, 3, 1, 0, 0, 9]),
-        ("%0 = scf.for %i = %a to %b step %c iter_args(%x = %y, %z = %w) -> (i1, i8) : i64 {", Row::For, [1, 3, 5, 1, 2, 0, 28]),
-        ("scf.for %i = %a to %b step %c iter_args() -> () {", Row::For, [0, 1, 3, 1, 0, 0, 14]),
+        (
+            "%r:2 = func.call @f(%a, %b) {x} : (i1, i8) -> (i1, i8)",
+            Row::Call,
+            [1, 0, 2, 2, 2, 1, 26],
+        ),
+        (
+            "%0 = call @f(%a) : (i1) -> i1",
+            Row::Call,
+            [1, 0, 1, 1, 1, 0, 13],
+        ),
+        (
+            "%0 = arith.constant true",
+            Row::Constant,
+            [1, 0, 0, 1, 0, 0, 4],
+        ),
+        (
+            "arith.constant {x = \"t\"} - 5 : i8",
+            Row::Constant,
+            [0, 0, 0, 1, 0, 1, 10],
+        ),
+        (
+            "%0 = arith.maxui %a, %b {} : i32",
+            Row::Binary(BinKind::Maxui),
+            [1, 0, 2, 1, 0, 0, 10],
+        ),
+        (
+            "%0 = arith.cmpi ule, %a, %b : index",
+            Row::Compare,
+            [1, 0, 2, 1, 0, 0, 10],
+        ),
+        (
+            "%0 = arith.select %c, %a, %b : i1",
+            Row::Select,
+            [1, 0, 3, 1, 0, 0, 10],
+        ),
+        (
+            "arith.index_castui %a : i8 to index",
+            Row::Convert(ConvKind::IndexCastui),
+            [0, 0, 1, 2, 0, 0, 6],
+        ),
+        (
+            "scf.for %i = %a to %b#3 step %c {",
+            Row::For,
+            [0, 1, 3, 1, 0, 0, 9],
+        ),
+        (
+            "%0 = scf.for %i = %a to %b step %c iter_args(%x = %y, %z = %w) -> (i1, i8) : i64 {",
+            Row::For,
+            [1, 3, 5, 1, 2, 0, 28],
+        ),
+        (
+            "scf.for %i = %a to %b step %c iter_args() -> () {",
+            Row::For,
+            [0, 1, 3, 1, 0, 0, 14],
+        ),
         ("scf.if %c {", Row::If, [0, 0, 1, 0, 0, 0, 2]),
-        ("%0:2 = scf.if %c -> (i1, i1) {", Row::If, [1, 0, 1, 0, 2, 0, 12]),
+        (
+            "%0:2 = scf.if %c -> (i1, i1) {",
+            Row::If,
+            [1, 0, 1, 0, 2, 0, 12],
+        ),
     ];
     for wanted in inside.iter() {
         assert_head(&rt, alloc, Level::Body, wanted);
@@ -83,23 +153,76 @@ fn each_row_is_read(rt: HostRuntime) {
 #[test]
 fn the_parts_are_those_of_the_text(rt: HostRuntime) {
     let alloc = rt.alloc();
-    let list = lexed(&rt, alloc, "%a:4294967296 = arith.cmpi sge, %b#7, %c {k = -1, l = 255 : i8, m = true, n = \"\", o = unit, p} : i32");
+    let list = lexed(
+        &rt,
+        alloc,
+        "%a:4294967296 = arith.cmpi sge, %b#7, %c {k = -1, l = 255 : i8, m = true, n = \"\", o = unit, p} : i32",
+    );
     let (parts, _) = head(&rt, alloc, &list, Level::Any);
-    assert_eq!(rt; parts.defines.as_slice(), [Ref { token: 0, count: 4294967295 }].as_slice());
+    assert_eq!(rt;
+        parts.defines.as_slice(),
+        [Ref {
+            token: 0,
+            count: 4294967295
+        }]
+        .as_slice()
+    );
     assert_eq!(rt; parts.predicate, Some(CmpKind::Sge));
-    assert_eq!(rt; parts.uses.as_slice(), [Ref { token: 7, count: 7 }, Ref { token: 10, count: 0 }].as_slice());
+    assert_eq!(rt;
+        parts.uses.as_slice(),
+        [
+            Ref { token: 7, count: 7 },
+            Ref {
+                token: 10,
+                count: 0
+            }
+        ]
+        .as_slice()
+    );
     let entries = [
-        Entry { name: 12, value: EntryValue::Integer { negative: true, token: 15, width: Width::I64 } },
-        Entry { name: 17, value: EntryValue::Integer { negative: false, token: 19, width: Width::I8 } },
-        Entry { name: 23, value: EntryValue::Truth(true) },
-        Entry { name: 27, value: EntryValue::Text(29) },
-        Entry { name: 31, value: EntryValue::Unit },
-        Entry { name: 35, value: EntryValue::Unit },
+        Entry {
+            name: 12,
+            value: EntryValue::Integer {
+                negative: true,
+                token: 15,
+                width: Width::I64,
+            },
+        },
+        Entry {
+            name: 17,
+            value: EntryValue::Integer {
+                negative: false,
+                token: 19,
+                width: Width::I8,
+            },
+        },
+        Entry {
+            name: 23,
+            value: EntryValue::Truth(true),
+        },
+        Entry {
+            name: 27,
+            value: EntryValue::Text(29),
+        },
+        Entry {
+            name: 31,
+            value: EntryValue::Unit,
+        },
+        Entry {
+            name: 35,
+            value: EntryValue::Unit,
+        },
     ];
     assert_eq!(rt; parts.entries.as_slice(), entries.as_slice());
     let list = lexed(&rt, alloc, "arith.constant - 0129 : i8");
     let (parts, _) = head(&rt, alloc, &list, Level::Body);
-    assert_eq!(rt; parts.literal, Some(Literal::Integer { negative: true, token: 2 }));
+    assert_eq!(rt;
+        parts.literal,
+        Some(Literal::Integer {
+            negative: true,
+            token: 2
+        })
+    );
 }
 
 /// A text, the number of its token that fits no head, and the verdict on it.
@@ -140,9 +263,17 @@ fn the_first_token_that_fits_no_head_is_judged(rt: HostRuntime) {
         ("tensor.pad", 0, Verdict::OutOfProfile(21)),
         ("addi", 0, Verdict::Syntax),
         ("loc(", 0, Verdict::OutOfProfile(12)),
-        ("arith.addi %a, %a overflow<nsw> : i32", 4, Verdict::OutOfProfile(3)),
+        (
+            "arith.addi %a, %a overflow<nsw> : i32",
+            4,
+            Verdict::OutOfProfile(3),
+        ),
         ("arith.addi %a, %a <{", 4, Verdict::OutOfProfile(11)),
-        ("arith.addi %a, %a : tensor<2xi32>", 5, Verdict::OutOfProfile(18)),
+        (
+            "arith.addi %a, %a : tensor<2xi32>",
+            5,
+            Verdict::OutOfProfile(18),
+        ),
         ("arith.addi %a, %a : f8E4M3FN", 5, Verdict::OutOfProfile(1)),
         ("arith.addi %a, %a : si8", 5, Verdict::OutOfProfile(4)),
         ("arith.addi %a, %a : i", 5, Verdict::Syntax),
@@ -151,7 +282,11 @@ fn the_first_token_that_fits_no_head_is_judged(rt: HostRuntime) {
         ("return %a : memref", 3, Verdict::OutOfProfile(5)),
         ("return %a#x", 2, Verdict::Syntax),
         ("arith.constant 5 : tensor<i32>", 3, Verdict::Syntax),
-        ("arith.constant dense<1> : tensor<i32>", 1, Verdict::NotBuilt),
+        (
+            "arith.constant dense<1> : tensor<i32>",
+            1,
+            Verdict::NotBuilt,
+        ),
         ("arith.constant {} {", 3, Verdict::OutOfProfile(14)),
         ("arith.constant \"a\"", 1, Verdict::OutOfProfile(14)),
         ("return {x = dense<1>}", 4, Verdict::OutOfProfile(14)),
@@ -183,6 +318,12 @@ fn the_first_token_that_fits_no_head_is_judged(rt: HostRuntime) {
         assert_refused(&rt, alloc, Level::File, wanted);
     }
     let list = lexed(&rt, alloc, "}");
-    assert_eq!(rt; judge(list.as_slice(), 0, Due::FunctionBody), Verdict::OutOfProfile(19));
-    assert_eq!(rt; judge(list.as_slice(), 1, Due::FunctionBody), Verdict::Syntax);
+    assert_eq!(rt;
+        judge(list.as_slice(), 0, Due::FunctionBody),
+        Verdict::OutOfProfile(19)
+    );
+    assert_eq!(rt;
+        judge(list.as_slice(), 1, Due::FunctionBody),
+        Verdict::Syntax
+    );
 }

@@ -1,12 +1,13 @@
 use Rattle.std.proofs.Common.{◌≡◌, ◌≤◌, ◌+◌, ◌-◌, ℕ, length}
 use Rattle.xf_grammar.specs.Reading.{more}
-use Rattle.xf_read_base.specs.Reading.{item_at, list_at}
+use Rattle.xf_grammar.specs.Grammar.{read}
+use Rattle.xf_read_base.specs.Rules.{item_rule, list_rule}
 use Rattle.xf_read_base.proofs.list.list_at.Given as goal
 
 -- what is left to read gives what all gives
 abbrev pub invariant-list : goal.invariant-list
 invariant-list l = record {
-  rest : (f : ℕ) × (length l.tokens ≤ f + l.at) × (more f l.tokens (item_at l.item) l.parts l.at ≡ list_at l.tokens l.item l.fn.parts l.fn.at);
+  rest : (f : ℕ) × (length l.tokens ≤ f + l.at) × (more f l.tokens (read (item_rule l.item)) l.parts l.at ≡ read (list_rule l.item) l.tokens l.fn.parts l.fn.at);
   begin : l.fn.at ≤ l.at;
   within : l.at ≤ length l.tokens;
 }

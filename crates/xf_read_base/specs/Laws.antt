@@ -1,0 +1,38 @@
+-- What holds of the heads of all lists of tokens.
+use Rattle.std.specs.Prelude.{◌≡◌, ℕ, suc, List, [], None, false, Ok, Err}
+use Rattle.xf_lex.specs.declared.token.Token.{Token}
+use Rattle.xf_grammar.specs.Tokens.{Seen, seen}
+use Rattle.xf_grammar.specs.Place.{Agree}
+use Rattle.xf_grammar.specs.Grammar.{AllStand, Writes}
+use Rattle.xf_read_base.specs.declared.due.Due.{Due}
+use Rattle.xf_read_base.specs.declared.parts.Parts.{Parts}
+use Rattle.xf_read_base.specs.declared.row.Level.{Level}
+use Rattle.xf_read_base.specs.declared.row.Row.TheVariants as row
+use Rattle.xf_read_base.specs.Parts.{Said, said}
+use Rattle.xf_read_base.specs.Rules.{head_rule}
+use Rattle.xf_read_base.specs.Reading.{head_at}
+
+abbrev pub nothing_said : Said
+nothing_said = record { row = row.Module; symbol = None; private = false; predicate = None; literal = None; entries = []; defines = []; args = []; uses = []; types = []; results = [] }
+
+-- these tokens, before a token, are a head that says so much
+abbrev pub IsHead : Level → ℕ → List Seen → Seen → Said → Type 0
+IsHead l at ps y t = Writes (head_rule l) at ps y nothing_said t
+
+-- a head that is read is written there, and says what was read
+abbrev pub HeadsAreWritten : Type 0
+HeadsAreWritten = (all : List Token) (l : Level) (at next : ℕ) (p : Parts) → head_at all l at ≡ Ok (p, next)
+    → (ps : List Seen) × (AllStand all at ps next × IsHead l at ps (seen all next) (said all p))
+
+-- a head that is written is read there, as what it says
+abbrev pub HeadsReadAgain : Type 0
+HeadsReadAgain = (all : List Token) (l : Level) (at next : ℕ) (ps : List Seen) (t : Said) → AllStand all at ps next → IsHead l at ps (seen all next) t
+    → (p : Parts) × ((head_at all l at ≡ Ok (p, next)) × (said all p ≡ t))
+
+-- where reading stops at a token, it stops there in each text that agrees through that token, so no head goes on with it
+abbrev pub NoHeadGoesOn : Type 0
+NoHeadGoesOn = (all us : List Token) (l : Level) (at i : ℕ) (d : Due) → head_at all l at ≡ Err (i, d) → Agree (suc i) all us → head_at us l at ≡ Err (i, d)
+
+-- what is read does not depend on tokens behind the one that follows it
+abbrev pub HeadsStay : Type 0
+HeadsStay = (all us : List Token) (l : Level) (at next : ℕ) (p : Parts) → head_at all l at ≡ Ok (p, next) → Agree (suc next) all us → head_at us l at ≡ Ok (p, next)
