@@ -16,7 +16,7 @@ pub earlier_none : (a : Option ℕ) → earlier a None ≡ a
 earlier_none None = refl
 earlier_none (Some i) = refl
 
-same_faults : (f g : Faults) → f.undefined ≡ g.undefined → f.twice ≡ g.twice → f.mismatch ≡ g.mismatch → f ≡ g
+pub same_faults : (f g : Faults) → f.undefined ≡ g.undefined → f.twice ≡ g.twice → f.mismatch ≡ g.mismatch → f ≡ g
 same_faults f g p q r = λ i. record { undefined = p i; twice = q i; mismatch = r i }
 
 pub faults_regrouped : (a b c : Faults) → with_faults (with_faults a b) c ≡ with_faults a (with_faults b c)

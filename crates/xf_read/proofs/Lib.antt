@@ -1,9 +1,14 @@
 pub mod Arguments
+pub mod Counting
 pub mod Earlier
 pub mod Ends
+pub mod Heads
+pub mod Joining
 pub mod Place
 pub mod SameTypes
 pub mod Scoping
 pub mod Sorting
 pub mod Steps
+pub mod Stops
 pub mod TreeLemmas
+pub mod Walking

@@ -13,6 +13,7 @@ use Rattle.xf_read.specs.declared.scope.Named.{Named}
 use Rattle.xf_read.specs.declared.scope.Scope.{Scope as Visible}
 use Rattle.xf_read.specs.Scopes.{Scope, with_name}
 use Rattle.xf_read.specs.Visible.{names_in, put_back, before, Grows}
+use Rattle.xf_read.specs.Walks.{Same}
 
 pub same_names : (f g : Scope) → ((q : List ℕ) → f q ≡ g q) → f ≡ g
 same_names f g h = λ i q. h q i
@@ -89,3 +90,26 @@ take_last (suc n) (y ∷ xs) x le = ap (λ zs. y ∷ zs) (take_last n xs x (omeg
 
 pub one_back : (h : ℕ) (cs ds : List Change) (c : Change) (f g total : Scope) → ds ≡ cs ++ c ∷ [] → h ≤ length cs → g ≡ put_back c f → before (drop h ds) f ≡ total → before (drop h cs) g ≡ total
 one_back h cs ds c f g total e le p h' = ap (before (drop h cs)) p ∙ sym (before_more (drop h cs) c f) ∙ ap (λ xs. before xs f) (sym (drop_last h cs c le)) ∙ ap (λ xs. before (drop h xs) f) (sym e) ∙ h'
+
+-- ---- scopes that are the same
+
+pub same_not : (s : Visible) → Same s s
+same_not s = record { names = refl; changes = refl }
+
+pub same_on : (s t u : Visible) → Same s t → Same t u → Same s u
+same_on s t u g h = record { names = h.names ∙ g.names; changes = h.changes ∙ g.changes }
+
+pub grows_from : (s t u : Visible) → Same s t → Grows t u → Grows s u
+grows_from s t u e g = record { more = g.more; changes = g.changes ∙ ap (λ cs. cs ++ g.more) e.changes; names = g.names ∙ e.names }
+
+-- a scope that grew, and then is taken back to as many changes as there were
+pub back : (s t u v : Visible) (h : ℕ) → Grows s t → Same t u → h ≡ length s.changes.items → names_in v ≡ before (drop h u.changes.items) (names_in u) → v.changes.items ≡ take h u.changes.items → Same s v
+back s t u v h g e k names changes =
+    let grown : Grows s u = grows_same s t u g e.names e.changes in
+    record {
+      names = names ∙ ap (λ n. before (drop n u.changes.items) (names_in u)) k ∙ left_names s u grown;
+      changes = changes ∙ ap (λ n. take n u.changes.items) k ∙ left_changes s u grown;
+    }
+
+pub back_longer : (s t u : Visible) (h : ℕ) → Grows s t → Same t u → h ≡ length s.changes.items → h ≤ length u.changes.items
+back_longer s t u h g e k = omega (arith, grows_longer s t g, ap length e.changes)

@@ -24,7 +24,7 @@ use Rattle.xf_read_base.specs.declared.parts.Literal.TheVariants as literal
 use Rattle.xf_read_base.specs.declared.parts.Parts.{Parts}
 use Rattle.xf_read_base.specs.declared.row.Row.{Row}
 use Rattle.xf_read_base.specs.declared.row.Row.TheVariants as row
-use Rattle.xf_read_base.specs.Reading.{has_room}
+use Rattle.xf_read_base.specs.Rules.{has_room}
 use Rattle.xf_ir.specs.declared.kind.Attr.{Attr}
 use Rattle.xf_ir.specs.declared.kind.Kind.{Kind}
 use Rattle.xf_ir.specs.declared.kind.Kind.TheVariants as kind

@@ -9,7 +9,9 @@ use Rattle.xf_read.specs.declared.faults.Faults.{Faults}
 use Rattle.xf_read.specs.declared.head.Head.{Head}
 use Rattle.xf_read.specs.declared.scope.Scope.{Scope as Visible}
 use Rattle.xf_read.specs.declared.walk.Walk.{Walk}
-use Rattle.xf_read.specs.Meant.{operands_of}
+use Rattle.xf_read.specs.declared.read.Built.{Built}
+use Rattle.xf_read.specs.declared.tree.File.{File}
+use Rattle.xf_read.specs.Meant.{operands_of, meant, places_of, file_faults}
 use Rattle.xf_read.specs.Names.{op_name, earlier, with_faults, undefined_in, entries_twice, names_twice, agrees}
 use Rattle.xf_read.specs.Scopes.{Scope}
 use Rattle.xf_read.specs.Types.{results_by, args_by}
@@ -46,3 +48,9 @@ joined_regions (region args ops rest) us = region args ops (joined_regions rest 
 -- operation n of a head and regions
 abbrev pub head_tree : ℕ → Head → Regions → Op
 head_tree n h rs = record { name = op_name n; kind = h.kind; attrs = h.attrs; operands = h.operands; results = h.results; regions = rs }
+
+-- what a file means, and its faults
+pub record IsBuilt (all : List Token) (f : File) (b : Built) : Type 0 where
+  pub module_is : b.«module» ≡ meant all f
+  pub places_are : b.places ≡ places_of all f
+  pub faults_are : b.faults ≡ file_faults all f

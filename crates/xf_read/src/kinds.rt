@@ -1,7 +1,7 @@
 //! The kinds of operations.
 ghost use Rattle.std.specs.Prelude.{◌≡◌, IfOk};
 ghost use Rattle.std.specs.Option.{option_map};
-ghost use Rattle.xf_read_base.specs.Reading.{has_room};
+ghost use Rattle.xf_read_base.specs.Rules.{has_room};
 ghost use Rattle.xf_read.specs.Values.{integer_bits, literal_bits, symbol_of, symbol_or, width_at, predicate_or, kind_by};
 
 use crate::attributes::{signed, truth_bits};

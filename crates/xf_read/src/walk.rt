@@ -3,6 +3,7 @@ ghost use Rattle.std.specs.Prelude.{◌≡◌, ◌+◌, ◌^◌, ◌<◌, ℕ, [
 ghost use Rattle.xf_ir.specs.View.{ops_of, regions_of};
 ghost use Rattle.xf_read.specs.Meant.{joined, yield_tree, left_out, nodes_meant, bodies_meant, tree_meant, place_of, yield_places, nodes_places, bodies_places};
 ghost use Rattle.xf_read.specs.Names.{no_faults, yield_count, nodes_count, bodies_count, tree_count, inside, behind, head_faults, nodes_faults, bodies_faults, tree_faults};
+ghost use Rattle.xf_read.specs.Syntax.{lacks_yield};
 ghost use Rattle.xf_read.specs.Types.{args_by};
 ghost use Rattle.xf_read.specs.View.{nodes_of, bodies_of};
 ghost use Rattle.xf_read.specs.Visible.{names_in, Grows};
@@ -59,6 +60,13 @@ fn plain_yield(alloc: Global, number: u64) -> Op
     }
 }
 
+/// Whether a body lacks the yield that it is to end in.
+fn lacks_yield(parts: &Parts, body: &Body) -> bool
+    ensures { result ≡ lacks_yield parts.now body.now.nodes }
+{
+    may_end_open(parts) && !ends_in_yield(&body.nodes)
+}
+
 /// Adds the yield that is left out at the end of a body.
 fn end_body(
     alloc: Global,
@@ -73,7 +81,7 @@ fn end_body(
     ensures moved { OnOk result (Moved walk.old walk.new (yield_count parts.now body.now.nodes) (yield_places tokens.now parts.now body.now.nodes body.now.close) no_faults) }
     ensures scope { OnOk result (Same walk.old.scope walk.new.scope) }
 {
-    if may_end_open(parts) && !ends_in_yield(&body.nodes) {
+    if lacks_yield(parts, body) {
         ops.push(plain_yield(alloc, walk.next))?;
         walk.places.push(place_of(tokens, body.close))?;
         walk.next += 1;
@@ -108,7 +116,7 @@ fn enter_head<'a>(
 
 /// An operation of a head and its blocks.
 fn with_regions(number: u64, head: Head, regions: Vec<Block>) -> Op
-    ensures { result ≡ head_tree number head.entry (regions_of regions.entry.items) }
+    ensures { result ≡ head_tree number head (regions_of regions.items) }
 {
     Op {
         name: OpName(number),
@@ -164,7 +172,8 @@ fn operations<'a>(
     let mut ops = Vec::new(alloc);
     for node in nodes {
         let place = place_of(tokens, node.first);
-        ops.push(operation(alloc, tokens, walk, place, node)?)?;
+        let op = operation(alloc, tokens, walk, place, node)?;
+        ops.push(op)?;
     }
     walk.scope.leave(height)?;
     Ok(ops)
@@ -186,12 +195,12 @@ fn blocks<'a>(
     ensures moved { OnOk result (Moved walk.old walk.new (bodies_count parts.now (bodies_of bodies.now)) (bodies_places tokens.now parts.now (bodies_of bodies.now)) (bodies_faults tokens.now walk.old.next parts.now (names_in walk.old.scope) (bodies_of bodies.now))) }
     ensures scope { OnOk result (Same walk.old.scope walk.new.scope) }
 {
-    let mut blocks = Vec::new(alloc);
+    let mut made = Vec::new(alloc);
     for body in bodies {
         let mut ops = operations(alloc, tokens, walk, &body.nodes)?;
         end_body(alloc, tokens, walk, parts, body, &mut ops)?;
         let args = args.duplicate(alloc)?;
-        blocks.push(Block { args, ops })?;
+        made.push(Block { args, ops })?;
     }
-    Ok(blocks)
+    Ok(made)
 }
