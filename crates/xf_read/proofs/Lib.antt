@@ -4,6 +4,7 @@ pub mod Earlier
 pub mod Ends
 pub mod Heads
 pub mod Joining
+pub mod Meanings
 pub mod Place
 pub mod SameTypes
 pub mod Scoping

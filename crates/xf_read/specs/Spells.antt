@@ -16,6 +16,8 @@ use Rattle.xf_read_base.specs.Verdicts.{verdict}
 use Rattle.xf_ir.specs.declared.op.Module.{Module}
 use Rattle.xf_read.specs.declared.fault.Cause.{Cause}
 use Rattle.xf_read.specs.declared.fault.Cause.TheVariants as cause
+use Rattle.xf_read.specs.declared.fault.SyntaxFault.{SyntaxFault}
+use Rattle.xf_read.specs.declared.fault.SyntaxFault.TheVariants as stopped
 use Rattle.xf_read.specs.declared.faults.Faults.{Faults}
 use Rattle.xf_read.specs.declared.tree.File.{File}
 use Rattle.xf_read.specs.Laws.{IsText, NoTextThrough}
@@ -68,6 +70,10 @@ syntax_fault all at (cause.Due d) = judged (verdict d (seen all at) (seen all (a
 syntax_fault all at cause.NestLimit = fault_at A5 (stop_place all at)
 syntax_fault all at cause.TooManyOps = fault_at A7 (stop_place all at)
 
+abbrev pub unread : List Token → SyntaxFault → TextFault
+unread all stopped.NoMemory = text_fault.NoMemory
+unread all (stopped.At at c) = text_fault.At (syntax_fault all at c)
+
 -- tokens that no file has: their reading stops at a token through which no text of the syntax agrees with them
 pub record StopsAt (tokens : List Token) (f : Fault) : Type 0 where
   pub at : ℕ
@@ -110,7 +116,7 @@ pub record HasTokensWith (Bad : List Token → Fault → Type 0) (bytes : List �
 
 -- why a text spells no module: a fault of its tokens, of the syntax, or of names and types
 abbrev pub Misspells : List ℕ → Fault → Type 0
-Misspells bytes f = HasFault bytes f ⊎ HasTokensWith StopsAt bytes f ⊎ HasTokensWith Misnames bytes f
+Misspells bytes f = HasFault bytes f ⊎ (HasTokensWith StopsAt bytes f ⊎ HasTokensWith Misnames bytes f)
 
 -- why a module is not answered: the text has this fault, or memory was refused
 abbrev pub IsUnread : List ℕ → TextFault → Type 0

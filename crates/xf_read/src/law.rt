@@ -3,7 +3,7 @@ ghost use Rattle.xf_read.specs.Spells.{SpellsOne, MisspellsOne, SpellsOrNot};
 
 /// A text spells one module or has one fault, and not both.
 pub fn one_meaning()
-    ensures module { SpellsOne }
+    ensures spells { SpellsOne }
     ensures fault { MisspellsOne }
     ensures apart { SpellsOrNot }
 {}

@@ -4,11 +4,10 @@ ghost use Rattle.xf_read.specs.Meant.{file_count, module_place};
 ghost use Rattle.xf_read.specs.Spells.{Spells, HasPlaces, IsUnread};
 ghost use Rattle.xf_read.specs.Walks.{IsBuilt};
 
-use crate::fault::SyntaxFault;
 use crate::faults::Faults;
 use crate::reader::syntax;
 use crate::scope::Scope;
-use crate::stop::{first_fault, syntax_fault};
+use crate::stop::{first_fault, unread};
 use crate::tree::File;
 use crate::walk::{PlaceOfList, Walk, operation, place_of};
 use std::alloc::Global;
@@ -84,8 +83,7 @@ pub fn read_module(alloc: Global, bytes: &[u8]) -> Result<ReadModule, ReadFault>
     let tokens = tokens.as_slice();
     let file = match syntax(alloc, tokens) {
         Ok(file) => file,
-        Err(SyntaxFault::NoMemory) => return Err(ReadFault::NoMemory),
-        Err(SyntaxFault::At(at, cause)) => return Err(ReadFault::At(syntax_fault(tokens, at, cause))),
+        Err(fault) => return Err(unread(tokens, fault)),
     };
     let built = build(alloc, tokens, &file)?;
     if let Some(fault) = first_fault(tokens, built.faults) {

@@ -1,14 +1,14 @@
 //! The faults that are answered.
 ghost use Rattle.std.specs.Prelude.{◌≡◌};
 ghost use Rattle.xf_lex.specs.Lexes.{next_place, place_after};
-ghost use Rattle.xf_read.specs.Spells.{stop_place, judged, syntax_fault, first_fault};
+ghost use Rattle.xf_read.specs.Spells.{stop_place, judged, syntax_fault, unread, first_fault};
 
-use crate::fault::Cause;
+use crate::fault::{Cause, SyntaxFault};
 use crate::faults::Faults;
 use crate::walk::place_of;
 use xf_lex::Token;
 use xf_read_base::{Verdict, judge};
-use xf_span::{Code, Fault, Place};
+use xf_span::{Code, Fault, Place, ReadFault};
 
 /// The place behind a byte.
 fn next_place(place: Place, b: u8) -> Place
@@ -63,7 +63,7 @@ fn judged(verdict: Verdict, place: Place) -> Fault
 }
 
 /// The fault of a reading that stops at a token.
-pub fn syntax_fault(tokens: &[Token], at: usize, cause: Cause) -> Fault
+fn syntax_fault(tokens: &[Token], at: usize, cause: Cause) -> Fault
     ensures { result ≡ syntax_fault tokens.now at cause }
 {
     let place = stop_place(tokens, at);
@@ -71,6 +71,16 @@ pub fn syntax_fault(tokens: &[Token], at: usize, cause: Cause) -> Fault
         Cause::Due(due) => judged(judge(tokens, at, due), place),
         Cause::NestLimit => Fault::at(Code::A5, place),
         Cause::TooManyOps => Fault::at(Code::A7, place),
+    }
+}
+
+/// Why a text is not answered whose syntax is not read.
+pub fn unread(tokens: &[Token], fault: SyntaxFault) -> ReadFault
+    ensures { result ≡ unread tokens.now fault }
+{
+    match fault {
+        SyntaxFault::NoMemory => ReadFault::NoMemory,
+        SyntaxFault::At(at, cause) => ReadFault::At(syntax_fault(tokens, at, cause)),
     }
 }
 
