@@ -17,7 +17,7 @@ grammar_steady (finish add tell) all h at = done all at (add h) at (omega arith)
 grammar_steady (refuse due) all h at = stops all at at due (omega arith)
 grammar_steady (take test on off) all h at =
     by_seen all at (λ x ts. cond (test x) (read (on x at) ts h (at + 1)) (read off ts h at))
-      (λ x. taken (test x) all at _ _ (later all at (at + 1) _ (omega arith) (grammar_steady (on x at) all h (at + 1))) (grammar_steady off all h at))
+    (λ x. taken (test x) all at _ _ (later all at (at + 1) _ (omega arith) (grammar_steady (on x at) all h (at + 1))) (grammar_steady off all h at))
   where
     taken : {A D : Type 0} (b : Bool) (all : List Token) (at : ℕ) (r s : List Token → Out A D) → Steady all at r → Steady all at s → Steady all at (λ ts. cond b (r ts) (s ts))
     taken true all at r s p q = p
@@ -107,10 +107,19 @@ more_found (suc f) said item W all h h' at next find room e =
           let b = bind_ok (item all h (at + 1)) (λ x. more f all item x.0 x.1) (h', next) w.1 in
           let x = find h b.0.0 (at + 1) b.0.1 b.1.0 in
           let n = ends_at x.0 all (at + 1) b.0.1 x.1.0 in
-          let xs = more_found f said item W all b.0.0 h' b.0.1 next find (omega arith) b.1.1 in
-          (x.0 ∷ xs.0, ((comma_is all at w.0, join x.0 (more_written xs.0) all (at + 1) b.0.1 next x.1.0 xs.1.0),
-            (said b.0.0, (subst (λ y. W (at + 1) x.0 y (said h) (said b.0.0)) (first_is (more_written xs.0) all b.0.1 next xs.1.0) x.1.1,
-              subst (λ m. WritesMore W m xs.0 (seen all next) (said b.0.0) (said h')) n xs.1.1))))
+          let xs = more_found f said item W all b.0.0 h' b.0.1 next find (omega arith) b.1.1 in (
+            x.0 ∷ xs.0,
+            (
+              (comma_is all at w.0, join x.0 (more_written xs.0) all (at + 1) b.0.1 next x.1.0 xs.1.0),
+              (
+                said b.0.0,
+                (
+                  subst (λ y. W (at + 1) x.0 y (said h) (said b.0.0)) (first_is (more_written xs.0) all b.0.1 next xs.1.0) x.1.1,
+                  subst (λ m. WritesMore W m xs.0 (seen all next) (said b.0.0) (said h')) n xs.1.1,
+                ),
+              ),
+            ),
+          )
       | inr w ↦
           let a = answer_is h h' at next w.1 in
           ([], (a.1, (subst (λ n. is_kind comma (seen all n) ≡ false) a.1 w.0, ap said a.0)))
@@ -143,18 +152,54 @@ found (both g k) said all h h' at next t e =
     let b = bind_ok (read g all h at) (λ x. read k all x.0 x.1) (h', next) e in
     let p = found g said all h b.0.0 at b.0.1 t.0 b.1.0 in
     let q = found k said all b.0.0 h' b.0.1 next (t.1 b.0.1) b.1.1 in
-    let n = ends_at p.0 all at b.0.1 p.1.0 in
-    (p.0 ++ q.0, (join p.0 q.0 all at b.0.1 next p.1.0 q.1.0,
-      (p.0, (q.0, (said b.0.0, (refl, (subst (λ y. Writes g at p.0 y (said h) (said b.0.0)) (first_is q.0 all b.0.1 next q.1.0) p.1.1,
-        subst (λ m. Writes k m q.0 (seen all next) (said b.0.0) (said h')) n q.1.1)))))))
+    let n = ends_at p.0 all at b.0.1 p.1.0 in (
+      p.0 ++ q.0,
+      (
+        join p.0 q.0 all at b.0.1 next p.1.0 q.1.0,
+        (
+          p.0,
+          (
+            q.0,
+            (
+              said b.0.0,
+              (
+                refl,
+                (
+                  subst (λ y. Writes g at p.0 y (said h) (said b.0.0)) (first_is q.0 all b.0.1 next q.1.0) p.1.1,
+                  subst (λ m. Writes k m q.0 (seen all next) (said b.0.0) (said h')) n q.1.1,
+                ),
+              ),
+            ),
+          ),
+        ),
+      ),
+    )
 found (listed g) said all h h' at next t e =
     let b = bind_ok (read g all h at) (λ x. more (length all) all (read g) x.0 x.1) (h', next) e in
     let p = found g said all h b.0.0 at b.0.1 (t at) b.1.0 in
     let n = ends_at p.0 all at b.0.1 p.1.0 in
-    let q = more_found (length all) said (read g) (Writes g) all b.0.0 h' b.0.1 next (λ k k' m l o. found g said all k k' m l (t m) o) (omega arith) b.1.1 in
-    (p.0 ++ more_written q.0, (join p.0 (more_written q.0) all at b.0.1 next p.1.0 q.1.0,
-      (p.0, (q.0, (said b.0.0, (refl, (subst (λ y. Writes g at p.0 y (said h) (said b.0.0)) (first_is (more_written q.0) all b.0.1 next q.1.0) p.1.1,
-        subst (λ m. WritesMore (Writes g) m q.0 (seen all next) (said b.0.0) (said h')) n q.1.1)))))))
+    let q = more_found (length all) said (read g) (Writes g) all b.0.0 h' b.0.1 next (λ k k' m l o. found g said all k k' m l (t m) o) (omega arith) b.1.1 in (
+      p.0 ++ more_written q.0,
+      (
+        join p.0 (more_written q.0) all at b.0.1 next p.1.0 q.1.0,
+        (
+          p.0,
+          (
+            q.0,
+            (
+              said b.0.0,
+              (
+                refl,
+                (
+                  subst (λ y. Writes g at p.0 y (said h) (said b.0.0)) (first_is (more_written q.0) all b.0.1 next q.1.0) p.1.1,
+                  subst (λ m. WritesMore (Writes g) m q.0 (seen all next) (said b.0.0) (said h')) n q.1.1,
+                ),
+              ),
+            ),
+          ),
+        ),
+      ),
+    )
 
 -- ---- what is written is read
 

@@ -1,4 +1,5 @@
 pub mod Grammar
+pub mod Laid
 pub mod Place
 pub mod Reading
 pub mod Tokens

@@ -3,7 +3,9 @@ pub mod Counting
 pub mod Earlier
 pub mod Ends
 pub mod Heads
+pub mod HeadsWithin
 pub mod Joining
+pub mod KeptLemmas
 pub mod Meanings
 pub mod Place
 pub mod SameTypes
@@ -12,4 +14,5 @@ pub mod Sorting
 pub mod Steps
 pub mod Stops
 pub mod TreeLemmas
+pub mod TreesWithin
 pub mod Walking

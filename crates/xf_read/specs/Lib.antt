@@ -11,3 +11,4 @@ pub mod Values
 pub mod View
 pub mod Visible
 pub mod Walks
+pub mod Within

@@ -12,7 +12,8 @@ use Rattle.xf_read_base.specs.declared.row.Level.{Level}
 use Rattle.xf_read_base.specs.declared.row.Level.TheVariants as level
 use Rattle.xf_read_base.specs.declared.row.Row.{Row}
 use Rattle.xf_read_base.specs.declared.row.Row.TheVariants as row
-use Rattle.xf_read_base.specs.Reading.{no_parts, dictionary_at, head_at}
+use Rattle.xf_read_base.specs.Heads.{head_at}
+use Rattle.xf_read_base.specs.Reading.{no_parts, dictionary_at}
 use Rattle.xf_read.specs.declared.fault.Cause.{Cause}
 use Rattle.xf_read.specs.declared.fault.Cause.TheVariants as cause
 use Rattle.xf_read.specs.declared.fault.SyntaxFault.{SyntaxFault}

@@ -14,6 +14,8 @@ mod read;
 mod reader;
 mod scope;
 mod stop;
+#[cfg(test)]
+mod tests;
 mod tree;
 mod types;
 mod uses;

@@ -5,6 +5,7 @@ ghost use Rattle.xf_read_base.specs.declared.row.Level.TheVariants as level;
 ghost use Rattle.xf_read.specs.declared.tree.File.{File};
 ghost use Rattle.xf_read.specs.Syntax.{Gives, begins_at, ends_in_yield, is_yield, inside, due_before, behind, may_end_open, lacks_yield, closed, closes, braced, with_else, bodies_at, tail_at, node_at, nodes_at, ended, file_at, block};
 ghost use Rattle.xf_read.specs.Laws.{AtNoText};
+ghost use Rattle.xf_read.specs.Within.{ReadWithin};
 ghost use Rattle.xf_read.specs.View.{nodes_of, bodies_of};
 
 use crate::fault::{Cause, SyntaxFault};
@@ -258,7 +259,7 @@ fn node_at(
 
 /// Operations up to a brace or the end, inside so many open regions.
 #[cycle(tree)]
-fn nodes_at(
+pub(crate) fn nodes_at(
     alloc: Global,
     tokens: &[Token],
     level: Level,
@@ -327,10 +328,11 @@ fn file(alloc: Global, tokens: &[Token]) -> Result<File, SyntaxFault>
 /// It refuses with the first token that no text of the syntax has there, which is the end of the
 /// text where all of them fit, and with what is wrong there. It takes time in the number of
 /// tokens, and its calls nest no deeper than the regions of a text may.
-#[tactic(auto, using(crate::proofs::Place::at_no_text))]
+#[tactic(auto, using(crate::proofs::Place::at_no_text, crate::proofs::TreesWithin::read_within))]
 pub fn syntax(alloc: Global, tokens: &[Token]) -> Result<File, SyntaxFault>
     ensures exact { (f : ℕ) → length tokens.now < f → Gives (λ file. (file, length tokens.now)) result (file_at f tokens.now) }
     ensures place { AtNoText result tokens.now }
+    ensures within { ReadWithin (length tokens.now) result }
 {
     file(alloc, tokens)
 }

@@ -1,4 +1,6 @@
 pub mod Ends
 pub mod HeadLaws
+pub mod HeadPieces
+pub mod Pieces
 pub mod Steady
 pub mod Tells

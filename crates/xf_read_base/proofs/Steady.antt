@@ -8,7 +8,8 @@ use Rattle.xf_read_base.specs.declared.row.Level.{Level}
 use Rattle.xf_read_base.specs.declared.row.Row.TheVariants as row
 use Rattle.xf_read_base.specs.declared.row.Slot.{Slot}
 use Rattle.xf_read_base.specs.Rules.{dictionary_rule, slots_rule, head_rule}
-use Rattle.xf_read_base.specs.Reading.{no_parts, dictionary_at, slots_at, head_at}
+use Rattle.xf_read_base.specs.Heads.{head_at}
+use Rattle.xf_read_base.specs.Reading.{no_parts, dictionary_at, slots_at}
 
 pub dictionary_steady : (all : List Token) (h : Parts) (at : ℕ) → Steady all at (λ ts. dictionary_at ts h at)
 dictionary_steady all h at = grammar_steady dictionary_rule all h at

@@ -1,5 +1,7 @@
+pub mod Heads
 pub mod Laws
 pub mod Parts
+pub mod Pieces
 pub mod Reading
 pub mod Rows
 pub mod Rules

@@ -7,11 +7,10 @@ use Rattle.xf_read_base.specs.declared.due.Due.{Due}
 use Rattle.xf_read_base.specs.declared.due.HeadFault.{HeadFault}
 use Rattle.xf_read_base.specs.declared.due.HeadFault.TheVariants as fault
 use Rattle.xf_read_base.specs.declared.parts.Parts.{Parts}
-use Rattle.xf_read_base.specs.declared.row.Level.{Level}
-use Rattle.xf_read_base.specs.declared.row.Row.TheVariants as row
 use Rattle.xf_read_base.specs.declared.row.Slot.{Slot}
-use Rattle.xf_read_base.specs.Rules.{Rule, dictionary_rule, slots_rule, head_rule}
+use Rattle.xf_read_base.specs.Rules.{Rule, dictionary_rule, slots_rule}
 pub use Rattle.xf_read_base.specs.Parts.{no_parts}
+pub use Rattle.xf_read_base.specs.Rules.{has_room}
 
 -- what is read, and the number of the token behind it; or the number of the first token that fits no head, and what was due
 abbrev pub Read : Type 0
@@ -35,7 +34,3 @@ dictionary_at all h at = by dictionary_rule all h at
 
 abbrev pub slots_at : List Token → List Slot → Parts → ℕ → Read
 slots_at all ss h at = by (slots_rule ss) all h at
-
--- the head of the operation at a number
-abbrev pub head_at : List Token → Level → ℕ → Read
-head_at all l at = by (head_rule l) all (no_parts row.Module) at

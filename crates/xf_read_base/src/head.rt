@@ -1,7 +1,8 @@
 //! Heads of operations.
 ghost use Rattle.std.specs.Prelude.{◌≡◌, ◌≤◌, ◌<◌, length, IfOk};
 ghost use Rattle.xf_grammar.specs.Tokens.{seen};
-ghost use Rattle.xf_read_base.specs.Reading.{Gives, by, head_at};
+ghost use Rattle.xf_read_base.specs.Heads.{head_at};
+ghost use Rattle.xf_read_base.specs.Reading.{Gives, by};
 ghost use Rattle.xf_read_base.specs.Rules.{defines_rule, row_rule, due_at, has_operations};
 
 use crate::due::{Due, HeadFault};

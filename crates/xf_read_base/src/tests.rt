@@ -2,7 +2,8 @@
 //! operations and of the forms that are not supported, written by hand.
 
 use crate::{
-    Due, Entry, EntryValue, HeadFault, Level, Literal, Parts, Ref, Row, Verdict, head_at, judge,
+    Due, Entry, EntryValue, HeadFault, Level, Literal, Parts, Ref, Row, Verdict, head_at,
+    heads_are_read_as_written, judge, no_head_goes_on,
 };
 use std::alloc::Global;
 use std::process::Abort;
@@ -46,6 +47,8 @@ fn assert_head(rt: &impl Abort, alloc: Global, level: Level, wanted: &Wanted) {
 
 #[test]
 fn each_row_is_read(rt: HostRuntime) {
+    heads_are_read_as_written();
+    no_head_goes_on();
     let alloc = rt.alloc();
     let outside: [Wanted; 6] = [
         ("module {", Row::Module, [0, 0, 0, 0, 0, 0, 1]),
