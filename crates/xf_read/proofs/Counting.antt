@@ -14,7 +14,8 @@ use Rattle.xf_read_base.specs.declared.row.Level.{Level}
 use Rattle.xf_read_base.specs.declared.row.Level.TheVariants as level
 use Rattle.xf_read_base.specs.declared.row.Row.{Row}
 use Rattle.xf_read_base.specs.declared.row.Row.TheVariants as row
-use Rattle.xf_read_base.specs.Reading.{dictionary_at, head_at}
+use Rattle.xf_read_base.specs.Heads.{head_at}
+use Rattle.xf_read_base.specs.Reading.{dictionary_at}
 use Rattle.xf_read_base.specs.Rules.{kind_rule, entry_width_rule, entry_number_rule, entry_value_rule, entry_rule, until_rule, dictionary_rule}
 use Rattle.xf_read.specs.declared.fault.Cause.{Cause}
 use Rattle.xf_read.specs.declared.fault.Cause.TheVariants as cause

@@ -9,6 +9,8 @@ mod faults;
 mod head;
 mod kinds;
 mod law;
+#[cfg(test)]
+mod meaning_tests;
 mod quoted;
 mod read;
 mod reader;
