@@ -1,5 +1,14 @@
+pub mod Attributes
 pub mod Laws
+pub mod Meant
+pub mod Names
+pub mod Scopes
+pub mod Spells
 pub mod Syntax
 pub mod Tree
+pub mod Types
+pub mod Values
 pub mod View
+pub mod Visible
+pub mod Walks
 pub mod Within

@@ -1,12 +1,33 @@
-//! The reader of payloads: from bytes to the syntax tree.
+//! The reader of payloads: from bytes to the syntax tree, and from there to names, types and the
+//! module.
 #![tactic(auto)]
 
+mod attributes;
+mod defining;
 mod fault;
+mod faults;
+mod head;
+mod kinds;
+mod law;
+#[cfg(test)]
+mod meaning_tests;
+mod quoted;
+mod read;
 mod reader;
+mod scope;
+mod stop;
 #[cfg(test)]
 mod tests;
 mod tree;
+mod types;
+mod uses;
+mod walk;
 
 pub use fault::{Cause, SyntaxFault};
+pub use faults::Faults;
+pub use law::one_meaning;
+pub use read::{ReadModule, read_module};
 pub use reader::syntax;
+pub use scope::{Definer, Named};
 pub use tree::{Body, File, Node};
+pub use walk::PlaceOfList;

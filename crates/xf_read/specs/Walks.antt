@@ -1,0 +1,56 @@
+-- What the walk over the operations has done.
+use Rattle.std.specs.Prelude.{◌≡◌, ℕ, ◌+◌, List, ◌++◌, if◌then◌else◌, Some, None, false}
+use Rattle.xf_span.specs.declared.place.Place.{Place}
+use Rattle.xf_lex.specs.declared.token.Token.{Token}
+use Rattle.xf_read_base.specs.declared.parts.Parts.{Parts}
+use Rattle.xf_ir.specs.Tree.{Regions, no_regions, region}
+use Rattle.xf_ir.specs.Tree.{Tree as Op}
+use Rattle.xf_read.specs.declared.faults.Faults.{Faults}
+use Rattle.xf_read.specs.declared.head.Head.{Head}
+use Rattle.xf_read.specs.declared.scope.Scope.{Scope as Visible}
+use Rattle.xf_read.specs.declared.walk.Walk.{Walk}
+use Rattle.xf_read.specs.declared.read.Built.{Built}
+use Rattle.xf_read.specs.declared.tree.File.{File}
+use Rattle.xf_read.specs.Meant.{operands_of, meant, places_of, file_faults}
+use Rattle.xf_read.specs.Names.{op_name, earlier, with_faults, undefined_in, entries_twice, names_twice, agrees}
+use Rattle.xf_read.specs.Scopes.{Scope}
+use Rattle.xf_read.specs.Types.{results_by, args_by}
+use Rattle.xf_read.specs.Values.{attrs_of, kind_by}
+use Rattle.xf_read.specs.Visible.{names_in}
+
+-- so many operations were built, which have these places and these faults
+pub record Moved (old new : Walk) (count : ℕ) (places : List Place) (faults : Faults) : Type 0 where
+  pub next : new.next ≡ old.next + count
+  pub places_are : new.places ≡ old.places ++ places
+  pub faults_are : new.faults ≡ with_faults old.faults faults
+
+-- the same names are visible by the same changes
+pub record Same (old new : Visible) : Type 0 where
+  pub names : names_in new ≡ names_in old
+  pub changes : new.changes.items ≡ old.changes.items
+
+-- what an operation holds beside its name and its regions, and its faults but for names of its arguments that stand twice
+pub record IsHead (all : List Token) (scope : Scope) (first : ℕ) (p : Parts) (h : Head) : Type 0 where
+  pub kind : h.kind ≡ kind_by all p.row p
+  pub attrs : h.attrs ≡ attrs_of all p.entries
+  pub operands : h.operands ≡ operands_of all scope p.uses
+  pub results : h.results ≡ results_by p.row p
+  pub args : h.args ≡ args_by p.row p
+  pub undefined : h.faults.undefined ≡ undefined_in all scope p.uses
+  pub twice : h.faults.twice ≡ earlier (entries_twice all (λ name. false) p.entries) (names_twice all p scope)
+  pub mismatch : h.faults.mismatch ≡ (if agrees all p scope then None else Some first)
+
+-- regions before others
+abbrev pub joined_regions : Regions → Regions → Regions
+joined_regions no_regions us = us
+joined_regions (region args ops rest) us = region args ops (joined_regions rest us)
+
+-- operation n of a head and regions
+abbrev pub head_tree : ℕ → Head → Regions → Op
+head_tree n h rs = record { name = op_name n; kind = h.kind; attrs = h.attrs; operands = h.operands; results = h.results; regions = rs }
+
+-- what a file means, and its faults
+pub record IsBuilt (all : List Token) (f : File) (b : Built) : Type 0 where
+  pub module_is : b.«module» ≡ meant all f
+  pub places_are : b.places ≡ places_of all f
+  pub faults_are : b.faults ≡ file_faults all f

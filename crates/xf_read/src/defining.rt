@@ -1,0 +1,132 @@
+//! What an operation lets names stand for.
+ghost use Rattle.std.specs.Prelude.{◌≡◌, IfOk, OnOk, min};
+ghost use Rattle.xf_read.specs.Names.{earlier, argument_number, argument_named, results_named, args_twice, with_args, with_results, with_symbol, behind};
+ghost use Rattle.std.specs.Option.{option_copied};
+ghost use Rattle.xf_read.specs.Types.{results_by};
+ghost use Rattle.xf_read.specs.Visible.{names_in, Grows};
+
+use crate::faults::{earlier, function_symbol, token_if};
+use crate::scope::{Definer, Named, Scope};
+use crate::types::one_type;
+use crate::uses::text;
+use std::alloc::Global;
+use xf_ir::OpName;
+use xf_lex::Token;
+use xf_read_base::{Parts, Ref};
+use xf_type::{Duplicate, NoMemory, PayloadType, TypeList};
+
+/// The number of an argument, up to 2^32 - 1.
+fn argument_number(at: usize) -> u32
+    ensures { result ≡ argument_number at }
+{
+    at.min(0xffff_ffff) as u32
+}
+
+/// What the name of an argument of an operation stands for. Refuses for want of memory alone.
+fn argument_named(
+    alloc: Global,
+    number: u64,
+    at: usize,
+    ty: Option<&PayloadType>,
+) -> Result<Named, NoMemory>
+    ensures { IfOk result (λ named. named ≡ argument_named number at (option_copied ty.entry)) }
+{
+    Ok(Named {
+        count: 1,
+        definer: Definer::Argument(OpName(number), argument_number(at)),
+        types: one_type(alloc, ty)?,
+    })
+}
+
+/// Lets the arguments of an operation stand for their names, and answers the first whose name was
+/// visible already. Refuses for want of memory alone.
+pub fn enter_args<'a>(
+    alloc: Global,
+    tokens: &'a [Token],
+    scope: &mut Scope<'a>,
+    number: u64,
+    types: &TypeList,
+    args: &[Ref],
+) -> Result<Option<usize>, NoMemory>
+    ensures twice { IfOk result (λ twice. twice ≡ args_twice tokens.now number 0 types.now args.now (names_in scope.old)) }
+    ensures names { OnOk result (names_in scope.new ≡ with_args tokens.now number 0 types.now args.now (names_in scope.old)) }
+    ensures grows { OnOk result (Grows scope.old scope.new) }
+{
+    let mut twice = None;
+    for (at, name) in args.iter().enumerate() {
+        let named = argument_named(alloc, number, at, types.get(at))?;
+        let seen = scope.enter(text(tokens, name.token), named)?;
+        twice = earlier(twice, token_if(seen, name.token));
+    }
+    Ok(twice)
+}
+
+/// Lets the results of an operation stand for their name, where they have one.
+fn enter_results<'a>(
+    alloc: Global,
+    tokens: &'a [Token],
+    scope: &mut Scope<'a>,
+    number: u64,
+    types: &TypeList,
+    defines: &[Ref],
+) -> Result<(), NoMemory>
+    ensures names { OnOk result (names_in scope.new ≡ with_results tokens.now number types.now defines.now (names_in scope.old)) }
+    ensures grows { OnOk result (Grows scope.old scope.new) }
+{
+    match defines {
+        [] => Ok(()),
+        [name, ..] => {
+            let named = Named {
+                count: name.count,
+                definer: Definer::Results(OpName(number)),
+                types: types.duplicate(alloc)?,
+            };
+            scope.enter(text(tokens, name.token), named)?;
+            Ok(())
+        }
+    }
+}
+
+/// Lets the symbol of a function stand for it.
+fn enter_symbol<'a>(
+    alloc: Global,
+    tokens: &'a [Token],
+    scope: &mut Scope<'a>,
+    number: u64,
+    symbol: Option<usize>,
+) -> Result<(), NoMemory>
+    ensures names { OnOk result (names_in scope.new ≡ with_symbol tokens.now number symbol (names_in scope.old)) }
+    ensures grows { OnOk result (Grows scope.old scope.new) }
+{
+    match symbol {
+        None => Ok(()),
+        Some(at) => {
+            let named = Named {
+                count: 0,
+                definer: Definer::Results(OpName(number)),
+                types: TypeList::new(alloc),
+            };
+            scope.enter(text(tokens, at), named)?;
+            Ok(())
+        }
+    }
+}
+
+/// Lets the names that an operation defines stand for what they stand for behind it. The types are
+/// those of its results. Refuses for want of memory alone.
+pub fn enter_names<'a>(
+    alloc: Global,
+    tokens: &'a [Token],
+    scope: &mut Scope<'a>,
+    number: u64,
+    types: &TypeList,
+    parts: &Parts,
+) -> Result<(), NoMemory>
+    requires { types.now ≡ results_by parts.now.row parts.now }
+    ensures names { OnOk result (names_in scope.new ≡ behind tokens.now number parts.now (names_in scope.old)) }
+    ensures grows { OnOk result (Grows scope.old scope.new) }
+{
+    enter_symbol(alloc, tokens, scope, number, function_symbol(parts))?;
+    enter_results(alloc, tokens, scope, number, types, parts.defines.as_slice())?;
+    Ok(())
+}

@@ -1,0 +1,145 @@
+//! The kinds of operations.
+ghost use Rattle.std.specs.Prelude.{◌≡◌, IfOk};
+ghost use Rattle.std.specs.Option.{option_map};
+ghost use Rattle.xf_read_base.specs.Rules.{has_room};
+ghost use Rattle.xf_read.specs.Values.{integer_bits, literal_bits, symbol_of, symbol_or, width_at, predicate_or, kind_by};
+
+use crate::attributes::{signed, truth_bits};
+use crate::quoted::behind_first;
+use crate::uses::text;
+use std::alloc::Global;
+use xf_grammar::number_at;
+use xf_ir::Kind;
+use xf_lex::Token;
+use xf_read_base::{Literal, Parts, Row};
+use xf_type::{ByteList, CmpKind, Duplicate, NoMemory, PayloadType, Width, wrap};
+
+/// Whether a width has room for a number.
+fn has_room(width: Width, negative: bool, number: u64) -> bool
+    ensures { result ≡ has_room width negative number }
+{
+    match (width, negative) {
+        (Width::I1, _) => number <= 1,
+        (Width::I8, true) => number <= 0x80,
+        (Width::I8, false) => number <= 0xff,
+        (Width::I16, true) => number <= 0x8000,
+        (Width::I16, false) => number <= 0xffff,
+        (Width::I32, true) => number <= 0x8000_0000,
+        (Width::I32, false) => number <= 0xffff_ffff,
+        (Width::I64 | Width::Index, true) => number <= 0x8000_0000_0000_0000,
+        (Width::I64 | Width::Index, false) => true,
+    }
+}
+
+/// The number of a literal of a width.
+fn integer_bits(width: Width, negative: bool, number: u64) -> u128
+    ensures { result ≡ integer_bits width negative number }
+{
+    if has_room(width, negative, number) {
+        u128::from(wrap(width, signed(negative, number)))
+    } else if negative {
+        u128::MAX - u128::from(number) + 1
+    } else {
+        u128::from(number)
+    }
+}
+
+fn literal_bits(tokens: &[Token], width: Width, literal: Option<Literal>) -> u128
+    ensures { result ≡ literal_bits tokens.now width literal }
+{
+    match literal {
+        None => 0,
+        Some(Literal::Truth(truth)) => u128::from(truth_bits(truth)),
+        Some(Literal::Integer { negative, token }) => {
+            integer_bits(width, negative, number_at(tokens, token))
+        }
+    }
+}
+
+/// The word of a symbol.
+fn symbol(alloc: Global, tokens: &[Token], at: usize) -> Result<ByteList, NoMemory>
+    ensures { IfOk result (λ symbol. symbol ≡ symbol_of tokens.now at) }
+{
+    ByteList::from_slice(alloc, behind_first(text(tokens, at)))
+}
+
+fn symbol_or(alloc: Global, tokens: &[Token], at: Option<usize>) -> Result<ByteList, NoMemory>
+    ensures { IfOk result (λ symbol. symbol ≡ symbol_or tokens.now at) }
+{
+    match at {
+        None => Ok(ByteList::new(alloc)),
+        Some(at) => symbol(alloc, tokens, at),
+    }
+}
+
+fn module_symbol(
+    alloc: Global,
+    tokens: &[Token],
+    at: Option<usize>,
+) -> Result<Option<ByteList>, NoMemory>
+    ensures { IfOk result (λ symbol. symbol ≡ option_map (symbol_of tokens.now) at) }
+{
+    match at {
+        None => Ok(None),
+        Some(at) => Ok(Some(symbol(alloc, tokens, at)?)),
+    }
+}
+
+/// The width that is stated at a number.
+fn width_at(parts: &Parts, at: usize) -> Width
+    ensures { result ≡ width_at parts.now at }
+{
+    match parts.types.get(at) {
+        None => Width::Index,
+        Some(PayloadType::Scalar(width)) => *width,
+        Some(PayloadType::Tensor(shape)) => shape.elem,
+    }
+}
+
+fn predicate_or(predicate: Option<CmpKind>) -> CmpKind
+    ensures { result ≡ predicate_or predicate }
+{
+    match predicate {
+        None => CmpKind::Eq,
+        Some(kind) => kind,
+    }
+}
+
+/// The kind of an operation, with the attributes of its own. Refuses for want of memory alone.
+pub fn kind_of(alloc: Global, tokens: &[Token], parts: &Parts) -> Result<Kind, NoMemory>
+    ensures { IfOk result (λ kind. kind ≡ kind_by tokens.now parts.now.row parts.now) }
+{
+    let width = width_at(parts, 0);
+    Ok(match parts.row {
+        Row::Module => Kind::Module {
+            symbol: module_symbol(alloc, tokens, parts.symbol)?,
+        },
+        Row::Function => Kind::Func {
+            symbol: symbol_or(alloc, tokens, parts.symbol)?,
+            private: parts.private,
+            results: parts.results.duplicate(alloc)?,
+        },
+        Row::Return => Kind::Return,
+        Row::Call => Kind::Call {
+            callee: symbol_or(alloc, tokens, parts.symbol)?,
+        },
+        Row::Constant => Kind::Constant {
+            width,
+            bits: literal_bits(tokens, width, parts.literal),
+        },
+        Row::Binary(kind) => Kind::Binary { kind, width },
+        Row::Compare => Kind::Compare {
+            kind: predicate_or(parts.predicate),
+            width,
+        },
+        Row::Select => Kind::Select { width },
+        Row::Convert(kind) => Kind::Convert {
+            kind,
+            from: width,
+            to: width_at(parts, 1),
+        },
+        Row::For => Kind::For { width },
+        Row::If => Kind::If,
+        Row::Yield => Kind::Yield,
+    })
+}

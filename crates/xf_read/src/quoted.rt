@@ -1,0 +1,104 @@
+//! What a string stands for.
+ghost use Rattle.std.specs.Prelude.{◌≡◌, ◌≤◌, drop, IfOk};
+ghost use Rattle.std.specs.Char.{digit_value};
+ghost use Rattle.xf_lex.specs.Bytes.{is_hex};
+ghost use Rattle.xf_read.specs.Values.{escaped_byte, step_of, decoded};
+
+use std::alloc::Global;
+use xf_type::{ByteList, NoMemory};
+
+/// What stands before a byte of a string.
+#[derive(Clone, Copy)]
+enum Escape {
+    /// Nothing that belongs to it.
+    Nothing,
+    /// A `\`.
+    Backslash,
+    /// A `\` and this hexadecimal digit.
+    Digit(u8),
+}
+
+/// What a byte of a string is.
+#[derive(Clone, Copy)]
+enum Step {
+    /// The quote behind the string.
+    End,
+    /// A part of an escape, which the next byte goes on with.
+    Wait(Escape),
+    /// The last of those that stand for this byte.
+    Byte(u8),
+}
+
+/// All bytes but the first.
+pub fn behind_first(bytes: &[u8]) -> &[u8]
+    ensures { result.now ≡ drop 1 bytes.now }
+{
+    match bytes {
+        [] => bytes,
+        [_, rest @ ..] => rest,
+    }
+}
+
+/// What a digit counts; a byte that is none counts 36.
+fn digit_value(b: u8) -> u32
+    ensures value { result ≡ digit_value b }
+    ensures small { result ≤ 36 }
+{
+    match b {
+        b'0'..=b'9' => u32::from(b - b'0'),
+        b'A'..=b'Z' => u32::from(b - b'A') + 10,
+        b'a'..=b'z' => u32::from(b - b'a') + 10,
+        _ => 36,
+    }
+}
+
+fn is_hex(b: u8) -> bool
+    ensures { result ≡ is_hex b }
+{
+    matches!(b, b'0'..=b'9' | b'a'..=b'f' | b'A'..=b'F')
+}
+
+/// The byte that a letter or a mark behind a `\` stands for.
+fn escaped_byte(b: u8) -> u8
+    ensures { result ≡ escaped_byte b }
+{
+    match b {
+        b'n' => b'\n',
+        b't' => b'\t',
+        b => b,
+    }
+}
+
+/// What a byte is behind that.
+fn step_of(escape: Escape, b: u8) -> Step
+    ensures { result ≡ step_of escape b }
+{
+    match escape {
+        Escape::Nothing if b == b'"' => Step::End,
+        Escape::Nothing if b == b'\\' => Step::Wait(Escape::Backslash),
+        Escape::Nothing => Step::Byte(b),
+        Escape::Backslash if is_hex(b) => Step::Wait(Escape::Digit(b)),
+        Escape::Backslash => Step::Byte(escaped_byte(b)),
+        Escape::Digit(a) => Step::Byte(((digit_value(a) * 16 + digit_value(b)) % 256) as u8),
+    }
+}
+
+/// The bytes that a string with its quotes stands for. Refuses for want of memory alone.
+pub fn decoded(alloc: Global, quoted: &[u8]) -> Result<ByteList, NoMemory>
+    ensures { IfOk result (λ bytes. bytes ≡ decoded quoted.now) }
+{
+    let mut bytes = ByteList::new(alloc);
+    let mut escape = Escape::Nothing;
+    let inner = behind_first(quoted);
+    for b in inner {
+        match step_of(escape, *b) {
+            Step::End => return Ok(bytes),
+            Step::Wait(next) => escape = next,
+            Step::Byte(byte) => {
+                bytes.push(byte)?;
+                escape = Escape::Nothing;
+            }
+        }
+    }
+    Ok(bytes)
+}

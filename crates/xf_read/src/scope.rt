@@ -1,0 +1,117 @@
+//! The names that are visible where an operation stands.
+ghost use Rattle.std.specs.Prelude.{◌≡◌, ◌≤◌, ◌∷◌, ◌++◌, [], is_some, length, take, drop, IfOk, OnOk};
+ghost use Rattle.std.specs.Option.{option_copied};
+ghost use Rattle.xf_read.specs.Scopes.{no_names, with_name};
+ghost use Rattle.xf_read.specs.Visible.{names_in, put_back, before, Grows};
+
+use std::alloc::Global;
+use std::collections::BTreeMap;
+use xf_ir::OpName;
+use xf_type::{NoMemory, TypeList};
+
+/// What defines the values of a name.
+#[derive(Clone, Copy, Debug, PartialEq, Eq)]
+pub enum Definer {
+    /// An operation: its results.
+    Results(OpName),
+    /// A block of an operation: its argument of that number.
+    Argument(OpName, u32),
+}
+
+/// What a name stands for: so many values, and the types of those that there are. A symbol stands
+/// for no value.
+#[derive(Debug, Drop)]
+pub struct Named {
+    pub count: u32,
+    pub definer: Definer,
+    pub types: TypeList,
+}
+
+/// A name that stands for something else than before.
+#[derive(Drop)]
+pub struct Change<'a> {
+    pub name: &'a [u8],
+    /// What it stood for.
+    pub before: Option<Named>,
+}
+
+/// The names that are visible, each with what it stands for, and the changes that led there.
+#[derive(Drop)]
+pub struct Scope<'a> {
+    pub visible: BTreeMap<&'a [u8], Named>,
+    pub changes: Vec<Change<'a>>,
+}
+
+impl<'a> Scope<'a> {
+    /// No names.
+    pub fn new(alloc: Global) -> Scope<'a>
+        ensures { names_in result ≡ no_names }
+    {
+        Scope {
+            visible: BTreeMap::new(alloc),
+            changes: Vec::new(alloc),
+        }
+    }
+
+    /// What a name stands for. It takes time in the logarithm of the number of names.
+    pub fn look(&self, name: &[u8]) -> Option<&Named>
+        ensures { option_copied result ≡ names_in self.now name.now }
+    {
+        self.visible.get(name)
+    }
+
+    /// Lets a name stand for something, and tells whether it stood for something before.
+    ///
+    /// Refuses for want of memory alone.
+    pub fn enter(&mut self, name: &'a [u8], named: Named) -> Result<bool, NoMemory>
+        ensures seen { IfOk result (λ seen. seen ≡ is_some (names_in self.old name.entry.now)) }
+        ensures names { OnOk result (names_in self.new ≡ with_name name.entry.now named (names_in self.old)) }
+        ensures grows { OnOk result (Grows self.old self.new) }
+    {
+        let before = self.visible.insert(name, named)?;
+        let seen = before.is_some();
+        self.changes.push(Change { name, before })?;
+        Ok(seen)
+    }
+
+    /// Lets a name stand for what it stood for before a change.
+    fn put_back(&mut self, change: Change<'a>) -> Result<(), NoMemory>
+        ensures names { OnOk result (names_in self.new ≡ put_back change.entry (names_in self.old)) }
+        ensures changes { OnOk result (self.new.changes ≡ self.old.changes) }
+    {
+        let Change { name, before } = change;
+        match before {
+            Some(named) => {
+                self.visible.insert(name, named)?;
+            }
+            None => {
+                self.visible.remove(name);
+            }
+        }
+        Ok(())
+    }
+
+    /// How many changes led here.
+    pub fn height(&self) -> usize
+        ensures { result ≡ length self.now.changes.items }
+    {
+        self.changes.len()
+    }
+
+    /// Takes all changes but the first ones back.
+    ///
+    /// Refuses for want of memory alone.
+    pub fn leave(&mut self, height: usize) -> Result<(), NoMemory>
+        requires { height ≤ length self.old.changes.items }
+        ensures names { OnOk result (names_in self.new ≡ before (drop height self.old.changes.items) (names_in self.old)) }
+        ensures changes { OnOk result (self.new.changes.items ≡ take height self.old.changes.items) }
+    {
+        'changes: while self.changes.len() > height {
+            match self.changes.pop() {
+                Some(change) => self.put_back(change)?,
+                None => return Ok(()),
+            }
+        }
+        Ok(())
+    }
+}

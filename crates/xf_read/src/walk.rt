@@ -1,0 +1,206 @@
+//! The walk over all operations of a text, which builds the module and finds the faults.
+ghost use Rattle.std.specs.Prelude.{◌≡◌, ◌+◌, ◌^◌, ◌<◌, ℕ, [], ◌∷◌, IfOk, OnOk};
+ghost use Rattle.xf_ir.specs.View.{ops_of, regions_of};
+ghost use Rattle.xf_read.specs.Meant.{joined, yield_tree, left_out, nodes_meant, bodies_meant, tree_meant, place_of, yield_places, nodes_places, bodies_places};
+ghost use Rattle.xf_read.specs.Names.{no_faults, yield_count, nodes_count, bodies_count, tree_count, inside, behind, head_faults, nodes_faults, bodies_faults, tree_faults};
+ghost use Rattle.xf_read.specs.Syntax.{lacks_yield};
+ghost use Rattle.xf_read.specs.Types.{args_by};
+ghost use Rattle.xf_read.specs.View.{nodes_of, bodies_of};
+ghost use Rattle.xf_read.specs.Visible.{names_in, Grows};
+ghost use Rattle.xf_read.specs.Walks.{IsHead, Moved, Same, head_tree};
+
+use crate::defining::{enter_args, enter_names};
+use crate::faults::Faults;
+use crate::head::{Head, head_of};
+use crate::reader::{ends_in_yield, may_end_open};
+use crate::scope::Scope;
+use crate::tree::{Body, Node};
+use std::alloc::Global;
+use xf_ir::{AttrList, Block, Kind, Op, OpName, ValueList};
+use xf_lex::Token;
+use xf_read_base::Parts;
+use xf_span::Place;
+use xf_type::{Duplicate, ListOf, NoMemory, TypeList};
+
+/// The places of operations, by their numbers.
+pub type PlaceOfList = ListOf<Place>;
+
+/// Where the walk stands: the names that are visible, what was found so far, and the number of the
+/// next operation.
+#[derive(Drop)]
+pub struct Walk<'a> {
+    pub scope: Scope<'a>,
+    pub faults: Faults,
+    pub places: PlaceOfList,
+    pub next: u64,
+}
+
+/// The place of the token with a number; behind the last that of the first byte.
+pub fn place_of(tokens: &[Token], at: usize) -> Place
+    ensures { result ≡ place_of tokens.now at }
+{
+    if at < tokens.len() {
+        tokens[at].place
+    } else {
+        Place { line: 1, col: 1 }
+    }
+}
+
+/// A yield without operands.
+fn plain_yield(alloc: Global, number: u64) -> Op
+    ensures { result ≡ yield_tree number }
+{
+    Op {
+        name: OpName(number),
+        kind: Kind::Yield,
+        attrs: AttrList::new(alloc),
+        operands: ValueList::new(alloc),
+        results: TypeList::new(alloc),
+        regions: Vec::new(alloc),
+    }
+}
+
+/// Whether a body lacks the yield that it is to end in.
+fn lacks_yield(parts: &Parts, body: &Body) -> bool
+    ensures { result ≡ lacks_yield parts.now body.now.nodes }
+{
+    may_end_open(parts) && !ends_in_yield(&body.nodes)
+}
+
+/// Adds the yield that is left out at the end of a body.
+fn end_body(
+    alloc: Global,
+    tokens: &[Token],
+    walk: &mut Walk,
+    parts: &Parts,
+    body: &Body,
+    ops: &mut Vec<Op>,
+) -> Result<(), NoMemory>
+    requires { walk.old.next + yield_count parts.now body.now.nodes < 2 ^ 64 }
+    ensures ops { OnOk result (ops_of ops.new.items ≡ joined (ops_of ops.old.items) (left_out parts.now body.now.nodes walk.old.next)) }
+    ensures moved { OnOk result (Moved walk.old walk.new (yield_count parts.now body.now.nodes) (yield_places tokens.now parts.now body.now.nodes body.now.close) no_faults) }
+    ensures scope { OnOk result (Same walk.old.scope walk.new.scope) }
+{
+    if lacks_yield(parts, body) {
+        ops.push(plain_yield(alloc, walk.next))?;
+        walk.places.push(place_of(tokens, body.close))?;
+        walk.next += 1;
+    }
+    Ok(())
+}
+
+/// Notes the head of an operation, which begins at this place, and lets its arguments stand for
+/// their names.
+fn enter_head<'a>(
+    alloc: Global,
+    tokens: &'a [Token],
+    walk: &mut Walk<'a>,
+    place: Place,
+    parts: &Parts,
+    head: &Head,
+) -> Result<(), NoMemory>
+    requires room { walk.old.next + 1 < 2 ^ 64 }
+    requires head { (first : ℕ) × IsHead tokens.now (names_in walk.old.scope) first parts.now head.now }
+    ensures moved { OnOk result ((first : ℕ) → IsHead tokens.now (names_in walk.old.scope) first parts.now head.now → Moved walk.old walk.new 1 (place ∷ []) (head_faults tokens.now walk.old.next first parts.now (names_in walk.old.scope))) }
+    ensures scope { OnOk result (names_in walk.new.scope ≡ inside tokens.now walk.old.next parts.now (names_in walk.old.scope)) }
+    ensures grows { OnOk result (Grows walk.old.scope walk.new.scope) }
+{
+    let number = walk.next;
+    let args = parts.args.as_slice();
+    let twice = enter_args(alloc, tokens, &mut walk.scope, number, &head.args, args)?;
+    walk.places.push(place)?;
+    walk.faults = walk.faults.with(head.faults).with_twice(twice);
+    walk.next = number + 1;
+    Ok(())
+}
+
+/// An operation of a head and its blocks.
+fn with_regions(number: u64, head: Head, regions: Vec<Block>) -> Op
+    ensures { result ≡ head_tree number head (regions_of regions.items) }
+{
+    Op {
+        name: OpName(number),
+        kind: head.kind,
+        attrs: head.attrs,
+        operands: head.operands,
+        results: head.results,
+        regions,
+    }
+}
+
+/// The operation of a node, with all that it holds; its place is this. Refuses for want of memory
+/// alone.
+#[cycle(walk)]
+pub fn operation<'a>(
+    alloc: Global,
+    tokens: &'a [Token],
+    walk: &mut Walk<'a>,
+    place: Place,
+    node: &Node,
+) -> Result<Op, NoMemory>
+    requires { walk.old.next + tree_count node.now < 2 ^ 64 }
+    ensures op { IfOk result (λ op. op ≡ tree_meant tokens.now walk.old.next (names_in walk.old.scope) node.now) }
+    ensures moved { OnOk result (Moved walk.old walk.new (tree_count node.now) (place ∷ bodies_places tokens.now node.now.parts node.now.bodies) (tree_faults tokens.now walk.old.next (names_in walk.old.scope) node.now)) }
+    ensures scope { OnOk result (names_in walk.new.scope ≡ behind tokens.now walk.old.next node.now.parts (names_in walk.old.scope)) }
+    ensures grows { OnOk result (Grows walk.old.scope walk.new.scope) }
+{
+    let number = walk.next;
+    let parts = &node.parts;
+    let head = head_of(alloc, tokens, &walk.scope, node.first, parts)?;
+    let height = walk.scope.height();
+    enter_head(alloc, tokens, walk, place, parts, &head)?;
+    let regions = blocks(alloc, tokens, walk, parts, &head.args, &node.bodies)?;
+    walk.scope.leave(height)?;
+    enter_names(alloc, tokens, &mut walk.scope, number, &head.results, parts)?;
+    Ok(with_regions(number, head, regions))
+}
+
+/// The operations of nodes, in order.
+#[cycle(walk)]
+fn operations<'a>(
+    alloc: Global,
+    tokens: &'a [Token],
+    walk: &mut Walk<'a>,
+    nodes: &[Node],
+) -> Result<Vec<Op>, NoMemory>
+    requires { walk.old.next + nodes_count (nodes_of nodes.now) < 2 ^ 64 }
+    ensures ops { IfOk result (λ ops. ops_of ops.items ≡ nodes_meant tokens.now walk.old.next (names_in walk.old.scope) (nodes_of nodes.now)) }
+    ensures moved { OnOk result (Moved walk.old walk.new (nodes_count (nodes_of nodes.now)) (nodes_places tokens.now (nodes_of nodes.now)) (nodes_faults tokens.now walk.old.next (names_in walk.old.scope) (nodes_of nodes.now))) }
+    ensures scope { OnOk result (Same walk.old.scope walk.new.scope) }
+{
+    let height = walk.scope.height();
+    let mut ops = Vec::new(alloc);
+    for node in nodes {
+        let place = place_of(tokens, node.first);
+        let op = operation(alloc, tokens, walk, place, node)?;
+        ops.push(op)?;
+    }
+    walk.scope.leave(height)?;
+    Ok(ops)
+}
+
+/// The blocks of bodies, in order, with the yields that are left out.
+#[cycle(walk)]
+fn blocks<'a>(
+    alloc: Global,
+    tokens: &'a [Token],
+    walk: &mut Walk<'a>,
+    parts: &Parts,
+    args: &TypeList,
+    bodies: &[Body],
+) -> Result<Vec<Block>, NoMemory>
+    requires room { walk.old.next + bodies_count parts.now (bodies_of bodies.now) < 2 ^ 64 }
+    requires args { args.now ≡ args_by parts.now.row parts.now }
+    ensures blocks { IfOk result (λ blocks. regions_of blocks.items ≡ bodies_meant tokens.now walk.old.next parts.now (names_in walk.old.scope) (bodies_of bodies.now)) }
+    ensures moved { OnOk result (Moved walk.old walk.new (bodies_count parts.now (bodies_of bodies.now)) (bodies_places tokens.now parts.now (bodies_of bodies.now)) (bodies_faults tokens.now walk.old.next parts.now (names_in walk.old.scope) (bodies_of bodies.now))) }
+    ensures scope { OnOk result (Same walk.old.scope walk.new.scope) }
+{
+    let mut made = Vec::new(alloc);
+    for body in bodies {
+        let mut ops = operations(alloc, tokens, walk, &body.nodes)?;
+        end_body(alloc, tokens, walk, parts, body, &mut ops)?;
+        let args = args.duplicate(alloc)?;
+        made.push(Block { args, ops })?;
+    }
+    Ok(made)
+}
