@@ -1,10 +1,10 @@
 -- A text that is read has as many operations as were counted, and no more than a text may have.
-use Rattle.std.proofs.Common.{◌≡◌, ℕ, zero, suc, ◌+◌, ◌<◌, ◌≤◌, Bool, true, false, nat_lt, not, ◌&&◌, ◌==◌, List, [], ◌∷◌, length, Ok, Err, refl, sym, ap, subst, ◌∙◌, arith}
+use Rattle.std.proofs.Common.{◌≡◌, ℕ, zero, suc, ◌+◌, ◌<◌, ◌≤◌, Bool, true, false, nat_lt, ◌==◌, List, length, Ok, Err, refl, subst, ◌∙◌, arith}
 use Rattle.std.specs.Prelude.{if◌then◌else◌, codes}
 use Rattle.std.proofs.lemmas.Bool.{ltb-true}
 use Rattle.xf_lex.specs.declared.token.Token.{Token}
-use Rattle.xf_grammar.specs.Tokens.{Seen, seen, looks, says, comma, open_brace, close_brace, is_kind}
-use Rattle.xf_grammar.specs.Reading.{Out, ◌>>=◌, Reader, more, one_or_more}
+use Rattle.xf_grammar.specs.Tokens.{Seen, seen, looks, says, comma, open_brace, close_brace}
+use Rattle.xf_grammar.specs.Reading.{Out, ◌>>=◌, Reader, more}
 use Rattle.xf_grammar.specs.Grammar.{Grammar, finish, refuse, take, peek, both, listed, read}
 use Rattle.xf_read_base.specs.declared.due.Due.{Due}
 use Rattle.xf_read_base.specs.declared.due.Due.TheVariants as due
@@ -22,8 +22,8 @@ use Rattle.xf_read.specs.declared.fault.Cause.TheVariants as cause
 use Rattle.xf_read.specs.declared.tree.File.{File}
 use Rattle.xf_read.specs.Meant.{file_count}
 use Rattle.xf_read.specs.Names.{yield_count, nodes_count, bodies_count, tree_count}
-use Rattle.xf_read.specs.Syntax.{Counted, From, part, most_open, most_operations, too_many, limited, begins_at, inside, behind, may_end_open, lacks_yield, block, yielded, closed, braced, single, with_else, bodies_at, tail_at, tree, node_at, closes, nodes_at, is_end, ended, written_file, unwritten_file, file_at}
-use Rattle.xf_read.specs.Tree.{Nodes, no_nodes, node, Bodies, no_bodies, body, Tree, Block, cons}
+use Rattle.xf_read.specs.Syntax.{Counted, From, part, most_open, most_operations, too_many, begins_at, inside, behind, may_end_open, lacks_yield, yielded, closed, braced, single, with_else, bodies_at, tail_at, node_at, closes, nodes_at, is_end, ended, written_file, unwritten_file, file_at}
+use Rattle.xf_read.specs.Tree.{Nodes, Bodies, no_bodies, body, Block}
 
 -- ---- what a grammar keeps
 
@@ -198,9 +198,9 @@ many_not : {A : Type 0} (at : ℕ) (r : Out A Cause) (x : A × ℕ) → too_many
 many_not at (Ok y) x e = absurd (cc)
 many_not at (Err y) x e = many_err (y.0 == at) y at x e
   where
-  many_err : {A : Type 0} (b : Bool) (y : ℕ × Cause) (at : ℕ) (x : A × ℕ) → (if b then Err y else Err (at, cause.TooManyOps)) ≡ Ok x → ⊥
-  many_err true y at x e = absurd (cc)
-  many_err false y at x e = absurd (cc)
+    many_err : {A : Type 0} (b : Bool) (y : ℕ × Cause) (at : ℕ) (x : A × ℕ) → (if b then Err y else Err (at, cause.TooManyOps)) ≡ Ok x → ⊥
+    many_err true y at x e = absurd (cc)
+    many_err false y at x e = absurd (cc)
 
 limited_few : {A : Type 0} (b : Bool) (at : ℕ) (r : Out A Cause) (x : A × ℕ) → (if b then r else too_many at r) ≡ Ok x → b ≡ true
 limited_few true at r x e = refl

@@ -1,9 +1,8 @@
 -- An operation from its head and its regions.
-use Rattle.std.proofs.Common.{◌≡◌, ℕ, ◌+◌, Option, Some, None, false, refl, sym, ap, ◌∙◌, List}
+use Rattle.std.proofs.Common.{◌≡◌, ℕ, ◌+◌, Option, false, ap, ◌∙◌, List}
 use Rattle.xf_lex.specs.declared.token.Token.{Token}
 use Rattle.xf_read_base.specs.declared.parts.Parts.{Parts}
 use Rattle.xf_ir.specs.Tree.{Regions}
-use Rattle.xf_read.specs.declared.faults.Faults.{Faults}
 use Rattle.xf_read.specs.declared.head.Head.{Head}
 use Rattle.xf_read.specs.Meant.{bodies_meant, tree_meant}
 use Rattle.xf_read.specs.Names.{op_name, earlier, with_faults, twice_fault, args_twice, entries_twice, names_twice, inside, head_faults}

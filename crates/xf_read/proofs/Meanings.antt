@@ -1,11 +1,10 @@
 -- A text spells one module or has one fault, and not both.
-use Rattle.std.proofs.Common.{◌≡◌, ◌⊎◌, inl, inr, ℕ, suc, ◌+◌, ◌<◌, List, length, Option, Some, None, Ok, Err, refl, sym, ap, subst, ◌∙◌, arith}
+use Rattle.std.proofs.Common.{◌≡◌, inl, inr, ℕ, suc, ◌<◌, List, length, Option, Some, None, Ok, Err, refl, sym, ap, subst, ◌∙◌, arith}
 use Rattle.xf_span.specs.declared.fault.Fault.{Fault}
 use Rattle.xf_lex.specs.declared.token.Token.{Token}
-use Rattle.xf_lex.specs.Lexes.{Lexes, HasFault}
+use Rattle.xf_lex.specs.Lexes.{Lexes}
 use Rattle.xf_grammar.specs.Reading.{Out}
 use Rattle.xf_lex.proofs.Lexing.{one_reading, one_fault, never_both}
-use Rattle.xf_ir.specs.declared.op.Module.{Module}
 use Rattle.xf_read.specs.declared.fault.Cause.{Cause}
 use Rattle.xf_read.specs.declared.fault.SyntaxFault.{SyntaxFault}
 use Rattle.xf_read.specs.declared.fault.SyntaxFault.TheVariants as stopped
@@ -14,7 +13,7 @@ use Rattle.xf_read.specs.declared.tree.File.{File}
 use Rattle.xf_read.specs.Laws.{IsText, AtNoText}
 use Rattle.xf_read.specs.Meant.{meant, file_faults}
 use Rattle.xf_read.specs.Names.{no_faults}
-use Rattle.xf_read.specs.Spells.{Spells, StopsAt, Misnames, HasTokensWith, Misspells, SpellsOne, MisspellsOne, SpellsOrNot, IsUnread, unread, first_fault, syntax_fault}
+use Rattle.xf_read.specs.Spells.{StopsAt, Misnames, SpellsOne, MisspellsOne, SpellsOrNot, IsUnread, unread, first_fault, syntax_fault}
 use Rattle.xf_read.specs.Syntax.{Fails, file_at}
 
 enough : (all : List Token) → length all < suc (length all)

@@ -1,6 +1,6 @@
 -- The module that a file means: operations are named from 0 in preorder, and the module is 0. Where a check of names or types
 -- finds a fault, it is any.
-use Rattle.std.specs.Prelude.{ℕ, ◌+◌, List, [], ◌∷◌, ◌++◌, map, Option, Some, None, Bool, if◌then◌else◌, slice_get}
+use Rattle.std.specs.Prelude.{ℕ, ◌+◌, List, [], ◌∷◌, ◌++◌, map, Option, Some, None, if◌then◌else◌, slice_get}
 use Rattle.xf_span.specs.declared.place.Place.{Place}
 use Rattle.xf_lex.specs.declared.token.Token.{Token}
 use Rattle.xf_lex.specs.Lexes.{first_place}

@@ -9,7 +9,6 @@ use Rattle.xf_span.specs.Fault.{fault_at, numbered_fault}
 use Rattle.xf_lex.specs.declared.token.Token.{Token}
 use Rattle.xf_lex.specs.Lexes.{Lexes, HasFault, first_place, place_after}
 use Rattle.xf_grammar.specs.Tokens.{seen}
-use Rattle.xf_read_base.specs.declared.due.Due.{Due}
 use Rattle.xf_read_base.specs.declared.verdict.Verdict.{Verdict}
 use Rattle.xf_read_base.specs.declared.verdict.Verdict.TheVariants.{Syntax, OutOfProfile, NotBuilt}
 use Rattle.xf_read_base.specs.Verdicts.{verdict}

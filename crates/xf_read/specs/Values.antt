@@ -1,5 +1,5 @@
 -- What the parts of an operation mean: its kind, and its attributes.
-use Rattle.std.specs.Prelude.{ℕ, ◌+◌, ◌-◌, ◌*◌, ◌%◌, ◌^◌, ℤ, pos, neg_ℤ, List, [], ◌∷◌, drop, Option, Some, None, Bool, true, false, ◌==◌, if◌then◌else◌, slice_get}
+use Rattle.std.specs.Prelude.{ℕ, ◌+◌, ◌-◌, ◌*◌, ◌%◌, ◌^◌, ℤ, pos, neg_ℤ, List, [], ◌∷◌, drop, Option, Some, None, Bool, ◌==◌, if◌then◌else◌, slice_get}
 use Rattle.std.specs.Char.{digit_value}
 use Rattle.std.specs.Option.{option_map}
 use Rattle.std.specs.Ordering.{nat_cmp, match_ordering}

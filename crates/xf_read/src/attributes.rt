@@ -31,11 +31,7 @@ pub fn truth_bits(truth: bool) -> u64
 }
 
 /// The value of an attribute. Refuses for want of memory alone.
-fn value_of_entry(
-    alloc: Global,
-    tokens: &[Token],
-    value: EntryValue,
-) -> Result<AttrValue, NoMemory>
+fn value_of_entry(alloc: Global, tokens: &[Token], value: EntryValue) -> Result<AttrValue, NoMemory>
     ensures { IfOk result (λ read. read ≡ value_of_entry tokens.now value) }
 {
     Ok(match value {
@@ -57,10 +53,7 @@ fn value_of_entry(
 }
 
 /// The attributes of a map, in its order. Refuses for want of memory alone.
-fn attributes_of(
-    alloc: Global,
-    values: BTreeMap<&[u8], AttrValue>,
-) -> Result<AttrList, NoMemory>
+fn attributes_of(alloc: Global, values: BTreeMap<&[u8], AttrValue>) -> Result<AttrList, NoMemory>
     ensures { IfOk result (λ attrs. attrs ≡ attrs_in values.entry.entries) }
 {
     let mut attrs = AttrList::new(alloc);

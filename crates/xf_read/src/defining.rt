@@ -127,6 +127,13 @@ pub fn enter_names<'a>(
     ensures grows { OnOk result (Grows scope.old scope.new) }
 {
     enter_symbol(alloc, tokens, scope, number, function_symbol(parts))?;
-    enter_results(alloc, tokens, scope, number, types, parts.defines.as_slice())?;
+    enter_results(
+        alloc,
+        tokens,
+        scope,
+        number,
+        types,
+        parts.defines.as_slice(),
+    )?;
     Ok(())
 }

@@ -120,7 +120,11 @@ const MISMATCHED: [Row; 6] = [
         2,
         3,
     ),
-    ("func.func @f(%a: i32) -> i32 {\n  return %a : i32, i32\n}", 2, 3),
+    (
+        "func.func @f(%a: i32) -> i32 {\n  return %a : i32, i32\n}",
+        2,
+        3,
+    ),
     (
         "func.func @f(%a: i32) {\n  scf.for %i = %a to %a step %a {\n  }\n  return\n}",
         2,
@@ -145,9 +149,11 @@ fn stated_types_are_those_of_the_values(rt: HostRuntime) {
 
 #[test]
 fn each_check_goes_over_the_whole_text(rt: HostRuntime) {
-    let text = "func.func @f(%a: i32) {\n  %b = arith.addi %a, %a : i64\n  %a = arith.constant 1 : i32\n  return\n}";
+    let text =
+        "func.func @f(%a: i32) {\n  %b = arith.addi %a, %a : i64\n  %a = arith.constant 1 : i32\n  return\n}";
     assert_fault(&rt, rt.alloc(), text, Fault::at(Code::A3, place(3, 3)));
-    let text = "func.func @f(%a: i32) -> i32 {\n  %b = arith.addi %a, %a : i64\n  %a = arith.constant 1 : i32\n  return %d : i32\n}";
+    let text =
+        "func.func @f(%a: i32) -> i32 {\n  %b = arith.addi %a, %a : i64\n  %a = arith.constant 1 : i32\n  return %d : i32\n}";
     assert_fault(&rt, rt.alloc(), text, Fault::at(Code::A2, place(4, 10)));
 }
 
@@ -155,7 +161,12 @@ fn each_check_goes_over_the_whole_text(rt: HostRuntime) {
 fn tokens_and_syntax_go_before_names(rt: HostRuntime) {
     let alloc = rt.alloc();
     assert_fault(&rt, alloc, "+", Fault::at(Code::L1, place(1, 1)));
-    assert_fault(&rt, alloc, "func.func @f() {", Fault::at(Code::A1, place(1, 17)));
+    assert_fault(
+        &rt,
+        alloc,
+        "func.func @f() {",
+        Fault::at(Code::A1, place(1, 17)),
+    );
     let divided = "func.func @f() {\n  %a = arith.divsi %b, %b : i32\n}";
     assert_fault(&rt, alloc, divided, Fault::out_of_profile(place(2, 8), 2));
     let tensor = "func.func @f(%t: tensor<4xi32>) {\n  return\n}";
@@ -211,7 +222,15 @@ fn uses_stand_for_their_values(rt: HostRuntime) {
         op: OpName(3),
         num: 0,
     };
-    assert!(rt; matches!(sum.kind, Kind::Binary { kind: BinKind::Addi, width: Width::I32 }));
+    assert!(rt;
+        matches!(
+            sum.kind,
+            Kind::Binary {
+                kind: BinKind::Addi,
+                width: Width::I32
+            }
+        )
+    );
     assert_eq!(rt; sum.operands.as_slice(), [iteration, argument].as_slice());
     assert_eq!(rt; op(&rt, &read, 8).operands.as_slice(), [result].as_slice());
     assert_eq!(rt; op(&rt, &read, 3).results.len(), 1);
@@ -240,7 +259,9 @@ fn literals_are_numbers_of_their_width_where_they_fit(rt: HostRuntime) {
     }
     match &op(&rt, &read, 1).kind {
         Kind::Func {
-            symbol, private, ..
+            symbol,
+            private,
+            ..
         } => {
             assert_eq!(rt; symbol.as_slice(), b"f".as_slice());
             assert!(rt; *private);
@@ -251,7 +272,8 @@ fn literals_are_numbers_of_their_width_where_they_fit(rt: HostRuntime) {
     assert_eq!(rt; read.places.get(1).copied(), Some(place(2, 3)));
 }
 
-const ATTRIBUTES: &str = r#"func.func @f() attributes {z = -1 : i8, b = "a\"\\\n\t\41", y = 7, aa, a = true} {
+const ATTRIBUTES: &str =
+    r#"func.func @f() attributes {z = -1 : i8, b = "a\"\\\n\t\41", y = 7, aa, a = true} {
   return
 }"#;
 
@@ -263,10 +285,34 @@ fn attributes_are_sorted_by_their_names(rt: HostRuntime) {
     for i in 0..5 {
         assert_eq!(rt; attr(&rt, function, i).name.as_slice(), names[i]);
     }
-    assert!(rt; matches!(attr(&rt, function, 0).value, AttrValue::Int { width: Width::I1, bits: 1 }));
+    assert!(rt;
+        matches!(
+            attr(&rt, function, 0).value,
+            AttrValue::Int {
+                width: Width::I1,
+                bits: 1
+            }
+        )
+    );
     assert!(rt; matches!(attr(&rt, function, 1).value, AttrValue::Unit));
-    assert!(rt; matches!(attr(&rt, function, 3).value, AttrValue::Int { width: Width::I64, bits: 7 }));
-    assert!(rt; matches!(attr(&rt, function, 4).value, AttrValue::Int { width: Width::I8, bits: 255 }));
+    assert!(rt;
+        matches!(
+            attr(&rt, function, 3).value,
+            AttrValue::Int {
+                width: Width::I64,
+                bits: 7
+            }
+        )
+    );
+    assert!(rt;
+        matches!(
+            attr(&rt, function, 4).value,
+            AttrValue::Int {
+                width: Width::I8,
+                bits: 255
+            }
+        )
+    );
     match &attr(&rt, function, 2).value {
         AttrValue::Text(bytes) => assert_eq!(rt; bytes.as_slice(), b"a\"\\\n\tA".as_slice()),
         _ => panic!(rt; "no string"),

@@ -1,6 +1,5 @@
 use Rattle.std.proofs.Common.{◌<◌, ◌≤◌, suc, length, sym, subst, arith}
 use Rattle.xf_lex.specs.Lexes.{Lexes}
-use Rattle.xf_read.specs.Laws.{AtNoText}
 use Rattle.xf_read.specs.Meant.{file_count}
 use Rattle.xf_read.specs.Spells.{IsUnread}
 use Rattle.xf_read.specs.Syntax.{most_operations}

@@ -1,4 +1,4 @@
-use Rattle.std.proofs.Common.{◌≡◌, ◌≤◌, ◌-◌, length, ap, sym, ◌∙◌, arith, slice_index_or}
+use Rattle.std.proofs.Common.{◌≡◌, ◌≤◌, ◌-◌, length, ap, ◌∙◌, arith, slice_index_or}
 use Rattle.xf_lex.specs.Lexes.{place_after}
 use Rattle.xf_read.proofs.Stops.{stop_behind}
 use Rattle.xf_read.proofs.stop.stop_place.Goals as goal

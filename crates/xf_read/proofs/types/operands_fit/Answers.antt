@@ -1,4 +1,4 @@
-use Rattle.std.proofs.Common.{◌≡◌, true, false, sym, ap, ◌∙◌, get_or, length, arith}
+use Rattle.std.proofs.Common.{◌≡◌, true, false, sym, ap, ◌∙◌, get_or, arith}
 use Rattle.xf_read_base.specs.declared.parts.Ref.{Ref}
 use Rattle.xf_read.specs.Names.{operands_fit}
 use Rattle.xf_read.specs.Types.{stated_by, fits}

@@ -1,4 +1,4 @@
-use Rattle.std.proofs.Common.{get_or, sym, ◌∙◌, arith}
+use Rattle.std.proofs.Common.{sym, ◌∙◌, arith}
 use Rattle.xf_read_base.specs.declared.parts.Ref.{Ref}
 use Rattle.xf_read.specs.Names.{undefined_in}
 use Rattle.xf_read.specs.Visible.{names_in}

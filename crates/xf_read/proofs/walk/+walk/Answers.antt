@@ -1,4 +1,4 @@
-use Rattle.std.proofs.Common.{◌≡◌, ℕ, ◌+◌, ◌++◌, ◌∷◌, [], ◌≤◌, List, length, get_or, drop, refl, sym, ap, subst, ◌∙◌, arith}
+use Rattle.std.proofs.Common.{◌≡◌, ◌+◌, ◌++◌, ◌∷◌, ◌≤◌, length, get_or, sym, ap, subst, ◌∙◌, arith}
 use Rattle.std.proofs.lemmas.List.{at_drop_all}
 use Rattle.xf_ir.specs.Tree.{Body as IrBlock}
 use Rattle.xf_ir.specs.View.{ops_of, regions_of}
@@ -7,8 +7,8 @@ use Rattle.xf_read.specs.Meant.{joined, left_out, nodes_meant, bodies_meant, nod
 use Rattle.xf_read.specs.Names.{with_faults, nodes_count, yield_count, bodies_count, tree_count, nodes_faults, bodies_faults, tree_faults}
 use Rattle.xf_read.specs.Tree.{Tree, Block}
 use Rattle.xf_read.specs.View.{nodes_of, bodies_of, tree_of}
-use Rattle.xf_read.specs.Visible.{names_in, Grows}
-use Rattle.xf_read.specs.Walks.{Moved, Same, joined_regions}
+use Rattle.xf_read.specs.Visible.{names_in}
+use Rattle.xf_read.specs.Walks.{Moved, joined_regions}
 use Rattle.xf_read.proofs.Joining.{joined_none, joined_regions_none}
 use Rattle.xf_read.proofs.Scoping.{grows_on, grows_from, same_on, back}
 use Rattle.xf_read.proofs.Walking.{ops_more, faults_more, places_more, count_more, blocks_more, block_faults_more, block_places_more, block_next_more, tree_faults_are, tree_places_are, tree_next_is}
@@ -43,10 +43,10 @@ blocks-loop-body-preserved t c =
     record {
       next = block_next_more all p bs i d is c.loop-body-test.true w.next v.next u.next (c.args.walk.now.next + bodies_count p (bodies_of bs)) next end c.loop-body.invariant.next;
       regions = blocks_more all p bs i d is c.loop-body-test.true w.next u.next s c.loop-body.made.items c.push.new.self.items b (bodies_meant all c.args.walk.now.next p s (bodies_of bs)) (c.in_ok-args.ensures ∙ c.requires.args) ops size
-        c.in_ok-push.ensures.items c.loop-body.invariant.regions;
+          c.in_ok-push.ensures.items c.loop-body.invariant.regions;
       places = block_places_more all p bs i d is c.loop-body-test.true w.places v.places u.places (c.args.walk.now.places ++ bodies_places all p (bodies_of bs)) places c.in_ok-end_body.ensures.moved.places_are c.loop-body.invariant.places;
       faults = block_faults_more all p bs i d is c.loop-body-test.true w.next u.next s w.faults v.faults u.faults (with_faults c.args.walk.now.faults (bodies_faults all c.args.walk.now.next p s (bodies_of bs))) faults
-        c.in_ok-end_body.ensures.moved.faults_are size c.loop-body.invariant.faults;
+          c.in_ok-end_body.ensures.moved.faults_are size c.loop-body.invariant.faults;
       scope = same_on c.args.walk.now.scope v.scope u.scope (same_on c.args.walk.now.scope w.scope v.scope c.loop-body.invariant.scope c.in_ok-ops.ensures.scope) c.in_ok-end_body.ensures.scope;
     }
 
@@ -105,10 +105,10 @@ operations-loop-node-preserved t c =
     record {
       next = count_more all ts i d is c.loop-node-test.true w.next v.next (a.next + nodes_count (nodes_of ts)) moved.next c.loop-node.invariant.next;
       ops = ops_more all ts i d is c.loop-node-test.true w.next v.next (names_in w.scope) (names_in v.scope) c.loop-node.ops.items c.push.new.self.items c.in_ok-op.op (nodes_meant all a.next s (nodes_of ts)) c.in_ok-op.ensures.op moved.next
-        c.in_ok-op.ensures.scope c.in_ok-push.ensures.items c.loop-node.invariant.ops;
+          c.in_ok-op.ensures.scope c.in_ok-push.ensures.items c.loop-node.invariant.ops;
       places = places_more all ts i d is c.loop-node-test.true w.places v.places (a.places ++ nodes_places all (nodes_of ts)) places c.loop-node.invariant.places;
       faults = faults_more all ts i d is c.loop-node-test.true w.next v.next (names_in w.scope) (names_in v.scope) w.faults v.faults (with_faults a.faults (nodes_faults all a.next s (nodes_of ts))) moved.faults_are moved.next
-        c.in_ok-op.ensures.scope c.loop-node.invariant.faults;
+          c.in_ok-op.ensures.scope c.loop-node.invariant.faults;
       grows = grows_on a.scope w.scope v.scope c.loop-node.invariant.grows c.in_ok-op.ensures.grows;
     }
 

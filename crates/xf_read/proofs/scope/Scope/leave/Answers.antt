@@ -1,6 +1,5 @@
 use Rattle.std.proofs.Common.{◌≡◌, ◌≤◌, ◌+◌, ◌∷◌, ◌++◌, [], length, take, drop, sym, ap, ◌∙◌, arith}
 use Rattle.std.proofs.lemmas.List.{length-append}
-use Rattle.xf_read.specs.declared.scope.Change.{Change}
 use Rattle.xf_read.specs.Visible.{names_in, before}
 use Rattle.xf_read.proofs.Scoping.{one_back, take_last}
 use Rattle.xf_read.proofs.scope.Scope.leave.Goals as goal
