@@ -1,5 +1,7 @@
 pub mod HeadsWithin
 pub mod KeptLemmas
 pub mod Place
+pub mod ReadAgain
+pub mod TailLemmas
 pub mod TreeLemmas
 pub mod TreesWithin

@@ -3,3 +3,4 @@ pub mod Syntax
 pub mod Tree
 pub mod View
 pub mod Within
+pub mod Written
