@@ -1,4 +1,5 @@
 pub mod HeadsWithin
+pub mod IsRead
 pub mod KeptLemmas
 pub mod Place
 pub mod ReadAgain

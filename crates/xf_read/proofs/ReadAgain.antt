@@ -29,7 +29,7 @@ use Rattle.xf_read_base.proofs.HeadLaws.{heads_read_again}
 use Rattle.xf_read_base.proofs.Tells.{dictionary_tells}
 use Rattle.xf_read.specs.declared.fault.Cause.{Cause}
 use Rattle.xf_read.specs.Tree.{Nodes, no_nodes, node, Bodies, no_bodies, body, Tree, Block, cons}
-use Rattle.xf_read.specs.Syntax.{Counted, From, part, most_open, most_operations, begins_at, inside, behind, ends_open, ends_in_yield, lacks_yield, block, yielded, closed, braced, single, with_else, bodies_at, tail_at, tree, node_at, closes, nodes_at}
+use Rattle.xf_read.specs.Syntax.{From, part, most_open, most_operations, begins_at, inside, behind, ends_open, ends_in_yield, lacks_yield, block, yielded, closed, braced, single, with_else, bodies_at, tail_at, tree, node_at, closes, nodes_at}
 use Rattle.xf_read.specs.Written.{SaidNodes, no_nodes_said, node_said, SaidBodies, no_bodies_said, body_said, nodes_said, bodies_said, says_yield_last, left_out, operations, operations_inside, NestsWell, BodiesNestWell, has_body, has_else, has_tail, Braced, TailWritten, NodesWritten, BodiesWritten, ElseWritten}
 use Rattle.xf_read.proofs.HeadsWithin.{at_token}
 use Rattle.xf_read.proofs.TailLemmas.{SameRow, tail_leaves}
@@ -86,14 +86,16 @@ inside_same t u (body_said ns rest) e r = rw (left_same t u ns e r, inside_same 
 
 -- ---- one block
 
-abbrev pub NodesRead : List Token → Counted Nodes → ℕ → ℕ → SaidNodes → Type 0
-NodesRead all r count next ns = (xs : Nodes) × ((r ≡ Ok ((xs, count), next)) × (nodes_said all xs ≡ ns))
+-- read with all fuel that is enough
+abbrev pub NodesRead : List Token → Level → ℕ → ℕ → ℕ → ℕ → ℕ → SaidNodes → Type 0
+NodesRead all l depth count at total next ns = (xs : Nodes) × (((f : ℕ) → length all < f + at → nodes_at f all l depth count at ≡ Ok ((xs, total), next)) × (nodes_said all xs ≡ ns))
 
-abbrev pub BlockRead : List Token → Counted Block → ℕ → ℕ → SaidNodes → Type 0
-BlockRead all r count next ns = (b : Block) × ((r ≡ Ok ((b, count), next)) × (nodes_said all b.nodes ≡ ns))
+abbrev BlockRead : List Token → Parts → ℕ → ℕ → ℕ → ℕ → ℕ → SaidNodes → Type 0
+BlockRead all p depth count at total next ns = (b : Block) × (((f : ℕ) → length all < f + at → braced all (nodes_at f all) p depth count at ≡ Ok ((b, total), next)) × (nodes_said all b.nodes ≡ ns))
 
-abbrev pub BodiesRead : List Token → Counted Bodies → ℕ → ℕ → SaidBodies → Type 0
-BodiesRead all r count next bs = (xs : Bodies) × ((r ≡ Ok ((xs, count), next)) × (bodies_said all xs ≡ bs))
+abbrev BodiesRead : List Token → Parts → ℕ → ℕ → ℕ → ℕ → ℕ → SaidBodies → Type 0
+BodiesRead all p depth count at total next bs =
+    (xs : Bodies) × (((f : ℕ) → length all < f + at → bodies_at all (braced all (nodes_at f all) p depth) p.row count at ≡ Ok ((xs, total), next)) × (bodies_said all xs ≡ bs))
 
 yielded_is : (b : Bool) (ns : Nodes) (count at : ℕ) → count + cond b 1 0 ≤ most_operations → yielded b ns count at ≡ Ok ((block ns at, count + cond b 1 0), at + 1)
 yielded_is true ns count at le = let e = lt-ltb count most_operations (omega arith) in rw e refl
@@ -108,25 +110,31 @@ braced_is all inner p depth count at ns c k o lt e s le =
     let z : looks all k close_brace ≡ true = ap (is_kind close_brace) s in
     rw (a, d, e, z) (yielded_is (lacks_yield p ns) ns c k le)
 
-block_again : (f : ℕ) (all : List Token) (p : Parts) (depth count at next : ℕ) (ps : List Seen) (ns : SaidNodes)
-    → ((qs : List Seen) (m : ℕ) → AllStand all (at + 1) qs m → NodesWritten (inside p.row) (at + 1) qs (seen all m) ns → closes (seen all m) ≡ true → m ≤ length all → NodesRead all (nodes_at f all (inside p.row) (depth + 1) count (at + 1)) (count + operations ns) m ns)
+block_again : (all : List Token) (p : Parts) (depth count at next : ℕ) (ps : List Seen) (ns : SaidNodes)
+    → ((qs : List Seen) (m : ℕ) → AllStand all (at + 1) qs m → NodesWritten (inside p.row) (at + 1) qs (seen all m) ns → closes (seen all m) ≡ true → m ≤ length all → NodesRead all (inside p.row) (depth + 1) count (at + 1) (count + operations ns) m ns)
     → AllStand all at ps next → Braced (λ qs. NodesWritten (inside p.row) (at + 1) qs (sees close_brace []) ns) ps → depth < most_open → count + (operations ns + left_out (said all p) ns) ≤ most_operations
-    → BlockRead all (braced all (nodes_at f all) p depth count at) (count + (operations ns + left_out (said all p) ns)) next ns
-block_again f all p depth count at next ps ns read s w lt le =
+    → BlockRead all p depth count at (count + (operations ns + left_out (said all p) ns)) next ns
+block_again all p depth count at next ps ns read_inside s w lt le =
     let s0 : AllStand all at (sees open_brace [] ∷ (w.0 ++ sees close_brace [] ∷ [])) next = subst (λ qs. AllStand all at qs next) w.1.0 s in
     let m = split w.0 (sees close_brace [] ∷ []) all (at + 1) next s0.1 in
     let z : seen all m.0 ≡ sees close_brace [] = m.1.1.0 in
     let within = at_token (is_kind close_brace) refl all m.0 (ap (is_kind close_brace) z) in
-    let r = read w.0 m.0 m.1.0 (subst (λ y. NodesWritten (inside p.row) (at + 1) w.0 y ns) (sym z) w.1.1) (ap closes z) (omega (arith, within)) in
+    let r = read_inside w.0 m.0 m.1.0 (subst (λ y. NodesWritten (inside p.row) (at + 1) w.0 y ns) (sym z) w.1.1) (ap closes z) (omega (arith, within)) in
     let o : left_out (said all p) ns ≡ cond (lacks_yield p r.0) 1 0 = subst (λ n. left_out (said all p) n ≡ cond (lacks_yield p r.0) 1 0) r.1.1 (left_is all p r.0) in
-    let b = braced_is all (nodes_at f all) p depth count at r.0 (count + operations ns) m.0 s0.0 lt r.1.0 z (omega (arith, o, le)) in
     let c : count + operations ns + cond (lacks_yield p r.0) 1 0 ≡ count + (operations ns + left_out (said all p) ns) = omega (arith, o) in
-    let n : m.0 + 1 ≡ next = m.1.1.1 in
-    (block r.0 m.0, (subst (λ i. braced all (nodes_at f all) p depth count at ≡ Ok ((block r.0 m.0, count + (operations ns + left_out (said all p) ns)), i)) n (subst (λ i. braced all (nodes_at f all) p depth count at ≡ Ok ((block r.0 m.0, i), m.0 + 1)) c b), r.1.1))
+    let n : m.0 + 1 ≡ next = m.1.1.1 in (
+      block r.0 m.0,
+      (
+        λ f room.
+            braced_is all (nodes_at f all) p depth count at r.0 (count + operations ns) m.0 s0.0 lt (r.1.0 f (omega (arith, room))) z (omega (arith, o, le))
+            ∙ ap (λ i. Ok ((block r.0 m.0, i), m.0 + 1)) c ∙ ap (λ i. Ok ((block r.0 m.0, count + (operations ns + left_out (said all p) ns)), i)) n,
+        r.1.1,
+      ),
+    )
 
 -- ---- bodies
 
-no_body : (r : Row) (all : List Token) (one : From Block) (count at : ℕ) → has_body r ≡ false → bodies_at all one r count at ≡ Ok ((no_bodies, count), at)
+pub no_body : (r : Row) (all : List Token) (one : From Block) (count at : ℕ) → has_body r ≡ false → bodies_at all one r count at ≡ Ok ((no_bodies, count), at)
 no_body row.Module all one count at e = absurd cc
 no_body row.Function all one count at e = absurd cc
 no_body row.For all one count at e = absurd cc
@@ -140,7 +148,7 @@ no_body row.Select all one count at e = refl
 no_body (row.Convert k) all one count at e = refl
 no_body row.Yield all one count at e = refl
 
-one_body : (r : Row) (all : List Token) (one : From Block) (count at : ℕ) → has_body r ≡ true → has_else r ≡ false → bodies_at all one r count at ≡ single one count at
+pub one_body : (r : Row) (all : List Token) (one : From Block) (count at : ℕ) → has_body r ≡ true → has_else r ≡ false → bodies_at all one r count at ≡ single one count at
 one_body row.Module all one count at e f = refl
 one_body row.Function all one count at e f = refl
 one_body row.For all one count at e f = refl
@@ -154,7 +162,7 @@ one_body row.Select all one count at e f = absurd cc
 one_body (row.Convert k) all one count at e f = absurd cc
 one_body row.Yield all one count at e f = absurd cc
 
-two_bodies : (r : Row) (all : List Token) (one : From Block) (count at : ℕ) → has_else r ≡ true → bodies_at all one r count at ≡ with_else all one count at
+pub two_bodies : (r : Row) (all : List Token) (one : From Block) (count at : ℕ) → has_else r ≡ true → bodies_at all one r count at ≡ with_else all one count at
 two_bodies row.If all one count at e = refl
 two_bodies row.Module all one count at e = absurd cc
 two_bodies row.Function all one count at e = absurd cc
@@ -274,13 +282,17 @@ head_forward l all at x e =
 same_node_said : (t t' : Said) (b b' : SaidBodies) (r r' : SaidNodes) → t ≡ t' → b ≡ b' → r ≡ r' → node_said t b r ≡ node_said t' b' r'
 same_node_said t t' b b' r r' p q u = cc
 
-node_again : (f : ℕ) (all : List Token) (l : Level) (depth count at next : ℕ) (ps : List Seen) (t : Said) (bs : SaidBodies) (rest : SaidNodes)
-    → ((p : Parts) (n k : ℕ) (qs : List Seen) → at < n → k ≤ length all → AllStand all n qs k → BodiesWritten p.row n qs (seen all k) bs → (count + 1) + operations_inside (said all p) bs ≤ most_operations
-    → BodiesRead all (bodies_at all (braced all (nodes_at f all) p depth) p.row (count + 1) n) ((count + 1) + operations_inside (said all p) bs) k bs)
-    → ((c n : ℕ) (qs : List Seen) → at < n → AllStand all n qs next → NodesWritten (behind l) n qs (seen all next) rest → c + operations rest ≤ most_operations → NodesRead all (nodes_at f all (behind l) depth c n) (c + operations rest) next rest)
+some_fuel : (all : List Token) (l : Level) (depth count at : ℕ) (x : (Nodes × ℕ) × ℕ) → at ≤ length all → ((f : ℕ) → length all ≤ f + at → nodes_at (suc f) all l depth count at ≡ Ok x) → (f : ℕ) → length all < f + at → nodes_at f all l depth count at ≡ Ok x
+some_fuel all l depth count at x le e zero room = absurd (omega (arith, le, room))
+some_fuel all l depth count at x le e (suc f) room = e f (omega (arith, room))
+
+node_again : (all : List Token) (l : Level) (depth count at next : ℕ) (ps : List Seen) (t : Said) (bs : SaidBodies) (rest : SaidNodes)
+    → ((p : Parts) (n k : ℕ) (qs : List Seen) → k ≤ length all → AllStand all n qs k → BodiesWritten p.row n qs (seen all k) bs → (count + 1) + operations_inside (said all p) bs ≤ most_operations
+    → BodiesRead all p depth (count + 1) n ((count + 1) + operations_inside (said all p) bs) k bs)
+    → ((c n : ℕ) (qs : List Seen) → AllStand all n qs next → NodesWritten (behind l) n qs (seen all next) rest → c + operations rest ≤ most_operations → NodesRead all (behind l) depth c n (c + operations rest) next rest)
     → next ≤ length all → AllStand all at ps next → NodesWritten l at ps (seen all next) (node_said t bs rest) → count + operations (node_said t bs rest) ≤ most_operations
-    → NodesRead all (nodes_at (suc f) all l depth count at) (count + operations (node_said t bs rest)) next (node_said t bs rest)
-node_again f all l depth count at next ps t bs rest read_bodies read_rest within s w le =
+    → NodesRead all l depth count at (count + operations (node_said t bs rest)) next (node_said t bs rest)
+node_again all l depth count at next ps t bs rest read_bodies read_rest within s w le =
     let head = w.0 in
     let inner = w.1.0 in
     let tail = w.1.1.0 in
@@ -312,102 +324,114 @@ node_again f all l depth count at next ps t bs rest read_bodies read_rest within
     let u : operations (node_said t bs rest) ≡ 1 + (operations_inside t bs + operations rest) = refl in
     let n1 = subst (λ i. NodesWritten (behind l) i more (seen all next) rest) (sym d3) q.1.1.1.1 in
     let c : ℕ = (count + 1) + operations_inside (said all p) bs in
-    let B = read_bodies p m1.0 m2.0 inner forward (omega (arith, e3, e4, within)) m2.1.0 b3 (omega (arith, S, u, le)) in
-    let R = read_rest c m3.0 more (omega (arith, forward, e2, e3)) m3.1.1 n1 (omega (arith, S, u, le)) in
-    let N = node_is all (nodes_at f all) l depth count at p m1.0 B.0 c m2.0 T.0 m3.0 (begins_is all l count at p m1.0 (omega (arith, u, le)) H.1.0) B.1.0 T.1.0 in
-    let M = nodes_is f all l depth count at (tree at T.0 B.0) c m3.0 R.0 (c + operations rest) next open_here N R.1.0 in
-    let d : c + operations rest ≡ count + operations (node_said t bs rest) = omega (arith, S, u) in (
+    let B = read_bodies p m1.0 m2.0 inner (omega (arith, e3, e4, within)) m2.1.0 b3 (omega (arith, S, u, le)) in
+    let R = read_rest c m3.0 more m3.1.1 n1 (omega (arith, S, u, le)) in
+    let d : c + operations rest ≡ count + operations (node_said t bs rest) = omega (arith, S, u) in
+    let E = begins_is all l count at p m1.0 (omega (arith, u, le)) H.1.0 in (
       cons (tree at T.0 B.0) R.0,
       (
-        subst (λ i. nodes_at (suc f) all l depth count at ≡ Ok ((cons (tree at T.0 B.0) R.0, i), next)) d M,
+        some_fuel all l depth count at ((cons (tree at T.0 B.0) R.0, count + operations (node_said t bs rest)), next) (omega (arith, e1, e2, e3, e4, within)) (λ f room.
+            nodes_is f all l depth count at (tree at T.0 B.0) c m3.0 R.0 (c + operations rest) next open_here
+            (node_is all (nodes_at f all) l depth count at p m1.0 B.0 c m2.0 T.0 m3.0 E (B.1.0 f (omega (arith, room, forward))) T.1.0)
+            (R.1.0 f (omega (arith, room, forward, e2, e3)))
+            ∙ ap (λ i. Ok ((cons (tree at T.0 B.0) R.0, i), next)) d),
         same_node_said (said all T.0) t (bodies_said all B.0) bs (nodes_said all R.0) rest T.1.1.0 B.1.1 R.1.1,
       ),
     )
 
-no_nodes_again : (f : ℕ) (all : List Token) (l : Level) (depth count at next : ℕ) (ps : List Seen) → length all < f + at → next ≤ length all → AllStand all at ps next → ps ≡ [] → closes (seen all next) ≡ true
-    → NodesRead all (nodes_at f all l depth count at) (count + 0) next no_nodes_said
-no_nodes_again zero all l depth count at next ps room within s e c = let n : at ≡ next = subst (λ qs. AllStand all at qs next) e s in absurd (omega (arith, room, within, n))
-no_nodes_again (suc f) all l depth count at next ps room within s e c =
+no_nodes_again : (all : List Token) (l : Level) (depth count at next : ℕ) (ps : List Seen) → next ≤ length all → AllStand all at ps next → ps ≡ [] → closes (seen all next) ≡ true → NodesRead all l depth count at (count + 0) next no_nodes_said
+no_nodes_again all l depth count at next ps within s e c =
     let n : at ≡ next = subst (λ qs. AllStand all at qs next) e s in
     let c' : closes (seen all at) ≡ true = subst (λ i. closes (seen all i) ≡ true) (sym n) c in
     let z : count ≡ count + 0 = omega arith in
-    let o : nodes_at (suc f) all l depth count at ≡ Ok ((no_nodes, count), at) = rw c' refl in
-    (no_nodes, (o ∙ ap (λ i. Ok ((no_nodes, i), at)) z ∙ ap (λ i. Ok ((no_nodes, count + 0), i)) n, refl))
+    let o : (f : ℕ) → nodes_at (suc f) all l depth count at ≡ Ok ((no_nodes, count), at) = λ f. rw c' refl in
+    (no_nodes, (some_fuel all l depth count at ((no_nodes, count + 0), next) (omega (arith, n, within)) (λ f room. o f ∙ ap (λ i. Ok ((no_nodes, i), at)) z ∙ ap (λ i. Ok ((no_nodes, count + 0), i)) n), refl))
 
 -- behind a first body that was read, what is written there is read
-abbrev ElseRead : ℕ → List Token → Parts → ℕ → ℕ → ℕ → Block → ℕ → ℕ → SaidBodies → Type 0
-ElseRead f all p depth count at b total next bs =
-    (xs : Bodies) × ((bodies_at all (braced all (nodes_at f all) p depth) p.row count at ≡ Ok ((body b.nodes b.close xs, total), next)) × (bodies_said all xs ≡ bs))
+abbrev ElseRead : List Token → Parts → ℕ → ℕ → ℕ → Block → ℕ → ℕ → SaidBodies → Type 0
+ElseRead all p depth count at b total next bs =
+    (xs : Bodies) × (((f : ℕ) → length all < f + at → bodies_at all (braced all (nodes_at f all) p depth) p.row count at ≡ Ok ((body b.nodes b.close xs, total), next)) × (bodies_said all xs ≡ bs))
 
-no_else_again : (f : ℕ) (all : List Token) (p : Parts) (depth count at : ℕ) (b : Block) (c k next : ℕ) (ps : List Seen) → braced all (nodes_at f all) p depth count at ≡ Ok ((b, c), k) → has_body p.row ≡ true → AllStand all k ps next
-    → ElseWritten p.row k ps (seen all next) no_bodies_said → ElseRead f all p depth count at b (c + 0) next no_bodies_said
-no_else_again f all p depth count at b c k next ps e h s w =
+-- a first body that was read
+abbrev FirstRead : List Token → Parts → ℕ → ℕ → ℕ → Block → ℕ → ℕ → Type 0
+FirstRead all p depth count at b c k = (f : ℕ) → length all < f + at → braced all (nodes_at f all) p depth count at ≡ Ok ((b, c), k)
+
+no_else_again : (all : List Token) (p : Parts) (depth count at : ℕ) (b : Block) (c k next : ℕ) (ps : List Seen) → FirstRead all p depth count at b c k → has_body p.row ≡ true → AllStand all k ps next
+    → ElseWritten p.row k ps (seen all next) no_bodies_said → ElseRead all p depth count at b (c + 0) next no_bodies_said
+no_else_again all p depth count at b c k next ps e h s w =
     let n : k ≡ next = subst (λ qs. AllStand all k qs next) w.0 s in
     let y : (has_else p.row && says all k (codes "else")) ≡ false = subst (λ i. (has_else p.row && says all i (codes "else")) ≡ false) (sym n) w.1 in
-    let z : c ≡ c + 0 = omega arith in
-    let o = first_only all (braced all (nodes_at f all) p depth) p.row count at b c k h y e in
-    (no_bodies, (o ∙ ap (λ i. Ok ((body b.nodes b.close no_bodies, i), k)) z ∙ ap (λ i. Ok ((body b.nodes b.close no_bodies, c + 0), i)) n, refl))
+    let z : c ≡ c + 0 = omega arith in (
+      no_bodies,
+      (
+        λ f room.
+            first_only all (braced all (nodes_at f all) p depth) p.row count at b c k h y (e f room)
+            ∙ ap (λ i. Ok ((body b.nodes b.close no_bodies, i), k)) z ∙ ap (λ i. Ok ((body b.nodes b.close no_bodies, c + 0), i)) n,
+        refl,
+      ),
+    )
 
-some_else_again : (f : ℕ) (all : List Token) (p : Parts) (depth count at : ℕ) (b : Block) (c k next : ℕ) (ps : List Seen) (ns : SaidNodes) (rest : SaidBodies) → braced all (nodes_at f all) p depth count at ≡ Ok ((b, c), k)
-    → ((qs : List Seen) (m : ℕ) → AllStand all (k + 1 + 1) qs m → NodesWritten (inside p.row) (k + 1 + 1) qs (seen all m) ns → closes (seen all m) ≡ true → m ≤ length all → NodesRead all (nodes_at f all (inside p.row) (depth + 1) c (k + 1 + 1)) (c + operations ns) m ns)
+some_else_again : (all : List Token) (p : Parts) (depth count at : ℕ) (b : Block) (c k next : ℕ) (ps : List Seen) (ns : SaidNodes) (rest : SaidBodies) → FirstRead all p depth count at b c k → at ≤ k
+    → ((qs : List Seen) (m : ℕ) → AllStand all (k + 1 + 1) qs m → NodesWritten (inside p.row) (k + 1 + 1) qs (seen all m) ns → closes (seen all m) ≡ true → m ≤ length all → NodesRead all (inside p.row) (depth + 1) c (k + 1 + 1) (c + operations ns) m ns)
     → AllStand all k ps next → ElseWritten p.row k ps (seen all next) (body_said ns rest) → BodiesNestWell depth (body_said ns rest) → c + operations_inside (said all p) (body_said ns rest) ≤ most_operations
-    → ElseRead f all p depth count at b (c + operations_inside (said all p) (body_said ns rest)) next (body_said ns rest)
-some_else_again f all p depth count at b c k next ps ns rest e read s w nests le =
+    → ElseRead all p depth count at b (c + operations_inside (said all p) (body_said ns rest)) next (body_said ns rest)
+some_else_again all p depth count at b c k next ps ns rest e ahead read_inside s w nests le =
     let second = w.1.0 in
     let last : rest ≡ no_bodies_said = w.1.1.1.1 in
     let s0 : AllStand all k (sees kind.Word (codes "else") ∷ second) next = subst (λ qs. AllStand all k qs next) w.1.1.0 s in
     let y : says all k (codes "else") ≡ true = ap (is_word (codes "else")) s0.0 in
     let i : operations_inside (said all p) (body_said ns rest) ≡ operations ns + (left_out (said all p) ns + 0) = ap (λ r. operations_inside (said all p) (body_said ns r)) last in
-    let r = block_again f all p depth c (k + 1) next second ns read s0.1 w.1.1.1.0 nests.0 (omega (arith, i, le)) in
-    let o = two_bodies p.row all (braced all (nodes_at f all) p depth) count at w.0
-    ∙ else_is all (braced all (nodes_at f all) p depth) count at b c k r.0 (c + (operations ns + left_out (said all p) ns)) next e y r.1.0 in
-    let t : c + (operations ns + left_out (said all p) ns) ≡ c + operations_inside (said all p) (body_said ns rest) = omega (arith, i) in
-    (body r.0.nodes r.0.close no_bodies, (o ∙ ap (λ i. Ok ((body b.nodes b.close (body r.0.nodes r.0.close no_bodies), i), next)) t, same_said (nodes_said all r.0.nodes) ns no_bodies_said rest r.1.1 (sym last)))
+    let r = block_again all p depth c (k + 1) next second ns read_inside s0.1 w.1.1.1.0 nests.0 (omega (arith, i, le)) in
+    let t : c + (operations ns + left_out (said all p) ns) ≡ c + operations_inside (said all p) (body_said ns rest) = omega (arith, i) in (
+      body r.0.nodes r.0.close no_bodies,
+      (
+        λ f room.
+            two_bodies p.row all (braced all (nodes_at f all) p depth) count at w.0
+            ∙ else_is all (braced all (nodes_at f all) p depth) count at b c k r.0 (c + (operations ns + left_out (said all p) ns)) next (e f room) y (r.1.0 f (omega (arith, room, ahead)))
+            ∙ ap (λ i. Ok ((body b.nodes b.close (body r.0.nodes r.0.close no_bodies), i), next)) t,
+        same_said (nodes_said all r.0.nodes) ns no_bodies_said rest r.1.1 (sym last),
+      ),
+    )
 
-no_bodies_again : (f : ℕ) (all : List Token) (p : Parts) (depth count at next : ℕ) (ps : List Seen) → AllStand all at ps next → (has_body p.row ≡ false) × (ps ≡ [])
-    → BodiesRead all (bodies_at all (braced all (nodes_at f all) p depth) p.row count at) (count + 0) next no_bodies_said
-no_bodies_again f all p depth count at next ps s w =
+no_bodies_again : (all : List Token) (p : Parts) (depth count at next : ℕ) (ps : List Seen) → AllStand all at ps next → (has_body p.row ≡ false) × (ps ≡ []) → BodiesRead all p depth count at (count + 0) next no_bodies_said
+no_bodies_again all p depth count at next ps s w =
     let n : at ≡ next = subst (λ qs. AllStand all at qs next) w.1 s in
     let z : count ≡ count + 0 = omega arith in
-    (no_bodies, (no_body p.row all (braced all (nodes_at f all) p depth) count at w.0 ∙ ap (λ i. Ok ((no_bodies, i), at)) z ∙ ap (λ i. Ok ((no_bodies, count + 0), i)) n, refl))
+    (no_bodies, (λ f room. no_body p.row all (braced all (nodes_at f all) p depth) count at w.0 ∙ ap (λ i. Ok ((no_bodies, i), at)) z ∙ ap (λ i. Ok ((no_bodies, count + 0), i)) n, refl))
 
 mutual
-  pub nodes_again : (ns : SaidNodes) (f : ℕ) (all : List Token) (l : Level) (depth count at next : ℕ) (ps : List Seen) → length all < f + at → next ≤ length all → AllStand all at ps next → NodesWritten l at ps (seen all next) ns
-      → closes (seen all next) ≡ true → NestsWell depth ns → count + operations ns ≤ most_operations → NodesRead all (nodes_at f all l depth count at) (count + operations ns) next ns
-  nodes_again no_nodes_said f all l depth count at next ps room within s w c nests le = no_nodes_again f all l depth count at next ps room within s w c
-  nodes_again (node_said t bs rest) zero all l depth count at next ps room within s w c nests le = absurd (let e = ends_at ps all at next s in omega (arith, e, room, within))
-  nodes_again (node_said t bs rest) (suc f) all l depth count at next ps room within s w c nests le =
-      node_again f all l depth count at next ps t bs rest
-      (λ p n k qs lt le' s' w' lim. bodies_again bs f all p depth (count + 1) n k qs (omega (arith, room, lt)) le' s' w' nests.0 lim)
-      (λ c' n qs lt s' w' lim. nodes_again rest f all (behind l) depth c' n next qs (omega (arith, room, lt)) within s' w' c nests.1 lim)
+  pub nodes_again : (ns : SaidNodes) (all : List Token) (l : Level) (depth count at next : ℕ) (ps : List Seen) → next ≤ length all → AllStand all at ps next → NodesWritten l at ps (seen all next) ns → closes (seen all next) ≡ true
+      → NestsWell depth ns → count + operations ns ≤ most_operations → NodesRead all l depth count at (count + operations ns) next ns
+  nodes_again no_nodes_said all l depth count at next ps within s w c nests le = no_nodes_again all l depth count at next ps within s w c
+  nodes_again (node_said t bs rest) all l depth count at next ps within s w c nests le =
+      node_again all l depth count at next ps t bs rest
+      (λ p n k qs le' s' w' lim. bodies_again bs all p depth (count + 1) n k qs le' s' w' nests.0 lim)
+      (λ c' n qs s' w' lim. nodes_again rest all (behind l) depth c' n next qs within s' w' c nests.1 lim)
       within s w le
 
-  bodies_again : (bs : SaidBodies) (f : ℕ) (all : List Token) (p : Parts) (depth count at next : ℕ) (ps : List Seen) → length all < f + at → next ≤ length all → AllStand all at ps next → BodiesWritten p.row at ps (seen all next) bs
-      → BodiesNestWell depth bs → count + operations_inside (said all p) bs ≤ most_operations
-      → BodiesRead all (bodies_at all (braced all (nodes_at f all) p depth) p.row count at) (count + operations_inside (said all p) bs) next bs
-  bodies_again no_bodies_said f all p depth count at next ps room within s w nests le = no_bodies_again f all p depth count at next ps s w
-  bodies_again (body_said ns rest) f all p depth count at next ps room within s w nests le =
+  bodies_again : (bs : SaidBodies) (all : List Token) (p : Parts) (depth count at next : ℕ) (ps : List Seen) → next ≤ length all → AllStand all at ps next → BodiesWritten p.row at ps (seen all next) bs → BodiesNestWell depth bs
+      → count + operations_inside (said all p) bs ≤ most_operations → BodiesRead all p depth count at (count + operations_inside (said all p) bs) next bs
+  bodies_again no_bodies_said all p depth count at next ps within s w nests le = no_bodies_again all p depth count at next ps s w
+  bodies_again (body_said ns rest) all p depth count at next ps within s w nests le =
       let first = w.1.0 in
       let more = w.1.1.0 in
       let m = split first more all at next (subst (λ qs. AllStand all at qs next) w.1.1.1.0 s) in
       let e1 = ends_at first all at m.0 m.1.0 in
-      let e2 = ends_at more all m.0 next m.1.1 in
       let u : operations_inside (said all p) (body_said ns rest) ≡ operations ns + (left_out (said all p) ns + operations_inside (said all p) rest) = refl in
       let c : ℕ = count + (operations ns + left_out (said all p) ns) in
-      let b = block_again f all p depth count at m.0 first ns
-      (λ qs k s' w' cl le'. nodes_again ns f all (inside p.row) (depth + 1) count (at + 1) k qs (omega (arith, room)) le' s' w' cl nests.1.0 (omega (arith, u, le)))
+      let b = block_again all p depth count at m.0 first ns
+      (λ qs k s' w' cl le'. nodes_again ns all (inside p.row) (depth + 1) count (at + 1) k qs le' s' w' cl nests.1.0 (omega (arith, u, le)))
       m.1.0 w.1.1.1.1.0 nests.0 (omega (arith, u, le)) in
-      let r = else_again rest f all p depth count at b.0 c m.0 next more b.1.0 w.0 (omega (arith, room, e1)) within m.1.1
+      let r = else_again rest all p depth count at b.0 c m.0 next more b.1.0 w.0 (omega (arith, e1)) within m.1.1
       (subst (λ i. ElseWritten p.row i more (seen all next) rest) (sym e1) w.1.1.1.1.1) nests.1.1 (omega (arith, u, le)) in
       let t : c + operations_inside (said all p) rest ≡ count + operations_inside (said all p) (body_said ns rest) = omega (arith, u) in
-      (body b.0.nodes b.0.close r.0, (r.1.0 ∙ ap (λ i. Ok ((body b.0.nodes b.0.close r.0, i), next)) t, same_said (nodes_said all b.0.nodes) ns (bodies_said all r.0) rest b.1.1 r.1.1))
+      (body b.0.nodes b.0.close r.0, (λ f room. r.1.0 f room ∙ ap (λ i. Ok ((body b.0.nodes b.0.close r.0, i), next)) t, same_said (nodes_said all b.0.nodes) ns (bodies_said all r.0) rest b.1.1 r.1.1))
 
-  else_again : (rest : SaidBodies) (f : ℕ) (all : List Token) (p : Parts) (depth count at : ℕ) (b : Block) (c k next : ℕ) (ps : List Seen) → braced all (nodes_at f all) p depth count at ≡ Ok ((b, c), k) → has_body p.row ≡ true
-      → length all < f + k → next ≤ length all → AllStand all k ps next → ElseWritten p.row k ps (seen all next) rest → BodiesNestWell depth rest → c + operations_inside (said all p) rest ≤ most_operations
-      → ElseRead f all p depth count at b (c + operations_inside (said all p) rest) next rest
-  else_again no_bodies_said f all p depth count at b c k next ps e h room within s w nests le = no_else_again f all p depth count at b c k next ps e h s w
-  else_again (body_said ns rest) f all p depth count at b c k next ps e h room within s w nests le =
+  else_again : (rest : SaidBodies) (all : List Token) (p : Parts) (depth count at : ℕ) (b : Block) (c k next : ℕ) (ps : List Seen) → FirstRead all p depth count at b c k → has_body p.row ≡ true → at ≤ k → next ≤ length all
+      → AllStand all k ps next → ElseWritten p.row k ps (seen all next) rest → BodiesNestWell depth rest → c + operations_inside (said all p) rest ≤ most_operations → ElseRead all p depth count at b (c + operations_inside (said all p) rest) next rest
+  else_again no_bodies_said all p depth count at b c k next ps e h ahead within s w nests le = no_else_again all p depth count at b c k next ps e h s w
+  else_again (body_said ns rest) all p depth count at b c k next ps e h ahead within s w nests le =
       let u : operations_inside (said all p) (body_said ns rest) ≡ operations ns + (left_out (said all p) ns + operations_inside (said all p) rest) = refl in
-      some_else_again f all p depth count at b c k next ps ns rest e
-      (λ qs m s' w' cl le'. nodes_again ns f all (inside p.row) (depth + 1) c (k + 1 + 1) m qs (omega (arith, room)) le' s' w' cl nests.1.0 (omega (arith, u, le)))
+      some_else_again all p depth count at b c k next ps ns rest e ahead
+      (λ qs m s' w' cl le'. nodes_again ns all (inside p.row) (depth + 1) c (k + 1 + 1) m qs le' s' w' cl nests.1.0 (omega (arith, u, le)))
       s w nests le

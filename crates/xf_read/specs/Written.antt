@@ -3,7 +3,7 @@ use Rattle.std.specs.Prelude.{◌≡◌, ◌⊎◌, ℕ, ◌+◌, ◌<◌, ◌�
 use Rattle.xf_lex.specs.declared.token.Token.{Token}
 use Rattle.xf_lex.specs.declared.token.TokenKind.TheVariants as kind
 use Rattle.xf_grammar.specs.Tokens.{Seen, the_end, sees, is_word, open_brace, close_brace}
-use Rattle.xf_grammar.specs.Grammar.{first_seen, Writes}
+use Rattle.xf_grammar.specs.Grammar.{AllStand, first_seen, Writes}
 use Rattle.xf_read_base.specs.declared.row.Level.{Level}
 use Rattle.xf_read_base.specs.declared.row.Level.TheVariants as level
 use Rattle.xf_read_base.specs.declared.row.Row.{Row}
@@ -13,6 +13,7 @@ use Rattle.xf_read_base.specs.Parts.{Said, said}
 use Rattle.xf_read_base.specs.Rules.{dictionary_rule}
 use Rattle.xf_read.specs.declared.tree.File.{File}
 use Rattle.xf_read.specs.Tree.{Nodes, no_nodes, node, Bodies, no_bodies, body}
+use Rattle.xf_read.specs.Laws.{IsText}
 use Rattle.xf_read.specs.Syntax.{most_open, most_operations, inside, behind, ends_open, is_yield}
 
 -- ---- what a text says
@@ -130,7 +131,9 @@ abbrev mutual
 
 -- a module
 abbrev pub ModuleWritten : List Seen → SaidNodes → Type 0
-ModuleWritten ps ns = (is_word (codes "module") (first_seen ps the_end) ≡ true) × NodesWritten level.File 0 ps the_end ns
+ModuleWritten ps ns =
+    (is_word (codes "module") (first_seen ps the_end) ≡ true)
+    × ((t : Said) × ((bs : SaidBodies) × ((ns ≡ node_said t bs no_nodes_said) × NodesWritten level.File 0 ps the_end ns)))
 
 -- functions alone, of a module that is left out
 abbrev pub FunctionsWritten : List Seen → SaidNodes → Type 0
@@ -143,3 +146,13 @@ pub record IsWritten (ps : List Seen) (ns : SaidNodes) : Type 0 where
   pub tokens : ModuleWritten ps ns ⊎ FunctionsWritten ps ns
   pub nesting : NestsWell 0 ns
   pub number : operations ns ≤ most_operations
+
+-- ---- laws
+
+-- a text that is read is written, and says what was read
+abbrev pub TextsAreWritten : Type 0
+TextsAreWritten = (all : List Token) (file : File) → IsText all file → (ps : List Seen) × (AllStand all 0 ps (length all) × IsWritten ps (file_said all file))
+
+-- a text that is written is read, as what it says
+abbrev pub TextsReadAgain : Type 0
+TextsReadAgain = (all : List Token) (ps : List Seen) (ns : SaidNodes) → AllStand all 0 ps (length all) → IsWritten ps ns → (file : File) × (IsText all file × (file_said all file ≡ ns))
