@@ -50,11 +50,11 @@ word_seen w x e = absurd cc
 
 -- ---- answers
 
-same_answer : {A D : Type 0} (x y : A × ℕ) (o : Out A D) → o ≡ Ok x → o ≡ Ok y → x ≡ y
+pub same_answer : {A D : Type 0} (x y : A × ℕ) (o : Out A D) → o ≡ Ok x → o ≡ Ok y → x ≡ y
 same_answer x y (Ok z) p q = let a : z ≡ x = cc in let b : z ≡ y = cc in sym a ∙ b
 same_answer x y (Err d) p q = absurd cc
 
-bind_ok : {A B D : Type 0} (r : Out A D) (f : A × ℕ → Out B D) (y : B × ℕ) → (r >>= f) ≡ Ok y → (x : A × ℕ) × ((r ≡ Ok x) × (f x ≡ Ok y))
+pub bind_ok : {A B D : Type 0} (r : Out A D) (f : A × ℕ → Out B D) (y : B × ℕ) → (r >>= f) ≡ Ok y → (x : A × ℕ) × ((r ≡ Ok x) × (f x ≡ Ok y))
 bind_ok (Ok x) f y e = (x, (refl, e))
 bind_ok (Err d) f y e = absurd cc
 

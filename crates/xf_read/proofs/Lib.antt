@@ -4,5 +4,6 @@ pub mod KeptLemmas
 pub mod Place
 pub mod ReadAgain
 pub mod TailLemmas
+pub mod Texts
 pub mod TreeLemmas
 pub mod TreesWithin
