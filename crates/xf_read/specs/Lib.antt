@@ -12,3 +12,4 @@ pub mod View
 pub mod Visible
 pub mod Walks
 pub mod Within
+pub mod Written

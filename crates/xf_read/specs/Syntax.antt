@@ -1,6 +1,7 @@
 -- Reading a whole text: operations by their heads and bodies, within the limits of nesting and number.
 use Rattle.std.specs.Prelude.{◌≡◌, ℕ, zero, suc, ◌+◌, List, length, Result, Ok, Err, Bool, true, false, not, ◌&&◌, ◌==◌, if◌then◌else◌, nat_lt, codes}
 use Rattle.xf_lex.specs.declared.token.Token.{Token}
+use Rattle.xf_type.specs.declared.payload_type.PayloadType.{PayloadType}
 use Rattle.xf_grammar.specs.Tokens.{Seen, the_end, sees, seen, is_kind, looks, says, open_brace, close_brace}
 use Rattle.xf_grammar.specs.Reading.{Out, ◌>>=◌}
 use Rattle.xf_read_base.specs.declared.due.Due.{Due}
@@ -88,13 +89,13 @@ due_before row.Function = due.FunctionBody
 due_before r = due.Other
 
 -- whether the yield of a body may be left out: in a loop and an if without results
+abbrev pub ends_open : Row → List PayloadType → Bool
+ends_open row.For results = length results == 0
+ends_open row.If results = length results == 0
+ends_open r results = false
+
 abbrev pub may_end_open : Parts → Bool
-may_end_open p = by p.row
-  where
-    by : Row → Bool
-    by row.For = length p.results == 0
-    by row.If = length p.results == 0
-    by r = false
+may_end_open p = ends_open p.row p.results
 
 abbrev pub is_yield : Row → Bool
 is_yield row.Yield = true

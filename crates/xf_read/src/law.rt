@@ -1,9 +1,16 @@
 //! What holds of all texts.
 ghost use Rattle.xf_read.specs.Spells.{SpellsOne, MisspellsOne, SpellsOrNot};
+ghost use Rattle.xf_read.specs.Written.{TextsAreWritten, TextsReadAgain};
 
 /// A text spells one module or has one fault, and not both.
 pub fn one_meaning()
     ensures spells { SpellsOne }
     ensures fault { MisspellsOne }
     ensures apart { SpellsOrNot }
+{}
+
+/// A text is read exactly where it is written, and its tree says what its tokens say.
+pub fn texts_are_read_as_written()
+    ensures written { TextsAreWritten }
+    ensures again { TextsReadAgain }
 {}

@@ -2,7 +2,7 @@
 //! grammar of payloads, and were written by hand.
 
 use crate::reader::nodes_at;
-use crate::{Body, Cause, File, Node, SyntaxFault, syntax};
+use crate::{Body, Cause, File, Node, SyntaxFault, syntax, texts_are_read_as_written};
 use std::alloc::Global;
 use std::process::Abort;
 use xf_lex::{TokenList, tokens};
@@ -62,6 +62,7 @@ fn assert_stops(rt: &impl Abort, alloc: Global, text: &str, at: usize, cause: Ca
 
 #[test]
 fn a_module_may_be_left_out(rt: HostRuntime) {
+    texts_are_read_as_written();
     let alloc = rt.alloc();
     let file = read(&rt, alloc, "");
     assert!(rt; !file.written);
