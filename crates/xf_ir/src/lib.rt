@@ -37,6 +37,4 @@ pub use values::ValueList;
 pub use walk::{NameList, count, walk_post};
 
 #[cfg(test)]
-mod large_tests;
-#[cfg(test)]
 mod tests;

@@ -6,8 +6,6 @@ ghost use Rattle.xf_ir.specs.Valid.{IsValid};
 ghost use Rattle.xf_ir.specs.Bounds.{ListsAreShort};
 ghost use Rattle.xf_ir.specs.Sample.{named, one_int, sample_body, sample_function, sample_module};
 
-mod edits;
-
 use super::*;
 use std::alloc::Global;
 use std::test::Fail;
@@ -16,7 +14,7 @@ use xf_type::{
 };
 
 /// One type of 32 bits.
-pub(crate) fn int_type(alloc: Global) -> Result<TypeList, NoMemory>
+fn int_type(alloc: Global) -> Result<TypeList, NoMemory>
     ensures { IfOk result (λ types. types ≡ one_int) }
 {
     let mut types = ListOf::new(alloc);
@@ -25,7 +23,7 @@ pub(crate) fn int_type(alloc: Global) -> Result<TypeList, NoMemory>
 }
 
 /// An operation that holds nothing.
-pub(crate) fn leaf(
+fn leaf(
     alloc: Global,
     name: u64,
     kind: Kind,
@@ -45,13 +43,7 @@ pub(crate) fn leaf(
 }
 
 /// An operation that holds one block.
-pub(crate) fn holder(
-    alloc: Global,
-    name: u64,
-    kind: Kind,
-    args: TypeList,
-    ops: OpList,
-) -> Result<Op, NoMemory>
+fn holder(alloc: Global, name: u64, kind: Kind, args: TypeList, ops: OpList) -> Result<Op, NoMemory>
     ensures { IfOk result (λ o. o ≡ record { name = named name; kind = kind; attrs = []; operands = []; results = []; regions = region args (ops_of ops.items) no_regions }) }
 {
     let mut regions = Vec::new(alloc);
@@ -119,21 +111,37 @@ fn sample(alloc: Global) -> Result<Module, NoMemory>
     Ok(Module { root, next: 5 })
 }
 
+/// Whether these are the names of the module's operations in post-order.
+fn names_are(alloc: Global, m: &Module, wanted: &[OpName]) -> Result<bool, NoMemory> {
+    let names = walk_post(alloc, &m.root)?;
+    Ok(names.as_slice() == wanted)
+}
+
+/// Whether operations 0 to 4 are found, and operation 5 is not.
+fn finds_five(m: &Module) -> bool {
+    for name in [0, 1, 2, 3, 4] {
+        if m.find(OpName(name)).is_none() {
+            return false;
+        }
+    }
+    m.find(OpName(5)).is_none()
+}
+
+/// The walks of the module, which is the sample.
+fn walks(alloc: Global, m: &Module) -> Result<bool, NoMemory> {
+    let wanted = [OpName(2), OpName(3), OpName(4), OpName(1), OpName(0)];
+    Ok(names_are(alloc, m, &wanted)? && count(&m.root) == 5 && finds_five(m))
+}
+
+/// The walks of the sample. A function that holds a module leaves at one place alone, so that its check stays short.
+fn sample_walks(alloc: Global) -> Result<bool, NoMemory> {
+    let m = sample(alloc)?;
+    walks(alloc, &m)
+}
+
 #[test]
 fn walks_give_names_and_number(rt: HostRuntime) -> Result<(), Fail> {
-    let alloc = rt.alloc();
-    let m = sample(alloc)?;
-    let names = walk_post(alloc, &m.root)?;
-    assert_eq!(rt;
-        names.as_slice(),
-        [OpName(2), OpName(3), OpName(4), OpName(1), OpName(0)].as_slice()
-    );
-    assert_eq!(rt; count(&m.root), 5);
-    for name in [0, 1, 2, 3, 4] {
-        let found = m.find(OpName(name)).map(|op| op.name);
-        assert_eq!(rt; found, Some(OpName(name)));
-    }
-    assert!(rt; m.find(OpName(5)).is_none());
+    assert!(rt; sample_walks(rt.alloc())?);
     Ok(())
 }
 
@@ -149,18 +157,26 @@ fn erase_first_dead(alloc: Global, m: &mut Module) -> Result<Option<OpName>, NoM
     Ok(dead)
 }
 
+/// Whether operations 3 and 2 go, one after the other, and then no more.
+fn erases_two(alloc: Global, m: &mut Module) -> Result<bool, NoMemory>
+    requires { IsValid m.old }
+{
+    let first = erase_first_dead(alloc, m)?;
+    let second = erase_first_dead(alloc, m)?;
+    let third = erase_first_dead(alloc, m)?;
+    let gone = first == Some(OpName(3)) && second == Some(OpName(2)) && third.is_none();
+    Ok(gone && names_are(alloc, m, &[OpName(4), OpName(1), OpName(0)])?)
+}
+
+/// The same of the sample.
+fn sample_erases_two(alloc: Global) -> Result<bool, NoMemory> {
+    let mut m = sample(alloc)?;
+    erases_two(alloc, &mut m)
+}
+
 #[test]
 fn unused_operations_go_from_the_last_one_back(rt: HostRuntime) -> Result<(), Fail> {
-    let alloc = rt.alloc();
-    let mut m = sample(alloc)?;
-    assert_eq!(rt; erase_first_dead(alloc, &mut m)?, Some(OpName(3)));
-    assert_eq!(rt; erase_first_dead(alloc, &mut m)?, Some(OpName(2)));
-    assert_eq!(rt; erase_first_dead(alloc, &mut m)?, None);
-    let names = walk_post(alloc, &m.root)?;
-    assert_eq!(rt;
-        names.as_slice(),
-        [OpName(4), OpName(1), OpName(0)].as_slice()
-    );
+    assert!(rt; sample_erases_two(rt.alloc())?);
     Ok(())
 }
 
@@ -178,14 +194,33 @@ fn a_copy_of_a_snippet_has_its_operations(rt: HostRuntime) -> Result<(), Fail> {
     Ok(())
 }
 
+/// Whether two modules have the same names in post-order and the same next name.
+fn are_alike(alloc: Global, m: &Module, other: &Module) -> Result<bool, NoMemory> {
+    let names = walk_post(alloc, &m.root)?;
+    Ok(names_are(alloc, other, names.as_slice())? && m.next == other.next)
+}
+
+/// Whether a copy of the module is like it.
+fn copies(alloc: Global, m: &Module) -> Result<bool, NoMemory> {
+    let copy = m.copy(alloc)?;
+    are_alike(alloc, m, &copy)
+}
+
+/// The same of the sample.
+fn sample_copies(alloc: Global) -> Result<bool, NoMemory> {
+    let m = sample(alloc)?;
+    copies(alloc, &m)
+}
+
 #[test]
 fn copies_have_the_same_operations(rt: HostRuntime) -> Result<(), Fail> {
+    assert!(rt; sample_copies(rt.alloc())?);
+    Ok(())
+}
+
+#[test]
+fn a_copy_of_an_attribute_equals_it(rt: HostRuntime) -> Result<(), Fail> {
     let alloc = rt.alloc();
-    let m = sample(alloc)?;
-    let copy = m.copy(alloc)?;
-    let names = walk_post(alloc, &copy.root)?;
-    assert_eq!(rt; names.as_slice(), walk_post(alloc, &m.root)?.as_slice());
-    assert_eq!(rt; copy.next, 5);
     let attr = Attr {
         name: ListOf::from_slice(alloc, b"note")?,
         value: AttrValue::Int {
@@ -193,8 +228,8 @@ fn copies_have_the_same_operations(rt: HostRuntime) -> Result<(), Fail> {
             bits: 7,
         },
     };
-    let attr_copy = attr.duplicate(alloc)?;
-    assert!(rt; attr_copy.name.equals(&attr.name) && attr_copy.value.equals(&attr.value));
+    let copy = attr.duplicate(alloc)?;
+    assert!(rt; copy.name.equals(&attr.name) && copy.value.equals(&attr.value));
     Ok(())
 }
 

@@ -19,10 +19,8 @@ use Rattle.xf_ir.specs.Tree.{Ops, no_ops, op, no_regions}
 use Rattle.xf_ir.specs.Count.{ops_count}
 use Rattle.xf_ir.specs.Walk.{ops_names, tree_names}
 use Rattle.xf_ir.specs.Places.{below, Seen, done, inside, sees}
-use Rattle.xf_ir.specs.Types.{known}
 use Rattle.xf_ir.specs.Placed.{Typed, type_or, type_at, Holder, root_holder, placed}
 use Rattle.xf_ir.specs.RuleBlocks.{block_ends}
-use Rattle.xf_ir.specs.RuleTypes.{takes_gives}
 use Rattle.xf_ir.specs.RuleAttributes.{type_fits}
 use Rattle.xf_ir.specs.Valid.{IsValid, IsNamedOnce, HoldsFunctions, OpsInner}
 use Rattle.xf_ir.proofs.Obeys.{OpsObey, each_blocks}
@@ -334,11 +332,10 @@ module_rules : (w : Written) (ops : Ops) → IsWord (drop 1 w.symbol) → IsBody
 module_rules w ops symbol h =
     let word : is_word (drop 1 w.symbol) ≡ true = word_passes (drop 1 w.symbol) symbol in
     let ends : block_ends (kind.Func (drop 1 w.symbol) false (i32 ∷ [])) ops ≡ true = h.ends in
-    let range : every type_fits (i32s w.params) ≡ true = all_in_range w.params in
-    (
+    let range : every type_fits (i32s w.params) ≡ true = all_in_range w.params in (
       (refl, (refl, (refl, (refl, (refl, (refl, (refl, (refl, (refl, (refl, (refl, (refl, (refl, (refl, tt)))))))))))))),
       each_blocks (Local (module_of w ops)) (root_holder (module_of w ops).root) (module_of w ops).root.regions
-      (((refl, (rw ends refl, (refl, (refl, (rw word refl, (refl, (refl, (refl, (refl, (refl, (refl, (refl, (rw range refl, (refl, tt)))))))))))))), ((h.rules, tt), tt)), tt),
+          (((refl, (rw ends refl, (refl, (refl, (rw word refl, (refl, (refl, (refl, (refl, (refl, (refl, (refl, (rw range refl, (refl, tt)))))))))))))), ((h.rules, tt), tt)), tt),
     )
 
 module_holds : (w : Written) (ops : Ops) → IsBody w ops → HoldsFunctions (module_of w ops)
