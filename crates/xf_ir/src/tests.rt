@@ -1,5 +1,6 @@
 //! Each public call on the module of one function, whose sum nothing uses.
-ghost use Rattle.std.specs.Prelude.{◌≡◌, [], ◌∷◌, IfOk, OnOk};
+ghost use Rattle.std.specs.Prelude.{◌≡◌, ◌<◌, ◌^◌, [], ◌∷◌, IfOk, OnOk};
+ghost use Rattle.xf_ir.specs.Count.{tree_count};
 ghost use Rattle.xf_ir.specs.Tree.{no_regions, region};
 ghost use Rattle.xf_ir.specs.View.{ops_of};
 ghost use Rattle.xf_ir.specs.Valid.{IsValid};
@@ -128,7 +129,9 @@ fn finds_five(m: &Module) -> bool {
 }
 
 /// The walks of the module, which is the sample.
-fn walks(alloc: Global, m: &Module) -> Result<bool, NoMemory> {
+fn walks(alloc: Global, m: &Module) -> Result<bool, NoMemory>
+    requires { tree_count m.now.root < 2 ^ 32 }
+{
     let wanted = [OpName(2), OpName(3), OpName(4), OpName(1), OpName(0)];
     Ok(names_are(alloc, m, &wanted)? && count(&m.root) == 5 && finds_five(m))
 }

@@ -19,7 +19,7 @@ fn body(module: &Module) -> Option<&Block> {
 
 fn constant(op: &Op) -> Option<u64> {
     match &op.kind {
-        Kind::Constant { bits, .. } => Some(*bits),
+        Kind::Constant { bits, .. } => Some(*bits as u64),
         _ => None,
     }
 }
