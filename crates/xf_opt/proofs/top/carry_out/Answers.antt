@@ -19,5 +19,5 @@ returns-clause-payload g c =
     inr (
       c.erase_dead.new.journal,
       front_is c.args.payload.now c.erase_dead.new.journal c.in-Ok-read_payload.module c.erase_dead.new.m _ _ c.in-Ok-read_payload.ensures.ok c.in-Ok-read_payload.ensures.form
-      c.in-Ok-erase_dead.ensures.runs c.in-Ok-erase_dead.ensures.few c.in-Ok-erase_dead.ensures.keeps c.in-Ok-erase_dead.ensures.form c.in-Err-NoMemory.ensures.text,
+          c.in-Ok-erase_dead.ensures.runs c.in-Ok-erase_dead.ensures.few c.in-Ok-erase_dead.ensures.keeps c.in-Ok-erase_dead.ensures.form c.in-Err-NoMemory.ensures.text,
     )
