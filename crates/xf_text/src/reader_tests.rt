@@ -17,15 +17,15 @@ fn body(module: &Module) -> Option<&Block> {
     function.regions.first()
 }
 
-fn constant(op: &Op) -> Option<u64> {
+fn constant(op: &Op) -> Option<u128> {
     match &op.kind {
-        Kind::Constant { bits, .. } => Some(*bits as u64),
+        Kind::Constant { bits, .. } => Some(*bits),
         _ => None,
     }
 }
 
 /// How many arguments and operations the function of a text has, and the bits of its first operation.
-fn shape(rt: &impl Abort, alloc: Global, text: &[u8]) -> Option<(usize, usize, Option<u64>)> {
+fn shape(rt: &impl Abort, alloc: Global, text: &[u8]) -> Option<(usize, usize, Option<u128>)> {
     assert!(rt; text.len() < 4294967296);
     match read_module(alloc, text) {
         Ok(module) => {
