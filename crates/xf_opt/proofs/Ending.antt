@@ -1,5 +1,5 @@
 -- How the ends of the inner calls make up the end of the whole.
-use Rattle.std.proofs.Common.{◌≡◌, ◌⊎◌, ℕ, List, Option, Some, None, inl, inr, refl, ap, sym, [], length, ◌≤◌, ◌+◌}
+use Rattle.std.proofs.Common.{◌≡◌, ℕ, List, Option, Some, None, inl, refl, ap, sym, [], length, ◌≤◌, ◌+◌}
 use Rattle.xf_host.specs.Writes.{Gains, GainsFront}
 use Rattle.xf_ir.specs.declared.op.Module.{Module}
 use Rattle.xf_ir.specs.Valid.{IsValid}
@@ -16,8 +16,9 @@ use Rattle.xf_opt.specs.declared.journal.Entry.{Entry}
 use Rattle.xf_opt.specs.declared.outcome.Refusal.{Refusal}
 use Rattle.xf_opt.specs.declared.outcome.Refusal.TheVariants as because
 use Rattle.xf_opt.specs.Run.{Runs}
-use Rattle.xf_opt.specs.Ends.{SpellsFile, Reaches, Headline, WritesFront}
-use Rattle.xf_opt.specs.Ended.{EndsByPayload}
+use Rattle.xf_opt.specs.Words.{run}
+use Rattle.xf_opt.specs.Ends.{SpellsFile, Reaches, Headline, Finishes, WritesFront}
+use Rattle.xf_opt.specs.Ended.{EndsByPayload, RefusesBy}
 use Rattle.xf_text.proofs.FirstForms.{spells_valid}
 use Rattle.xf_text.proofs.PrintingLaw.{printed_is_spelt}
 use Rattle.xf_opt.proofs.Renaming.{renaming_keeps}
@@ -32,14 +33,14 @@ pub reached : (payload : List ℕ) (journal : List Entry) (m after : Module) →
 reached payload journal m after s f r n k v = record { before = m; spells = s; valid = f.valid; runs = r; few = n; keeps = k; valid_after = v }
 
 -- the headline, from its parts
-pub headline_is : (payload : List ℕ) (journal : List Entry) (m after : Module) (old new : Option (List ℕ)) → SpellsFile payload m → IsFirstForm m → Runs m journal after → IsFew m journal → KeepsMeaning m after → IsFirstForm after → Gains old (printed_form after) new → Headline payload journal old new
+headline_is : (payload : List ℕ) (journal : List Entry) (m after : Module) → SpellsFile payload m → IsFirstForm m → Runs m journal after → IsFew m journal → KeepsMeaning m after → IsFirstForm after → Headline payload journal (printed_form after)
 unfolding reached
-headline_is payload journal m after old new s f r n k g w =
+headline_is payload journal m after s f r n k g =
     let again = printed_is_spelt after g in
     record {
       after = after;
       reaches = reached payload journal m after s f r n k g.valid;
-      written = w;
+      is = refl;
       again = again.0;
       spells = again.1.0;
       renamed = again.1.1;
@@ -47,18 +48,21 @@ headline_is payload journal m after old new s f r n k g w =
       same = keeping_composes m after again.0 k (renaming_keeps after again.0 g.valid (spells_valid (printed_form after) again.0 again.1.0) again.1.1);
     }
 
-pub front_is : (payload : List ℕ) (journal : List Entry) (m after : Module) (old new : Option (List ℕ)) → SpellsFile payload m → IsFirstForm m → Runs m journal after → IsFew m journal → KeepsMeaning m after → IsFirstForm after → GainsFront old (printed_form after) new → WritesFront payload journal old new
-front_is payload journal m after old new s f r n k g w = record { after = after; reaches = reached payload journal m after s f r n k g.valid; written = w }
+pub whole_is : (payload script path : List ℕ) (journal : List Entry) (m after : Module) (old new : Option (List ℕ)) → SpellsFile payload m → IsFirstForm m → Runs m journal after → IsFew m journal → KeepsMeaning m after → IsFirstForm after → Gains old (printed_form after) new → Finishes (run script path) payload journal old new
+whole_is payload script path journal m after old new s f r n k g w = (printed_form after, (headline_is payload journal m after s f r n k g, w))
+
+pub front_is : (payload script path : List ℕ) (journal : List Entry) (m after : Module) (old new : Option (List ℕ)) → SpellsFile payload m → IsFirstForm m → Runs m journal after → IsFew m journal → KeepsMeaning m after → IsFirstForm after → GainsFront old (printed_form after) new → WritesFront (run script path) payload journal old new
+front_is payload script path journal m after old new s f r n k g w = (printed_form after, (headline_is payload journal m after s f r n k g, w))
 
 -- a payload that is refused before the run
-pub payload_refused : (payload : List ℕ) (journal : List Entry) (old : Option (List ℕ)) (r : Refusal) → (r ≡ because.Payload) ⊎ (r ≡ because.NoMemory) → (r ≡ because.Payload → (m : Module) → SpellsFile payload m → ⊥) → EndsByPayload (Some r) payload journal old old
-payload_refused payload journal old because.Words e n = tt
-payload_refused payload journal old because.ScriptRead e n = tt
-payload_refused payload journal old because.PayloadRead e n = tt
-payload_refused payload journal old because.Write e n = absurd (elim e [ inl p ↦ (cc) | inr p ↦ (cc) ])
-payload_refused payload journal old because.Payload e n = n refl
-payload_refused payload journal old because.Script e n = tt
-payload_refused payload journal old because.NoMemory e n = inl refl
+pub form_refused : (script path payload : List ℕ) (journal : List Entry) (old : Option (List ℕ)) (r : Refusal) → RefusesBy (run [] []) payload r → EndsByPayload (Some r) (run script path) payload journal old old
+form_refused script path payload journal old because.Words e = absurd e
+form_refused script path payload journal old because.ScriptRead e = absurd e
+form_refused script path payload journal old because.PayloadRead e = absurd e
+form_refused script path payload journal old because.Write e = absurd e
+form_refused script path payload journal old (because.Payload f) e = e
+form_refused script path payload journal old because.Script e = absurd e
+form_refused script path payload journal old because.NoMemory e = inl refl
 
 -- the root of a module that a text spells is operation 0
 some_named : (w : Written) (o : Option Ops) (m : Module) → option_map (module_of w) o ≡ Some m → m.root.name ≡ op_name 0

@@ -6,11 +6,14 @@ use Rattle.std.proofs.lemmas.Slice.Eq.{bytes_eq-Decides}
 use Rattle.std.proofs.lemmas.Bool.{cases_lt}
 use Rattle.std.proofs.lemmas.List.{length-take, take_all}
 use Rattle.xf_host.specs.Count.{HasRisen}
+use Rattle.xf_span.specs.declared.fault.Fault.{Fault}
 use Rattle.xf_ir.specs.declared.op.Module.{Module}
 use Rattle.xf_opt.specs.declared.journal.Entry.{Entry}
 use Rattle.xf_opt.specs.declared.outcome.Refusal.{Refusal}
 use Rattle.xf_opt.specs.declared.outcome.Refusal.TheVariants as because
-use Rattle.xf_opt.specs.Ends.{file_limit, IsScriptFile, SpellsFile, Reaches, WritesFront}
+use Rattle.xf_payload.specs.Payload.{file_limit, IsPayload, IsNoPayload, IsTooLong, IsMisspelt, BreaksARule}
+use Rattle.xf_opt.specs.Words.{Asked, run, verify, print}
+use Rattle.xf_opt.specs.Ends.{IsScriptFile, SpellsFile, Reaches, Headline, TellsOf, Due, Refuses, Finishes, WritesFront, WritesAtMost}
 use Rattle.xf_opt.specs.Ended.{EndsByScript, EndsByPayload}
 
 -- ---- counts
@@ -55,8 +58,40 @@ front_of_payload file front m e s = ⊎_elim (λ (same : front ≡ file). subst 
 reaches_of_front : (file front : List ℕ) (journal : List Entry) (after : Module) → front ≡ take (file_limit + 1) file → Reaches front journal after → Reaches file journal after
 reaches_of_front file front journal after e r = record { before = r.before; spells = payload_of_front file front r.before e r.spells; valid = r.valid; runs = r.runs; few = r.few; keeps = r.keeps; valid_after = r.valid_after }
 
-writes_of_front : (file front : List ℕ) (journal : List Entry) (old new : Option (List ℕ)) → front ≡ take (file_limit + 1) file → WritesFront front journal old new → WritesFront file journal old new
-writes_of_front file front journal old new e w = record { after = w.after; reaches = reaches_of_front file front journal w.after e w.reaches; written = w.written }
+headline_of_front : (file front : List ℕ) (journal : List Entry) (text : List ℕ) → front ≡ take (file_limit + 1) file → Headline front journal text → Headline file journal text
+unfolding reaches_of_front
+headline_of_front file front journal text e h = record { after = h.after; reaches = reaches_of_front file front journal h.after e h.reaches; is = h.is; again = h.again; spells = h.spells; renamed = h.renamed; valid = h.valid; same = h.same }
+
+-- ---- valid payloads, and files that hold none
+
+holds_of_front : (file front : List ℕ) (m : Module) → front ≡ take (file_limit + 1) file → IsPayload front m → IsPayload file m
+holds_of_front file front m e s = ⊎_elim (λ (same : front ≡ file). subst (λ f. IsPayload f m) same s) (λ (long : (file_limit < length front) × (file_limit < length file)). absurd (let a = s.fits in let b = long.0 in omega arith)) (front_cases file front e)
+
+long_front : (file front : List ℕ) (f : Fault) → (file_limit < length front) × (file_limit < length file) → IsNoPayload front f → IsNoPayload file f
+long_front file front f long (inl x) = inl (record { passes = long.1; is = x.is })
+long_front file front f long (inr (inl x)) = absurd (let a = x.fits in let b = long.0 in omega arith)
+long_front file front f long (inr (inr x)) = absurd (let a = x.fits in let b = long.0 in omega arith)
+
+refused_of_front : (file front : List ℕ) (f : Fault) → front ≡ take (file_limit + 1) file → IsNoPayload front f → IsNoPayload file f
+refused_of_front file front f e n = ⊎_elim (λ (same : front ≡ file). subst (λ q. IsNoPayload q f) same n) (λ (long : (file_limit < length front) × (file_limit < length file)). long_front file front f long n) (front_cases file front e)
+
+tells_of_front : (text_of : Module → List ℕ) (file front : List ℕ) (journal : List Entry) (text : List ℕ) → front ≡ take (file_limit + 1) file → TellsOf text_of front journal text → TellsOf text_of file journal text
+tells_of_front text_of file front journal text e t = record { payload = t.payload; holds = holds_of_front file front t.payload e t.holds; is = t.is; no_choice = t.no_choice }
+
+-- ---- what is due
+
+due_of_front : (asked : Asked) (file front : List ℕ) (journal : List Entry) (text : List ℕ) → front ≡ take (file_limit + 1) file → Due asked front journal text → Due asked file journal text
+due_of_front (run s p) file front journal text e d = headline_of_front file front journal text e d
+due_of_front (verify p) file front journal text e d = tells_of_front _ file front journal text e d
+due_of_front (print p) file front journal text e d = tells_of_front _ file front journal text e d
+
+refuses_of_front : (asked : Asked) (file front : List ℕ) (f : Fault) → front ≡ take (file_limit + 1) file → Refuses asked front f → Refuses asked file f
+refuses_of_front (run s p) file front f e r = (r.0, λ m s. r.1 m (front_of_payload file front m e s))
+refuses_of_front (verify p) file front f e r = refused_of_front file front f e r
+refuses_of_front (print p) file front f e r = refused_of_front file front f e r
+
+writes_of_front : (asked : Asked) (file front : List ℕ) (journal : List Entry) (old new : Option (List ℕ)) → front ≡ take (file_limit + 1) file → WritesFront asked front journal old new → WritesFront asked file journal old new
+writes_of_front asked file front journal old new e w = (w.0, (due_of_front asked file front journal w.0 e w.1.0, w.1.1))
 
 -- ---- the end, said of the files
 
@@ -66,7 +101,7 @@ ends_by_script (Some because.Words) file front old new e s = tt
 ends_by_script (Some because.ScriptRead) file front old new e s = tt
 ends_by_script (Some because.PayloadRead) file front old new e s = tt
 ends_by_script (Some because.Write) file front old new e s = script_of_front file front e s
-ends_by_script (Some because.Payload) file front old new e s = script_of_front file front e s
+ends_by_script (Some (because.Payload f)) file front old new e s = script_of_front file front e s
 ends_by_script (Some because.Script) file front old new e s = λ f. s (front_of_script file front e f)
 ends_by_script (Some because.NoMemory) file front old new e s = ⊎_elim (λ (same : new ≡ old). inl same) (λ (f : IsScriptFile front). inr (script_of_front file front e f)) s
 
@@ -74,18 +109,17 @@ pub script_told : (told : Option (List ℕ)) (r : Option Refusal) (front : List 
 script_told None r front old new e s = tt
 script_told (Some file) r front old new e s = ends_by_script r file front old new e s
 
-ends_by_payload : (r : Option Refusal) (file front : List ℕ) (journal : List Entry) (old new : Option (List ℕ)) → front ≡ take (file_limit + 1) file → EndsByPayload r front journal old new → EndsByPayload r file journal old new
-unfolding reaches_of_front
-ends_by_payload None file front journal old new e h = record { after = h.after; reaches = reaches_of_front file front journal h.after e h.reaches; written = h.written; again = h.again; spells = h.spells; renamed = h.renamed; valid = h.valid; same = h.same }
-ends_by_payload (Some because.Words) file front journal old new e h = tt
-ends_by_payload (Some because.ScriptRead) file front journal old new e h = tt
-ends_by_payload (Some because.PayloadRead) file front journal old new e h = tt
-ends_by_payload (Some because.Write) file front journal old new e h = writes_of_front file front journal old new e h
-ends_by_payload (Some because.Payload) file front journal old new e h = λ m s. h m (front_of_payload file front m e s)
-ends_by_payload (Some because.Script) file front journal old new e h = tt
-ends_by_payload (Some because.NoMemory) file front journal old new e h =
-    ⊎_elim (λ (same : new ≡ old). inl same) (λ (w : (js : List Entry) × WritesFront front js old new). inr (w.0, writes_of_front file front w.0 old new e w.1)) h
+ends_by_payload : (r : Option Refusal) (asked : Asked) (file front : List ℕ) (journal : List Entry) (old new : Option (List ℕ)) → front ≡ take (file_limit + 1) file → EndsByPayload r asked front journal old new → EndsByPayload r asked file journal old new
+ends_by_payload None asked file front journal old new e h = (h.0, (due_of_front asked file front journal h.0 e h.1.0, h.1.1))
+ends_by_payload (Some because.Words) asked file front journal old new e h = tt
+ends_by_payload (Some because.ScriptRead) asked file front journal old new e h = tt
+ends_by_payload (Some because.PayloadRead) asked file front journal old new e h = tt
+ends_by_payload (Some because.Write) asked file front journal old new e h = writes_of_front asked file front journal old new e h
+ends_by_payload (Some (because.Payload f)) asked file front journal old new e h = refuses_of_front asked file front f e h
+ends_by_payload (Some because.Script) asked file front journal old new e h = tt
+ends_by_payload (Some because.NoMemory) asked file front journal old new e h =
+    ⊎_elim (λ (same : new ≡ old). inl same) (λ (w : (js : List Entry) × WritesFront asked front js old new). inr (w.0, writes_of_front asked file front w.0 old new e w.1)) h
 
-pub payload_told : (told : Option (List ℕ)) (r : Option Refusal) (front : List ℕ) (journal : List Entry) (old new : Option (List ℕ)) → IfSome told (λ file. front ≡ take (file_limit + 1) file) → EndsByPayload r front journal old new → IfSome told (λ file. EndsByPayload r file journal old new)
-payload_told None r front journal old new e h = tt
-payload_told (Some file) r front journal old new e h = ends_by_payload r file front journal old new e h
+pub payload_told : (told : Option (List ℕ)) (r : Option Refusal) (asked : Asked) (front : List ℕ) (journal : List Entry) (old new : Option (List ℕ)) → IfSome told (λ file. front ≡ take (file_limit + 1) file) → EndsByPayload r asked front journal old new → IfSome told (λ file. EndsByPayload r asked file journal old new)
+payload_told None r asked front journal old new e h = tt
+payload_told (Some file) r asked front journal old new e h = ends_by_payload r asked file front journal old new e h

@@ -1,31 +1,28 @@
 -- How a call of the program ends: its status, what it wrote and what it told.
-use Rattle.std.specs.Prelude.{◌≡◌, ◌≢◌, ◌↔◌, ◌⊎◌, ℕ, ◌+◌, ◌≤◌, List, [], ◌++◌, length, Option, Some, None, IfSome, codes}
+use Rattle.std.specs.Prelude.{◌≡◌, ◌≢◌, ◌↔◌, ◌⊎◌, ℕ, ◌+◌, ◌≤◌, List, [], length, Option, Some, None, IfSome, codes}
 use Rattle.xf_host.specs.Count.{HasRisen}
 use Rattle.xf_host.specs.Writes.{Gains, GainsFront}
-use Rattle.xf_span.specs.declared.code.Code.{Code}
 use Rattle.xf_span.specs.declared.code.Code.TheVariants as code
 use Rattle.xf_span.specs.declared.fault.Fault.{Fault}
 use Rattle.xf_span.specs.Fault.{plain_fault}
+use Rattle.xf_span.specs.Line.{line_of}
 use Rattle.xf_ir.specs.declared.op.Module.{Module}
 use Rattle.xf_ir.specs.Valid.{IsValid}
 use Rattle.xf_ir.specs.Choices.{weight_at}
 use Rattle.xf_sem.specs.Keeps.{KeepsMeaning}
 use Rattle.xf_text.specs.Script.{IsScript}
 use Rattle.xf_text.specs.Spells.{Spells}
-use Rattle.xf_text.specs.Printed.{printed_form}
+use Rattle.xf_text.specs.Printed.{printed_form as first_printed_form}
 use Rattle.xf_text.specs.Renamed.{IsRenamed}
+use Rattle.xf_print.specs.Printed.{printed_form}
+use Rattle.xf_payload.specs.Payload.{file_limit, IsPayload, IsNoPayload}
 use Rattle.xf_opt.specs.declared.journal.Entry.{Entry}
-use Rattle.xf_opt.specs.declared.outcome.Refusal.{Refusal}
-use Rattle.xf_opt.specs.declared.outcome.Refusal.TheVariants as because
 use Rattle.xf_opt.specs.declared.outcome.Told.{Told}
 use Rattle.xf_opt.specs.declared.outcome.Told.TheVariants.{Whole, Failed, NoMemory}
 use Rattle.xf_opt.specs.Run.{Runs}
+use Rattle.xf_opt.specs.Words.{Asked, run, verify, print, script_of, payload_of}
 
 -- ---- files
-
--- the greatest length of a file
-abbrev pub file_limit : ℕ
-file_limit = 8388608
 
 -- a file is the schedule of the first form
 pub record IsScriptFile (file : List ℕ) : Type 0 where
@@ -37,21 +34,7 @@ pub record SpellsFile (file : List ℕ) (m : Module) : Type 0 where
   pub fits : length file ≤ file_limit
   pub spells : Spells file m
 
--- ---- what the status says of the files
-
--- 5 exactly where the file is no schedule, unless the call ended before it was judged
-pub record JudgesScript (status : ℕ) (old new : Option (List ℕ)) (file : List ℕ) : Type 0 where
-  pub refused : status ≡ 5 → IsScriptFile file → ⊥
-  pub taken : (status ≡ 0) ⊎ ((status ≡ 3) ⊎ (status ≡ 4)) → IsScriptFile file
-  -- want of memory, which may come before and after
-  pub memory : status ≡ 9 → (new ≡ old) ⊎ IsScriptFile file
-
--- 4 exactly where the file spells no module, unless the call ended before it was judged
-pub record JudgesPayload (status : ℕ) (file : List ℕ) : Type 0 where
-  pub refused : status ≡ 4 → (m : Module) → SpellsFile file m → ⊥
-  pub taken : (status ≡ 0) ⊎ (status ≡ 3) → (m : Module) × SpellsFile file m
-
--- ---- what is written
+-- ---- the text that is due
 
 -- the payload's module, and the module that the run leaves: it keeps the meaning, and the choices are at most as many as the
 -- weight of what the payload's module holds
@@ -64,63 +47,73 @@ pub record Reaches (file : List ℕ) (journal : List Entry) (after : Module) : T
   pub keeps : KeepsMeaning before after
   pub valid_after : IsValid after
 
--- the headline: the written text is the printed form of a module that the run of the script reaches from the payload with the
--- journal, and this module keeps the payload's meaning; read again the text gives it up to the names of operations, and what is
--- read keeps the payload's meaning too
-pub record Headline (file : List ℕ) (journal : List Entry) (old new : Option (List ℕ)) : Type 0 where
+-- the headline: a text is the printed form of a module that the run of the script reaches from the payload with the journal,
+-- and this module keeps the payload's meaning; read again the text gives it up to the names of operations, and what is read keeps
+-- the payload's meaning too
+pub record Headline (file : List ℕ) (journal : List Entry) (text : List ℕ) : Type 0 where
   pub after : Module
   pub reaches : Reaches file journal after
-  pub written : Gains old (printed_form after) new
+  pub is : text ≡ first_printed_form after
   pub again : Module
-  pub spells : Spells (printed_form after) again
+  pub spells : Spells text again
   pub renamed : IsRenamed after again
   pub valid : IsValid again
   pub same : KeepsMeaning reaches.before again
 
--- a front of the text that is due was written
-pub record WritesFront (file : List ℕ) (journal : List Entry) (old new : Option (List ℕ)) : Type 0 where
-  pub after : Module
-  pub reaches : Reaches file journal after
-  pub written : GainsFront old (printed_form after) new
+-- a text that tells of a valid payload, without any choice
+pub record TellsOf (text_of : Module → List ℕ) (file : List ℕ) (journal : List Entry) (text : List ℕ) : Type 0 where
+  pub payload : Module
+  pub holds : IsPayload file payload
+  pub is : text ≡ text_of payload
+  pub no_choice : journal ≡ []
 
--- nothing was written, or a front of a text that some run makes due
-abbrev pub WritesAtMost : List ℕ → Option (List ℕ) → Option (List ℕ) → Type 0
-WritesAtMost file old new = (new ≡ old) ⊎ ((journal : List Entry) × WritesFront file journal old new)
+-- the text that a command owes for a payload's file, and the choices that it made
+abbrev pub Due : Asked → List ℕ → List Entry → List ℕ → Type 0
+Due (run script payload) file journal text = Headline file journal text
+Due (verify payload) file journal text = TellsOf (λ m. codes "ok\n") file journal text
+Due (print payload) file journal text = TellsOf printed_form file journal text
 
--- ---- what is told
+-- it was written
+abbrev pub Finishes : Asked → List ℕ → List Entry → Option (List ℕ) → Option (List ℕ) → Type 0
+Finishes asked file journal old new = (text : List ℕ) × (Due asked file journal text × Gains old text new)
 
--- the status of a call that is refused so
-abbrev pub status_of : Refusal → ℕ
-status_of because.Words = 1
-status_of because.ScriptRead = 2
-status_of because.PayloadRead = 2
-status_of because.Write = 3
-status_of because.Payload = 4
-status_of because.Script = 5
-status_of because.NoMemory = 9
+-- a front of it was written
+abbrev pub WritesFront : Asked → List ℕ → List Entry → Option (List ℕ) → Option (List ℕ) → Type 0
+WritesFront asked file journal old new = (text : List ℕ) × (Due asked file journal text × GainsFront old text new)
 
--- the path that the line of a refusal begins with
-abbrev pub path_of : Refusal → List ℕ → List ℕ → List ℕ
-path_of because.Words script payload = []
-path_of because.ScriptRead script payload = script
-path_of because.PayloadRead script payload = payload
-path_of because.Write script payload = []
-path_of because.Payload script payload = payload
-path_of because.Script script payload = script
-path_of because.NoMemory script payload = []
+-- nothing was written, or a front of a text that is due with some journal
+abbrev pub WritesAtMost : Asked → List ℕ → Option (List ℕ) → Option (List ℕ) → Type 0
+WritesAtMost asked file old new = (new ≡ old) ⊎ ((journal : List Entry) × WritesFront asked file journal old new)
 
--- the code of a refusal
-abbrev pub code_of : Refusal → Code
-code_of because.Words = code.Words
-code_of because.ScriptRead = code.ReadFailed
-code_of because.PayloadRead = code.ReadFailed
-code_of because.Write = code.WriteFailed
-code_of because.Payload = code.N1
-code_of because.Script = code.N1
-code_of because.NoMemory = code.OutOfMemory
+-- ---- files that are refused
 
-abbrev pub fault_of : Refusal → Fault
-fault_of r = plain_fault (code_of r)
+-- a payload's file is refused with this fault
+abbrev pub Refuses : Asked → List ℕ → Fault → Type 0
+Refuses (run script payload) file f = (f ≡ plain_fault code.N1) × ((m : Module) → SpellsFile file m → ⊥)
+Refuses (verify payload) file f = IsNoPayload file f
+Refuses (print payload) file f = IsNoPayload file f
+
+-- or it is taken
+abbrev pub Takes : Asked → List ℕ → Type 0
+Takes (run script payload) file = (m : Module) × SpellsFile file m
+Takes (verify payload) file = (m : Module) × IsPayload file m
+Takes (print payload) file = (m : Module) × IsPayload file m
+
+-- ---- what the status says of the files
+
+-- 5 exactly where the file is no schedule, unless the call ended before it was judged
+pub record JudgesScript (status : ℕ) (old new : Option (List ℕ)) (file : List ℕ) : Type 0 where
+  pub refused : status ≡ 5 → IsScriptFile file → ⊥
+  pub taken : (status ≡ 0) ⊎ ((status ≡ 3) ⊎ (status ≡ 4)) → IsScriptFile file
+  -- want of memory, which may come before and after
+  pub memory : status ≡ 9 → (new ≡ old) ⊎ IsScriptFile file
+
+-- 4 exactly where the file is refused, and then with its fault, unless the call ended before it was judged
+pub record JudgesPayload (status : ℕ) (fault : Option Fault) (asked : Asked) (file : List ℕ) : Type 0 where
+  pub refused : status ≡ 4 → (f : Fault) × ((fault ≡ Some f) × Refuses asked file f)
+  pub taken : (status ≡ 0) ⊎ (status ≡ 3) → Takes asked file
+
+-- ---- the fault and its line
 
 -- the fault of a call that ends with this status
 pub record FaultIs (status : ℕ) (fault : Option Fault) : Type 0 where
@@ -128,7 +121,6 @@ pub record FaultIs (status : ℕ) (fault : Option Fault) : Type 0 where
   pub words : status ≡ 1 → fault ≡ Some (plain_fault code.Words)
   pub read : status ≡ 2 → fault ≡ Some (plain_fault code.ReadFailed)
   pub write : status ≡ 3 → fault ≡ Some (plain_fault code.WriteFailed)
-  pub payload : status ≡ 4 → fault ≡ Some (plain_fault code.N1)
   pub script : status ≡ 5 → fault ≡ Some (plain_fault code.N1)
   pub memory : status ≡ 9 → fault ≡ Some (plain_fault code.OutOfMemory)
 
@@ -144,58 +136,63 @@ TellsLine NoMemory line old new before after = GainsFront old line new
 abbrev pub IsStatus : ℕ → Type 0
 IsStatus status = (status ≡ 0) ⊎ ((status ≡ 1) ⊎ ((status ≡ 2) ⊎ ((status ≡ 3) ⊎ ((status ≡ 4) ⊎ ((status ≡ 5) ⊎ (status ≡ 9))))))
 
--- the paths that the words give: of the script and of the payload
-abbrev pub Paths : Type 0
-Paths = Option (List ℕ × List ℕ)
+-- a fact on a file, where there is a path and the file is told
+abbrev pub OnFile : Option (List ℕ) → (List ℕ → Option (List ℕ)) → (List ℕ → Type 0) → Type 0
+OnFile None holds P = Unit {0}
+OnFile (Some path) holds P = IfSome (holds path) P
 
 -- a fact on the script's file, where the words give a path and the file is told
-abbrev pub OnScript : Paths → (List ℕ → Option (List ℕ)) → (List ℕ → Type 0) → Type 0
+abbrev pub OnScript : Option Asked → (List ℕ → Option (List ℕ)) → (List ℕ → Type 0) → Type 0
 OnScript None holds P = Unit {0}
-OnScript (Some paths) holds P = IfSome (holds paths.0) P
+OnScript (Some asked) holds P = OnFile (script_of asked) holds P
 
--- the same of the payload's file
-abbrev pub OnPayload : Paths → (List ℕ → Option (List ℕ)) → (List ℕ → Type 0) → Type 0
+-- a fact on a command and the payload's file, where there is one and the file is told
+abbrev pub OnPayload : Option Asked → (List ℕ → Option (List ℕ)) → (Asked → List ℕ → Type 0) → Type 0
 OnPayload None holds P = Unit {0}
-OnPayload (Some paths) holds P = IfSome (holds paths.1) P
+OnPayload (Some asked) holds P = IfSome (holds (payload_of asked)) (P asked)
 
--- the path is one that the words give
-abbrev pub IsGiven : Paths → List ℕ → Type 0
-IsGiven None path = ⊥
-IsGiven (Some paths) path = (path ≡ paths.0) ⊎ (path ≡ paths.1)
+-- the path of the script, or of the payload, that the words give
+abbrev pub IsScriptPath : Option Asked → List ℕ → Type 0
+IsScriptPath None path = ⊥
+IsScriptPath (Some asked) path = script_of asked ≡ Some path
+
+abbrev pub IsPayloadPath : Option Asked → List ℕ → Type 0
+IsPayloadPath None path = ⊥
+IsPayloadPath (Some asked) path = payload_of asked ≡ path
+
+abbrev pub IsGiven : Option Asked → List ℕ → Type 0
+IsGiven asked path = IsScriptPath asked path ⊎ IsPayloadPath asked path
 
 -- a path that the words give, whose count of faults rose
-pub record HasReadFault (paths : Paths) (before after : List ℕ → ℕ) : Type 0 where
-  pub path : List ℕ
-  pub given : IsGiven paths path
+pub record IsFaulty (asked : Option Asked) (before after : List ℕ → ℕ) (path : List ℕ) : Type 0 where
+  pub given : IsGiven asked path
   pub risen : HasRisen (before path) (after path)
 
--- the same path in a line
-pub record ReadLine (paths : Paths) (before after : List ℕ → ℕ) (line : List ℕ) : Type 0 where
-  pub fault : HasReadFault paths before after
-  pub is : line ≡ fault.path ++ codes ": read failed\n"
+abbrev pub HasReadFault : Option Asked → (List ℕ → ℕ) → (List ℕ → ℕ) → Type 0
+HasReadFault asked before after = (path : List ℕ) × IsFaulty asked before after path
 
-abbrev pub script_path : Paths → List ℕ
-script_path None = []
-script_path (Some paths) = paths.0
-
-abbrev pub payload_path : Paths → List ℕ
-payload_path None = []
-payload_path (Some paths) = paths.1
-
--- the line of a call that ends with this status
-pub record IsLine (paths : Paths) (before after : List ℕ → ℕ) (status : ℕ) (line : List ℕ) : Type 0 where
-  pub words : status ≡ 1 → line ≡ codes "transform_opt: words not understood\n"
-  pub read : status ≡ 2 → ReadLine paths before after line
-  pub write : status ≡ 3 → line ≡ codes "out: write failed\n"
-  pub payload : status ≡ 4 → line ≡ payload_path paths ++ codes ": N1 NotBuilt\n"
-  pub script : status ≡ 5 → line ≡ script_path paths ++ codes ": N1 NotBuilt\n"
-  pub memory : status ≡ 9 → line ≡ codes "out of memory\n"
+-- the path of which the line of a call with this status tells; none where it tells of no file
+pub record IsTold (asked : Option Asked) (before after : List ℕ → ℕ) (status : ℕ) (path : List ℕ) : Type 0 where
+  pub words : status ≡ 1 → path ≡ []
+  pub read : status ≡ 2 → IsFaulty asked before after path
+  pub write : status ≡ 3 → path ≡ []
+  pub payload : status ≡ 4 → IsPayloadPath asked path
+  pub script : status ≡ 5 → IsScriptPath asked path
+  pub memory : status ≡ 9 → path ≡ []
 
 -- the counts of all paths that the words do not give stay
-abbrev pub OthersStay : Paths → (List ℕ → ℕ) → (List ℕ → ℕ) → Type 0
-OthersStay paths before after = (path : List ℕ) → (IsGiven paths path → ⊥) → after path ≡ before path
+abbrev pub OthersStay : Option Asked → (List ℕ → ℕ) → (List ℕ → ℕ) → Type 0
+OthersStay asked before after = (path : List ℕ) → (IsGiven asked path → ⊥) → after path ≡ before path
 
--- the line of the status was told, or nothing was where the call ended well
-pub record TellsEnd (paths : Paths) (before after : List ℕ → ℕ) (status : ℕ) (told : Told) (old new : Option (List ℕ)) (faults faults' : ℕ) : Type 0 where
+-- the line of the call's fault was told
+pub record TellsFault (asked : Option Asked) (before after : List ℕ → ℕ) (status : ℕ) (fault : Option Fault) (told : Told) (old new : Option (List ℕ)) (faults faults' : ℕ) : Type 0 where
+  pub told_fault : Fault
+  pub is : fault ≡ Some told_fault
+  pub path : List ℕ
+  pub of : IsTold asked before after status path
+  pub line : TellsLine told (line_of path told_fault) old new faults faults'
+
+-- the line of the call's fault was told, or nothing was where the call ended well
+pub record TellsEnd (asked : Option Asked) (before after : List ℕ → ℕ) (status : ℕ) (fault : Option Fault) (told : Told) (old new : Option (List ℕ)) (faults faults' : ℕ) : Type 0 where
   pub silent : status ≡ 0 → (told ≡ Whole) × (new ≡ old)
-  pub line : status ≢ 0 → (line : List ℕ) × (IsLine paths before after status line × TellsLine told line old new faults faults')
+  pub line : status ≢ 0 → TellsFault asked before after status fault told old new faults faults'

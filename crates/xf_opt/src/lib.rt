@@ -4,8 +4,10 @@
 mod journal;
 mod outcome;
 mod run;
+mod schedule;
 #[cfg(test)]
 mod tests;
+mod telling;
 mod top;
 mod words;
 

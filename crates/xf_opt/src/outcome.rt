@@ -1,7 +1,8 @@
 //! How a call ends.
 ghost use Rattle.std.specs.Prelude.{◌≡◌, ℕ, List};
 ghost use Rattle.xf_span.specs.Line.{line_of};
-ghost use Rattle.xf_opt.specs.Ends.{status_of, path_of, code_of, fault_of, TellsLine};
+ghost use Rattle.xf_opt.specs.Ended.{status_of, path_of, fault_of};
+ghost use Rattle.xf_opt.specs.Ends.{TellsLine};
 
 use crate::journal::Journal;
 use xf_host::sink::{Sink, SinkFail};
@@ -35,7 +36,9 @@ pub enum Refusal {
     ScriptRead,
     PayloadRead,
     Write,
-    Payload,
+    /// The payload's file has this fault.
+    Payload(Fault),
+    /// The script is no schedule of the form that is supported.
     Script,
     NoMemory,
 }
@@ -50,7 +53,7 @@ impl Refusal {
             Refusal::ScriptRead => 2,
             Refusal::PayloadRead => 2,
             Refusal::Write => 3,
-            Refusal::Payload => 4,
+            Refusal::Payload(_) => 4,
             Refusal::Script => 5,
             Refusal::NoMemory => 9,
         }
@@ -65,24 +68,9 @@ impl Refusal {
             Refusal::ScriptRead => script,
             Refusal::PayloadRead => payload,
             Refusal::Write => "",
-            Refusal::Payload => payload,
+            Refusal::Payload(_) => payload,
             Refusal::Script => script,
             Refusal::NoMemory => "",
-        }
-    }
-
-    /// The code of the fault.
-    fn code(self) -> Code
-        ensures { result ≡ code_of self }
-    {
-        match self {
-            Refusal::Words => Code::Words,
-            Refusal::ScriptRead => Code::ReadFailed,
-            Refusal::PayloadRead => Code::ReadFailed,
-            Refusal::Write => Code::WriteFailed,
-            Refusal::Payload => Code::N1,
-            Refusal::Script => Code::N1,
-            Refusal::NoMemory => Code::OutOfMemory,
         }
     }
 
@@ -90,7 +78,14 @@ impl Refusal {
     pub fn fault(self) -> Fault
         ensures { result ≡ fault_of self }
     {
-        Fault::plain(self.code())
+        match self {
+            Refusal::Words => Fault::plain(Code::Words),
+            Refusal::ScriptRead | Refusal::PayloadRead => Fault::plain(Code::ReadFailed),
+            Refusal::Write => Fault::plain(Code::WriteFailed),
+            Refusal::Payload(fault) => fault,
+            Refusal::Script => Fault::plain(Code::N1),
+            Refusal::NoMemory => Fault::plain(Code::OutOfMemory),
+        }
     }
 }
 

@@ -1,49 +1,93 @@
 //! What the words of a call ask for.
-ghost use Rattle.std.specs.Prelude.{◌≡◌, not};
+ghost use Rattle.std.specs.Prelude.{◌≡◌};
 ghost use Rattle.std.specs.Option.{option_map};
-ghost use Rattle.xf_opt.specs.Words.{texts, begins_with_dash, are_run, command_of};
+ghost use Rattle.xf_opt.specs.Words.{texts, is_path, are_run, payload_command, command_of, script_of, payload_of};
+ghost use Rattle.xf_opt.specs.Ended.{asked_by, path_or_none};
 
-/// The command `run`, with the paths that it names.
+/// A command, with the paths that it names.
 #[derive(Clone, Copy, Debug)]
-pub struct Command<'w> {
-    pub script: &'w str,
-    pub payload: &'w str,
+pub enum Command<'w> {
+    /// Carries out a schedule on a payload, and writes the new module.
+    Run { script: &'w str, payload: &'w str },
+    /// Judges a payload by the rules of valid modules.
+    Verify { payload: &'w str },
+    /// Writes a payload in the printed form.
+    Print { payload: &'w str },
+}
+
+impl<'w> Command<'w> {
+    /// The path of the script; nothing where the command takes none.
+    pub fn script(self) -> &'w str
+        ensures { result.now ≡ path_or_none (script_of (asked_by self)) }
+    {
+        match self {
+            Command::Run { script, .. } => script,
+            Command::Verify { .. } | Command::Print { .. } => "",
+        }
+    }
+
+    /// The path of the payload.
+    pub fn payload(self) -> &'w str
+        ensures { result.now ≡ payload_of (asked_by self) }
+    {
+        match self {
+            Command::Run { payload, .. }
+            | Command::Verify { payload }
+            | Command::Print { payload } => payload,
+        }
+    }
 }
 
 /// Whether a word may stand for a path.
 fn is_path(word: &str) -> bool
-    ensures { result ≡ not (begins_with_dash word.now) }
+    ensures { result ≡ is_path word.now }
 {
     !word.starts_with('-')
 }
 
-/// Whether these are the command and its two options.
+/// Whether these are the command `run` and its two options.
 fn are_run(command: &str, script_option: &str, payload_option: &str) -> bool
     ensures { result ≡ are_run command.now script_option.now payload_option.now }
 {
     command == "run" && script_option == "--script" && payload_option == "--payload"
 }
 
-/// Reads the words behind the program's name.
-pub fn parse<'w>(words: &'w [String]) -> Option<Command<'w>>
-    ensures { option_map (λ c. (c.script.now, c.payload.now)) result ≡ command_of (texts words.now) }
+/// The command that takes a payload alone.
+fn payload_command<'w>(command: &str, payload: &'w str) -> Option<Command<'w>>
+    ensures { option_map asked_by result ≡ payload_command command.now payload.now }
 {
-    let [command, script_option, script, payload_option, payload] = words else {
-        return None;
-    };
-    if !are_run(
-        command.as_str(),
-        script_option.as_str(),
-        payload_option.as_str(),
-    ) {
-        return None;
-    }
-    if is_path(script.as_str()) && is_path(payload.as_str()) {
-        Some(Command {
-            script: script.as_str(),
-            payload: payload.as_str(),
-        })
+    if command == "verify" {
+        Some(Command::Verify { payload })
+    } else if command == "print" {
+        Some(Command::Print { payload })
     } else {
         None
+    }
+}
+
+/// Reads the words behind the program's name.
+pub fn parse<'w>(words: &'w [String]) -> Option<Command<'w>>
+    ensures { option_map asked_by result ≡ command_of (texts words.now) }
+{
+    match words {
+        [command, option, payload]
+            if option.as_str() == "--payload" && is_path(payload.as_str()) =>
+        {
+            payload_command(command.as_str(), payload.as_str())
+        }
+        [command, script_option, script, payload_option, payload]
+            if are_run(
+                command.as_str(),
+                script_option.as_str(),
+                payload_option.as_str(),
+            ) && is_path(script.as_str())
+                && is_path(payload.as_str()) =>
+        {
+            Some(Command::Run {
+                script: script.as_str(),
+                payload: payload.as_str(),
+            })
+        }
+        _ => None,
     }
 }

@@ -54,7 +54,16 @@ pub fn writes(out: &str) -> End<'_> {
     }
 }
 
-/// The end of a call that refuses its payload.
+/// The end of a call that refuses its payload with this line.
+pub fn refuses(err: &str) -> End<'_> {
+    End {
+        status: 4,
+        out: "",
+        err,
+    }
+}
+
+/// The end of a run whose payload is not of its form.
 pub const PAYLOAD_REFUSED: End<'static> = End {
     status: 4,
     out: "",
@@ -85,25 +94,41 @@ impl Ended {
     }
 }
 
-/// The words that name the script `s` and the payload `p`.
-const WORDS: [&str; 5] = ["run", "--script", "s", "--payload", "p"];
-
-fn words(alloc: Global) -> Result<Vec<String>, AllocError> {
+fn words(alloc: Global, texts: &[&str]) -> Result<Vec<String>, AllocError> {
     let mut words = Vec::new(alloc);
-    for word in WORDS {
-        words.push(String::from_str(alloc, word)?)?;
+    for text in texts {
+        words.push(String::from_str(alloc, text)?)?;
     }
     Ok(words)
 }
 
-/// Calls the program where `s` and `p` hold these bytes.
+/// Calls the program with these words.
+fn call(alloc: Global, texts: &[&str], mut files: MemFiles) -> Result<Ended, AllocError> {
+    let mut out = MemSink::new(alloc);
+    let mut err = MemSink::new(alloc);
+    let words = words(alloc, texts)?;
+    let outcome = transform_main(alloc, words.as_slice(), &mut files, &mut out, &mut err);
+    Ok(Ended { outcome, out, err })
+}
+
+/// Carries the script `s` out on the payload `p`, where they hold these bytes.
 pub fn run(alloc: Global, script: &[u8], payload: &[u8]) -> Result<Ended, AllocError> {
     let mut files = MemFiles::new(alloc);
     files.add("s", script)?;
     files.add("p", payload)?;
-    let mut out = MemSink::new(alloc);
-    let mut err = MemSink::new(alloc);
-    let words = words(alloc)?;
-    let outcome = transform_main(alloc, words.as_slice(), &mut files, &mut out, &mut err);
-    Ok(Ended { outcome, out, err })
+    call(alloc, &["run", "--script", "s", "--payload", "p"], files)
+}
+
+/// Judges the payload `p`, where it holds these bytes.
+pub fn verify(alloc: Global, payload: &[u8]) -> Result<Ended, AllocError> {
+    let mut files = MemFiles::new(alloc);
+    files.add("p", payload)?;
+    call(alloc, &["verify", "--payload", "p"], files)
+}
+
+/// Prints the payload `p`, where it holds these bytes.
+pub fn print(alloc: Global, payload: &[u8]) -> Result<Ended, AllocError> {
+    let mut files = MemFiles::new(alloc);
+    files.add("p", payload)?;
+    call(alloc, &["print", "--payload", "p"], files)
 }

@@ -9,4 +9,8 @@ mod cut_texts;
 #[cfg(test)]
 mod long_files;
 #[cfg(test)]
+mod printed_modules;
+#[cfg(test)]
 mod printed_texts;
+#[cfg(test)]
+mod verified;

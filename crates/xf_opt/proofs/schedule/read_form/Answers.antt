@@ -1,0 +1,5 @@
+use Rattle.std.proofs.Common.{Err, ap, refl}
+use Rattle.xf_opt.proofs.schedule.read_form.Goals as goal
+
+pub returns-in-Err-NotBuilt-clause-refusal : goal.returns-in-Err-NotBuilt-clause-refusal
+returns-in-Err-NotBuilt-clause-refusal c = (refl, λ m s. c.in-Err-NotBuilt.ensures.not_built (ap Err c.in-Err-NotBuilt.field-0-is) m s.spells)

@@ -1,0 +1,10 @@
+use Rattle.std.proofs.Common.{List, ℕ, subst, []}
+use Rattle.xf_opt.specs.Ended.{refusal_at, EndsByPayload}
+use Rattle.xf_opt.specs.Words.{print}
+use Rattle.xf_opt.proofs.Files.{payload_told}
+use Rattle.xf_opt.proofs.top.print.Goals as goal
+
+pub returns-clause-payload : goal.returns-clause-payload
+returns-clause-payload g c =
+    payload_told _ _ _ c.in-Ok.bytes.items _ _ _ c.in-Ok.ensures.bytes
+    (subst (λ (b : List ℕ). EndsByPayload (refusal_at c.print_payload.result) (print c.args.payload.now) b [] (g.S.Sink.written c.args.out.now) (g.S.Sink.written c.print_payload.new.out)) c.as_slice.ensures.value (c.print_payload.ensures.payload c.args.payload.now))

@@ -1,0 +1,67 @@
+//! The commands `verify` and `print`: a payload judged, as its bytes, and what is told of it.
+ghost use Rattle.std.specs.Prelude.{◌≡◌, [], ℕ, List, IfOk, IfErr};
+ghost use Rattle.xf_payload.specs.Payload.{IsPayload};
+ghost use Rattle.xf_opt.specs.Words.{verify, print};
+ghost use Rattle.xf_opt.specs.Ended.{refusal_at, EndsPlainly, EndsByPayload, IsPastPayload, RefusesBy, write_refusal};
+
+use crate::outcome::Refusal;
+use std::alloc::Global;
+use xf_host::sink::{Sink, SinkFail};
+use xf_ir::Module;
+use xf_payload::read_payload;
+use xf_print::print;
+use xf_span::TextFault;
+
+/// The refusal of a write.
+fn write_refusal(fail: SinkFail) -> Refusal
+    ensures { result ≡ write_refusal fail }
+{
+    match fail {
+        SinkFail::Failed => Refusal::Write,
+        SinkFail::NoMemory => Refusal::NoMemory,
+    }
+}
+
+/// The valid module that a payload's bytes spell.
+fn payload_of(alloc: Global, bytes: &[u8]) -> Result<Module, Refusal>
+    ensures ok { IfOk result (λ m. IsPayload bytes.now m) }
+    ensures refusal { IfErr result (RefusesBy (verify []) bytes.now) }
+{
+    match read_payload(alloc, bytes) {
+        Ok(module) => Ok(module),
+        Err(TextFault::At(fault)) => Err(Refusal::Payload(fault)),
+        Err(TextFault::NoMemory) => Err(Refusal::NoMemory),
+    }
+}
+
+/// Judges a payload, and writes `ok` where it is valid.
+pub fn verify_payload<S: Sink>(alloc: Global, bytes: &[u8], out: &mut S) -> Result<(), Refusal>
+    ensures plain { EndsPlainly (refusal_at result) [] (out.new ≡ out.old) (S.faults out.old) (S.faults out.new) }
+    ensures payload { (p : List ℕ) → EndsByPayload (refusal_at result) (verify p) bytes.now [] (S.written out.old) (S.written out.new) }
+    ensures past { IsPastPayload (refusal_at result) }
+{
+    let _module = match payload_of(alloc, bytes) {
+        Ok(module) => module,
+        Err(refusal) => return Err(refusal),
+    };
+    match out.write(b"ok\n") {
+        Ok(()) => Ok(()),
+        Err(fail) => Err(write_refusal(fail)),
+    }
+}
+
+/// Writes a payload in the printed form, where it is valid.
+pub fn print_payload<S: Sink>(alloc: Global, bytes: &[u8], out: &mut S) -> Result<(), Refusal>
+    ensures plain { EndsPlainly (refusal_at result) [] (out.new ≡ out.old) (S.faults out.old) (S.faults out.new) }
+    ensures payload { (p : List ℕ) → EndsByPayload (refusal_at result) (print p) bytes.now [] (S.written out.old) (S.written out.new) }
+    ensures past { IsPastPayload (refusal_at result) }
+{
+    let module = match payload_of(alloc, bytes) {
+        Ok(module) => module,
+        Err(refusal) => return Err(refusal),
+    };
+    match print(alloc, &module, out) {
+        Ok(()) => Ok(()),
+        Err(fail) => Err(write_refusal(fail)),
+    }
+}

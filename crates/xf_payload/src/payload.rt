@@ -1,0 +1,95 @@
+//! The valid module that a file's bytes spell.
+ghost use Rattle.std.specs.Prelude.{◌≡◌, ◌≤◌, ◌↔◌, length, IfOk, IfErr, IsTrue, Some};
+ghost use Rattle.xf_ir.specs.Valid.{IsValid};
+ghost use Rattle.xf_ir.specs.Violations.{first_violation};
+ghost use Rattle.xf_payload.specs.Payload.{file_limit, rule_code, rule_fault, place_or_first, IsPayload, IsRefused, IsJudged};
+
+use std::alloc::Global;
+use xf_ir::{Module, OpName};
+use xf_read::{PlaceOfList, ReadModule, read_module};
+use xf_span::{Code, Fault, Place, TextFault};
+use xf_verify::{VerifyFault, verify};
+
+/// The greatest length of a file.
+pub const FILE_LIMIT: usize = 8_388_608;
+
+/// The place where a text begins.
+const FIRST_PLACE: Place = Place { line: 1, col: 1 };
+
+/// The code of a rule, by its number.
+fn rule_code(rule: u8) -> Code
+    ensures { result ≡ rule_code rule }
+{
+    match rule {
+        1 => Code::V1,
+        2 => Code::V2,
+        3 => Code::V3,
+        4 => Code::V4,
+        5 => Code::V5,
+        6 => Code::V6,
+        7 => Code::V7,
+        8 => Code::V8,
+        9 => Code::V9,
+        10 => Code::V10,
+        11 => Code::V11,
+        12 => Code::V12,
+        13 => Code::V13,
+        14 => Code::V14,
+        15 => Code::V15,
+        _ => Code::V16,
+    }
+}
+
+/// The fault of an operation that breaks a rule.
+fn rule_fault(places: &PlaceOfList, rule: u8, op: OpName) -> Fault
+    ensures { result ≡ rule_fault places.now (record { rule = rule; op = op }) }
+{
+    let place = match places.get(op.0 as usize) {
+        Some(place) => *place,
+        None => FIRST_PLACE,
+    };
+    Fault::at(rule_code(rule), place)
+}
+
+/// Judges a module that was read by the rules.
+fn judge(alloc: Global, read: &ReadModule) -> Result<(), TextFault>
+    ensures valid { IfOk result (λ _. IsValid read.now.module) }
+    ensures fault { IfErr result (IsJudged read.now.module read.now.places) }
+{
+    match verify(alloc, &read.module) {
+        Ok(()) => Ok(()),
+        Err(VerifyFault::NoMemory) => Err(TextFault::NoMemory),
+        Err(VerifyFault::Rule { rule, op }) => {
+            Err(TextFault::At(rule_fault(&read.places, rule, op)))
+        }
+    }
+}
+
+/// The valid module that a file's bytes spell.
+///
+/// It refuses a file of more than 8,388,608 bytes, whatever they are; else a file that spells no
+/// module, with its first fault; else one whose module breaks a rule, with the first operation that
+/// breaks one. The bytes may be those of the file's front, with at least one byte past the greatest
+/// length where the file has one. It takes time in the length of the text and the logarithm of the
+/// number of names.
+#[tactic(auto, using(crate::proofs::Refused::unread_refused, crate::proofs::Refused::judged_refused))]
+pub fn read_payload(alloc: Global, bytes: &[u8]) -> Result<Module, TextFault>
+    ensures ok { IfOk result (λ m. IsPayload bytes.now m) }
+    ensures fault { IfErr result (IsRefused bytes.now) }
+{
+    if bytes.len() > FILE_LIMIT {
+        return Err(TextFault::At(Fault::at(Code::A8, FIRST_PLACE)));
+    }
+    let read = match read_module(alloc, bytes) {
+        Ok(read) => read,
+        Err(fault) => return Err(fault),
+    };
+    if let Err(fault) = judge(alloc, &read) {
+        return Err(fault);
+    }
+    let ReadModule {
+        module,
+        places: _places,
+    } = read;
+    Ok(module)
+}
