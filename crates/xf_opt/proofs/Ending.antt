@@ -1,6 +1,11 @@
 -- How the ends of the inner calls make up the end of the whole.
-use Rattle.std.proofs.Common.{◌≡◌, ℕ, List, Option, Some, None, inl, refl, ap, sym, [], length, ◌≤◌, ◌+◌}
+use Rattle.std.proofs.Common.{◌≡◌, ℕ, List, Option, Some, None, inl, inr, refl, ap, sym, subst, [], length, ◌≤◌, ◌+◌}
 use Rattle.xf_host.specs.Writes.{Gains, GainsFront}
+use Rattle.xf_host.specs.declared.sink.SinkFail.{SinkFail}
+use Rattle.xf_host.specs.declared.sink.SinkFail.TheVariants as failed
+use Rattle.xf_span.specs.declared.code.Code.TheVariants.{N1}
+use Rattle.xf_span.specs.declared.fault.Fault.{Fault}
+use Rattle.xf_span.specs.Fault.{plain_fault}
 use Rattle.xf_ir.specs.declared.op.Module.{Module}
 use Rattle.xf_ir.specs.Valid.{IsValid}
 use Rattle.xf_ir.specs.Choices.{weight_at}
@@ -16,9 +21,9 @@ use Rattle.xf_opt.specs.declared.journal.Entry.{Entry}
 use Rattle.xf_opt.specs.declared.outcome.Refusal.{Refusal}
 use Rattle.xf_opt.specs.declared.outcome.Refusal.TheVariants as because
 use Rattle.xf_opt.specs.Run.{Runs}
-use Rattle.xf_opt.specs.Words.{run}
-use Rattle.xf_opt.specs.Ends.{SpellsFile, Reaches, Headline, Finishes, WritesFront}
-use Rattle.xf_opt.specs.Ended.{EndsByPayload, RefusesBy}
+use Rattle.xf_opt.specs.Words.{Asked, run}
+use Rattle.xf_opt.specs.Ends.{SpellsFile, Reaches, Headline, Due, Refuses, Finishes, WritesFront}
+use Rattle.xf_opt.specs.Ended.{EndsPlainly, EndsByPayload, IsPastPayload, RefusesBy, write_refusal}
 use Rattle.xf_text.proofs.FirstForms.{spells_valid}
 use Rattle.xf_text.proofs.PrintingLaw.{printed_is_spelt}
 use Rattle.xf_opt.proofs.Renaming.{renaming_keeps}
@@ -54,15 +59,54 @@ whole_is payload script path journal m after old new s f r n k g w = (printed_fo
 pub front_is : (payload script path : List ℕ) (journal : List Entry) (m after : Module) (old new : Option (List ℕ)) → SpellsFile payload m → IsFirstForm m → Runs m journal after → IsFew m journal → KeepsMeaning m after → IsFirstForm after → GainsFront old (printed_form after) new → WritesFront (run script path) payload journal old new
 front_is payload script path journal m after old new s f r n k g w = (printed_form after, (headline_is payload journal m after s f r n k g, w))
 
+-- a payload that is not of the form
+pub not_built_refused : (file : List ℕ) (r : Refusal) → r ≡ because.Payload (plain_fault N1) → ((m : Module) → SpellsFile file m → ⊥) → RefusesBy (run [] []) file r
+not_built_refused file r e none = subst (λ (x : Refusal). RefusesBy (run [] []) file x) (sym e) ((refl, none), tt)
+
 -- a payload that is refused before the run
 pub form_refused : (script path payload : List ℕ) (journal : List Entry) (old : Option (List ℕ)) (r : Refusal) → RefusesBy (run [] []) payload r → EndsByPayload (Some r) (run script path) payload journal old old
 form_refused script path payload journal old because.Words e = absurd e
 form_refused script path payload journal old because.ScriptRead e = absurd e
 form_refused script path payload journal old because.PayloadRead e = absurd e
 form_refused script path payload journal old because.Write e = absurd e
-form_refused script path payload journal old (because.Payload f) e = e
+form_refused script path payload journal old (because.Payload f) e = e.0
 form_refused script path payload journal old because.Script e = absurd e
 form_refused script path payload journal old because.NoMemory e = inl refl
+
+-- a refusal of a payload says nothing else
+pub refused_idly : (asked : Asked) (file : List ℕ) (Stays : Type 0) (r : Refusal) (before after : ℕ) → RefusesBy asked file r → Stays → EndsPlainly (Some r) [] Stays before after
+refused_idly asked file Stays because.Words before after e s = absurd e
+refused_idly asked file Stays because.ScriptRead before after e s = absurd e
+refused_idly asked file Stays because.PayloadRead before after e s = absurd e
+refused_idly asked file Stays because.Write before after e s = absurd e
+refused_idly asked file Stays (because.Payload f) before after e s = ((s, refl), e.1)
+refused_idly asked file Stays because.Script before after e s = absurd e
+refused_idly asked file Stays because.NoMemory before after e s = tt
+
+-- a payload that is refused, by a command that refuses no more
+pub payload_refused : (asked wanted : Asked) (file : List ℕ) (old : Option (List ℕ)) (r : Refusal) → ((f : Fault) → Refuses asked file f → Refuses wanted file f) → RefusesBy asked file r → EndsByPayload (Some r) wanted file [] old old
+payload_refused asked wanted file old because.Words same e = absurd e
+payload_refused asked wanted file old because.ScriptRead same e = absurd e
+payload_refused asked wanted file old because.PayloadRead same e = absurd e
+payload_refused asked wanted file old because.Write same e = absurd e
+payload_refused asked wanted file old (because.Payload f) same e = same f e.0
+payload_refused asked wanted file old because.Script same e = absurd e
+payload_refused asked wanted file old because.NoMemory same e = inl refl
+
+-- the reads are done
+pub refused_past : (asked : Asked) (file : List ℕ) (r : Refusal) → RefusesBy asked file r → IsPastPayload (Some r)
+refused_past asked file because.Words e = absurd e
+refused_past asked file because.ScriptRead e = absurd e
+refused_past asked file because.PayloadRead e = absurd e
+refused_past asked file because.Write e = absurd e
+refused_past asked file (because.Payload f) e = tt
+refused_past asked file because.Script e = absurd e
+refused_past asked file because.NoMemory e = tt
+
+-- a text that is due, of which a front was written
+pub front_written : (asked : Asked) (file text : List ℕ) (fail : SinkFail) (old new : Option (List ℕ)) → Due asked file [] text → GainsFront old text new → EndsByPayload (Some (write_refusal fail)) asked file [] old new
+front_written asked file text failed.Failed old new d w = (text, (d, w))
+front_written asked file text failed.NoMemory old new d w = inr ([], (text, (d, w)))
 
 -- the root of a module that a text spells is operation 0
 some_named : (w : Written) (o : Option Ops) (m : Module) → option_map (module_of w) o ≡ Some m → m.root.name ≡ op_name 0

@@ -1,16 +1,16 @@
 -- What the status of a refusal says.
-use Rattle.std.proofs.Common.{◌≡◌, ◌≢◌, ℕ, List, Option, Some, None, refl, sym, ap, subst, inl, inr, ◌∙◌, arith}
+use Rattle.std.proofs.Common.{◌≡◌, ◌≢◌, ℕ, List, [], Option, Some, None, refl, sym, ap, subst, inl, inr, ◌∙◌, arith}
 use Rattle.std.specs.Prelude.{IfSome}
 use Rattle.xf_host.specs.Count.{HasRisen}
 use Rattle.xf_span.specs.declared.fault.Fault.{Fault}
-use Rattle.xf_span.specs.Line.{line_of}
+use Rattle.xf_span.specs.Line.{line_of, HasLine}
 use Rattle.xf_opt.specs.declared.journal.Entry.{Entry}
 use Rattle.xf_opt.specs.declared.outcome.Refusal.{Refusal}
 use Rattle.xf_opt.specs.declared.outcome.Refusal.TheVariants as because
 use Rattle.xf_opt.specs.declared.outcome.Told.{Told}
 use Rattle.xf_opt.specs.Words.{Asked, run, verify, print, script_of, payload_of}
 use Rattle.xf_opt.specs.Ends.{Due, Takes, JudgesScript, JudgesPayload, FaultIs, TellsLine, OnFile, OnScript, OnPayload, IsFaulty, HasReadFault, IsTold, TellsEnd}
-use Rattle.xf_opt.specs.Ended.{path_or_none, status_of, path_of, fault_of, EndsByScript, EndsByPayload, EndsByReads, HasFaultAt, HasScript}
+use Rattle.xf_opt.specs.Ended.{path_or_none, status_of, path_of, fault_of, EndsPlainly, EndsByScript, EndsByPayload, EndsByReads, HasFaultAt, HasScript}
 
 -- ---- the script
 
@@ -105,6 +105,9 @@ is_told asked before after (because.Payload f) e = record { words = λ p. absurd
 is_told asked before after because.Script e = record { words = λ p. absurd (omega arith); read = λ p. absurd (omega arith); write = λ p. absurd (omega arith); payload = λ p. absurd (omega arith); script = λ p. script_path asked (script_of asked) refl e; memory = λ p. absurd (omega arith) }
 is_told asked before after because.NoMemory e = record { words = λ p. absurd (omega arith); read = λ p. absurd (omega arith); write = λ p. absurd (omega arith); payload = λ p. absurd (omega arith); script = λ p. absurd (omega arith); memory = λ p. refl }
 
+words_path : (before after : List ℕ → ℕ) → IsTold None before after 1 []
+words_path before after = record { words = λ p. refl; read = λ p. absurd (omega arith); write = λ p. absurd (omega arith); payload = λ p. absurd (omega arith); script = λ p. absurd (omega arith); memory = λ p. absurd (omega arith) }
+
 is_refused : (r : Refusal) → status_of r ≡ 0 → ⊥
 is_refused because.Words e = omega arith
 is_refused because.ScriptRead e = omega arith
@@ -159,3 +162,35 @@ read_fault asked before after because.NoMemory e p = absurd (omega arith)
 pub read_told : (command : Option Asked) (asked : Asked) (before after : List ℕ → ℕ) (r : Refusal) (status : ℕ) → Some asked ≡ command → status ≡ status_of r → EndsByReads (Some r) asked before after → status ≡ 2 → HasReadFault command before after
 read_told command asked before after r status p e reads two =
     subst (λ (c : Option Asked). HasReadFault c before after) p (read_fault asked before after r reads (sym e ∙ two))
+
+-- ---- what a refusal leaves
+
+pub line_there : (r : Refusal) (journal : List Entry) (Stays : Type 0) (before after : ℕ) → EndsPlainly (Some r) journal Stays before after → HasLine (fault_of r)
+line_there because.Words journal Stays before after e = tt
+line_there because.ScriptRead journal Stays before after e = tt
+line_there because.PayloadRead journal Stays before after e = tt
+line_there because.Write journal Stays before after e = tt
+line_there (because.Payload f) journal Stays before after e = e.1
+line_there because.Script journal Stays before after e = tt
+line_there because.NoMemory journal Stays before after e = tt
+
+left_idle : (r : Refusal) (journal : List Entry) (Stays : Type 0) (before after : ℕ) → EndsPlainly (Some r) journal Stays before after → status_of r ≢ 3 → status_of r ≢ 9 → Stays × (journal ≡ [])
+left_idle because.Words journal Stays before after e three nine = e
+left_idle because.ScriptRead journal Stays before after e three nine = e
+left_idle because.PayloadRead journal Stays before after e three nine = e
+left_idle because.Write journal Stays before after e three nine = absurd (three refl)
+left_idle (because.Payload f) journal Stays before after e three nine = e.0
+left_idle because.Script journal Stays before after e three nine = e
+left_idle because.NoMemory journal Stays before after e three nine = absurd (nine refl)
+
+pub idle_left : (r : Refusal) (status : ℕ) (journal : List Entry) (Stays : Type 0) (before after : ℕ) → status ≡ status_of r → EndsPlainly (Some r) journal Stays before after → status ≢ 3 → status ≢ 9 → Stays × (journal ≡ [])
+idle_left r status journal Stays before after s e three nine = left_idle r journal Stays before after e (λ p. three (s ∙ p)) (λ p. nine (s ∙ p))
+
+-- words that are not understood
+pub words_told : (before after : List ℕ → ℕ) (fault : Fault) (told : Told) (old new : Option (List ℕ)) (faults faults' : ℕ) → fault ≡ fault_of because.Words → TellsLine told (line_of [] (fault_of because.Words)) old new faults faults' → TellsEnd None before after 1 (Some fault) told old new faults faults'
+words_told before after fault told old new faults faults' f t =
+    subst (λ (g : Fault). TellsEnd None before after 1 (Some g) told old new faults faults') (sym f)
+    (record {
+      silent = λ p. absurd (omega arith);
+      line = λ p. record { told_fault = fault_of because.Words; is = refl; path = []; of = words_path before after; line = t };
+    })

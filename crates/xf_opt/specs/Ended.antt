@@ -6,6 +6,7 @@ use Rattle.xf_host.specs.declared.sink.SinkFail.TheVariants as fail
 use Rattle.xf_span.specs.declared.code.Code.TheVariants as code
 use Rattle.xf_span.specs.declared.fault.Fault.{Fault}
 use Rattle.xf_span.specs.Fault.{plain_fault}
+use Rattle.xf_span.specs.Line.{HasLine}
 use Rattle.xf_opt.specs.declared.journal.Entry.{Entry}
 use Rattle.xf_opt.specs.declared.outcome.Refusal.{Refusal}
 use Rattle.xf_opt.specs.declared.outcome.Refusal.TheVariants as because
@@ -66,14 +67,14 @@ refusal_at (Err r) = Some r
 abbrev pub IsIdle : List Entry → Type 0 → Type 0
 IsIdle journal Stays = Stays × (journal ≡ [])
 
--- whatever the files hold: a failed write has its count, and what ended before the run wrote nothing
+-- whatever the files hold: a failed write has its count, what ended before the run wrote nothing, and a payload's fault has its line
 abbrev pub EndsPlainly : Option Refusal → List Entry → Type 0 → ℕ → ℕ → Type 0
 EndsPlainly None journal Stays before after = Unit {0}
 EndsPlainly (Some because.Words) journal Stays before after = IsIdle journal Stays
 EndsPlainly (Some because.ScriptRead) journal Stays before after = IsIdle journal Stays
 EndsPlainly (Some because.PayloadRead) journal Stays before after = IsIdle journal Stays
 EndsPlainly (Some because.Write) journal Stays before after = HasRisen before after
-EndsPlainly (Some (because.Payload f)) journal Stays before after = IsIdle journal Stays
+EndsPlainly (Some (because.Payload f)) journal Stays before after = IsIdle journal Stays × HasLine f
 EndsPlainly (Some because.Script) journal Stays before after = IsIdle journal Stays
 EndsPlainly (Some because.NoMemory) journal Stays before after = Unit {0}
 
@@ -121,9 +122,9 @@ IsPastPayload (Some (because.Payload f)) = Unit {0}
 IsPastPayload (Some because.Script) = ⊥
 IsPastPayload (Some because.NoMemory) = Unit {0}
 
--- a payload is refused with its fault, or for want of memory
+-- a payload is refused with its fault, which has its line, or for want of memory
 abbrev pub RefusesBy : Asked → List ℕ → Refusal → Type 0
-RefusesBy asked file (because.Payload f) = Refuses asked file f
+RefusesBy asked file (because.Payload f) = Refuses asked file f × HasLine f
 RefusesBy asked file because.NoMemory = Unit {0}
 RefusesBy asked file _ = ⊥
 

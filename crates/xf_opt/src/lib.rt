@@ -5,9 +5,9 @@ mod journal;
 mod outcome;
 mod run;
 mod schedule;
+mod telling;
 #[cfg(test)]
 mod tests;
-mod telling;
 mod top;
 mod words;
 

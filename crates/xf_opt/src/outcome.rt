@@ -1,6 +1,6 @@
 //! How a call ends.
 ghost use Rattle.std.specs.Prelude.{◌≡◌, ℕ, List};
-ghost use Rattle.xf_span.specs.Line.{line_of};
+ghost use Rattle.xf_span.specs.Line.{line_of, HasLine};
 ghost use Rattle.xf_opt.specs.Ended.{status_of, path_of, fault_of};
 ghost use Rattle.xf_opt.specs.Ends.{TellsLine};
 
@@ -89,8 +89,9 @@ impl Refusal {
     }
 }
 
-/// Writes the line of a refusal; the path is empty where the line names none.
+/// Writes the line of a refusal, whose fault has what the line tells; the path is empty where the line names none.
 pub fn tell<E: Sink>(err: &mut E, path: &str, refusal: Refusal) -> Told
+    requires { HasLine (fault_of refusal) }
     ensures { TellsLine result (line_of path.now (fault_of refusal)) (E.written err.old) (E.written err.new) (E.faults err.old) (E.faults err.new) }
 {
     match write_fault(err, path, &refusal.fault()) {

@@ -18,7 +18,7 @@ pub enum Command<'w> {
 impl<'w> Command<'w> {
     /// The path of the script; nothing where the command takes none.
     pub fn script(self) -> &'w str
-        ensures { result.now ≡ path_or_none (script_of (asked_by self)) }
+        ensures { result.now ≡ path_or_none (script_of (asked_by self.entry)) }
     {
         match self {
             Command::Run { script, .. } => script,
@@ -28,7 +28,7 @@ impl<'w> Command<'w> {
 
     /// The path of the payload.
     pub fn payload(self) -> &'w str
-        ensures { result.now ≡ payload_of (asked_by self) }
+        ensures { result.now ≡ payload_of (asked_by self.entry) }
     {
         match self {
             Command::Run { payload, .. }
@@ -70,19 +70,15 @@ pub fn parse<'w>(words: &'w [String]) -> Option<Command<'w>>
     ensures { option_map asked_by result ≡ command_of (texts words.now) }
 {
     match words {
-        [command, option, payload]
-            if option.as_str() == "--payload" && is_path(payload.as_str()) =>
-        {
-            payload_command(command.as_str(), payload.as_str())
-        }
+        [command, option, payload] if option.as_str() == "--payload" && is_path(payload.as_str()) =>
+            { payload_command(command.as_str(), payload.as_str()) }
         [command, script_option, script, payload_option, payload]
             if are_run(
                 command.as_str(),
                 script_option.as_str(),
                 payload_option.as_str(),
             ) && is_path(script.as_str())
-                && is_path(payload.as_str()) =>
-        {
+                && is_path(payload.as_str()) => {
             Some(Command::Run {
                 script: script.as_str(),
                 payload: payload.as_str(),

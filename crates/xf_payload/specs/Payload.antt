@@ -7,6 +7,7 @@ use Rattle.xf_span.specs.declared.fault.Fault.{Fault}
 use Rattle.xf_span.specs.declared.fault.TextFault.{TextFault}
 use Rattle.xf_span.specs.declared.fault.TextFault.TheVariants as text_fault
 use Rattle.xf_span.specs.Fault.{fault_at}
+use Rattle.xf_span.specs.Line.{HasLine}
 use Rattle.xf_lex.specs.Lexes.{first_place}
 use Rattle.xf_ir.specs.declared.op.Module.{Module}
 use Rattle.xf_ir.specs.Valid.{IsValid}
@@ -83,6 +84,11 @@ IsNoPayload file f = IsTooLong file f ⊎ (IsMisspelt file f ⊎ BreaksARule fil
 abbrev pub IsRefused : List ℕ → TextFault → Type 0
 IsRefused file (text_fault.At f) = IsNoPayload file f
 IsRefused file text_fault.NoMemory = ⊤
+
+-- the fault has what its line tells
+abbrev pub IsTellable : TextFault → Type 0
+IsTellable (text_fault.At f) = HasLine f
+IsTellable text_fault.NoMemory = ⊤
 
 -- why a module that was read is refused: a rule that it breaks has this fault, or memory was refused
 abbrev pub IsJudged : Module → List Place → TextFault → Type 0

@@ -2,7 +2,7 @@
 ghost use Rattle.std.specs.Prelude.{◌≡◌, ◌≤◌, ◌↔◌, length, IfOk, IfErr, IsTrue, Some};
 ghost use Rattle.xf_ir.specs.Valid.{IsValid};
 ghost use Rattle.xf_ir.specs.Violations.{first_violation};
-ghost use Rattle.xf_payload.specs.Payload.{file_limit, rule_code, rule_fault, place_or_first, IsPayload, IsRefused, IsJudged};
+ghost use Rattle.xf_payload.specs.Payload.{file_limit, rule_code, rule_fault, place_or_first, IsPayload, IsRefused, IsTellable, IsJudged};
 
 use std::alloc::Global;
 use xf_ir::{Module, OpName};
@@ -65,21 +65,13 @@ fn judge(alloc: Global, read: &ReadModule) -> Result<(), TextFault>
     }
 }
 
-/// The valid module that a file's bytes spell.
-///
-/// It refuses a file of more than 8,388,608 bytes, whatever they are; else a file that spells no
-/// module, with its first fault; else one whose module breaks a rule, with the first operation that
-/// breaks one. The bytes may be those of the file's front, with at least one byte past the greatest
-/// length where the file has one. It takes time in the length of the text and the logarithm of the
-/// number of names.
+/// The valid module of bytes that are not too long.
 #[tactic(auto, using(crate::proofs::Refused::unread_refused, crate::proofs::Refused::judged_refused))]
-pub fn read_payload(alloc: Global, bytes: &[u8]) -> Result<Module, TextFault>
+fn module_of(alloc: Global, bytes: &[u8]) -> Result<Module, TextFault>
+    requires { length bytes.now ≤ file_limit }
     ensures ok { IfOk result (λ m. IsPayload bytes.now m) }
     ensures fault { IfErr result (IsRefused bytes.now) }
 {
-    if bytes.len() > FILE_LIMIT {
-        return Err(TextFault::At(Fault::at(Code::A8, FIRST_PLACE)));
-    }
     let read = match read_module(alloc, bytes) {
         Ok(read) => read,
         Err(fault) => return Err(fault),
@@ -92,4 +84,26 @@ pub fn read_payload(alloc: Global, bytes: &[u8]) -> Result<Module, TextFault>
         places: _places,
     } = read;
     Ok(module)
+}
+
+/// The valid module that a file's bytes spell.
+///
+/// It refuses a file of more than 8,388,608 bytes, whatever they are; else a file that spells no
+/// module, with its first fault; else one whose module breaks a rule, with the first operation that
+/// breaks one. The bytes may be those of the file's front, with at least one byte past the greatest
+/// length where the file has one. It takes time in the length of the text and the logarithm of the
+/// number of names.
+#[tactic(auto, using(crate::proofs::Lines::refused_line))]
+pub fn read_payload(alloc: Global, bytes: &[u8]) -> Result<Module, TextFault>
+    ensures ok { IfOk result (λ m. IsPayload bytes.now m) }
+    ensures fault { IfErr result (IsRefused bytes.now) }
+    ensures line { IfErr result IsTellable }
+{
+    if bytes.len() > FILE_LIMIT {
+        return Err(TextFault::At(Fault::at(Code::A8, FIRST_PLACE)));
+    }
+    match module_of(alloc, bytes) {
+        Ok(module) => Ok(module),
+        Err(fault) => Err(fault),
+    }
 }

@@ -11,7 +11,10 @@ const BROKEN: [(&str, &str); 12] = [
     // A terminator before the end.
     ("func.func @f() {\n  return\n  return\n}\n", "p:2:3: V4\n"),
     // A terminator of another row.
-    ("func.func @f() {\n  scf.yield\n  return\n}\n", "p:2:3: V4\n"),
+    (
+        "func.func @f() {\n  scf.yield\n  return\n}\n",
+        "p:2:3: V4\n",
+    ),
     // An if with results and one region.
     (
         "func.func @f(%c: i1) -> i32 {\n  %r = scf.if %c -> (i32) {\n    %x = arith.constant 1 : i32\n    scf.yield %x : i32\n  }\n  return %r : i32\n}\n",
@@ -130,7 +133,10 @@ fn each_text_that_spells_no_module_has_its_fault(rt: HostRuntime) -> Result<(), 
 fn chain(alloc: Global, len: usize) -> Result<String, AllocError> {
     let mut text = String::new(alloc);
     for i in 1..len {
-        let line = format!(in alloc; "func.func @f{i}() {{\n  call @f{}() : () -> ()\n  return\n}}\n", i + 1)?;
+        let line = format!(in alloc;
+            "func.func @f{i}() {{\n  call @f{}() : () -> ()\n  return\n}}\n",
+            i + 1
+        )?;
         text.push_str(line.as_str())?;
     }
     let last = format!(in alloc; "func.func @f{len}() {{\n  return\n}}\n")?;

@@ -3,7 +3,7 @@ use Rattle.xf_opt.proofs.Ending.{front_is, whole_is, root_named, form_refused}
 use Rattle.xf_opt.proofs.schedule.carry_out.Goals as goal
 
 pub returns-in-Err-read_form-clause-payload : goal.returns-in-Err-read_form-clause-payload
-returns-in-Err-read_form-clause-payload g c = λ s p. form_refused s p c.args.payload.now c.args.journal.now _ c.in-Err-read_form.refusal c.in-Err-read_form.ensures
+returns-in-Err-read_form-clause-payload g c = λ s p. form_refused s p c.args.payload.now c.args.journal.now _ c.in-Err-read_form.refusal c.in-Err-read_form.ensures.refusal
 
 pub returns-in-Ok-print-clause-payload : goal.returns-in-Ok-print-clause-payload
 returns-in-Ok-print-clause-payload g c = λ s p.

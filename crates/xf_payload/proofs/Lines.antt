@@ -1,0 +1,168 @@
+-- The fault of a file that holds no payload has what its line tells.
+use Rattle.std.proofs.Common.{◌≡◌, ◌⊎◌, ℕ, suc, List, [], ◌∷◌, length, take, drop, Option, Some, None, Bool, true, false, ◌==◌, ◌&&◌, if◌then◌else◌, inl, inr, refl, sym, ap, subst, ◌∙◌}
+use Rattle.xf_span.specs.declared.place.Place.{Place}
+use Rattle.xf_span.specs.declared.code.Code.{Code}
+use Rattle.xf_span.specs.declared.code.Code.TheVariants.{L1, L2, L3, A2, A3, A4, V1, V2, V3, V4, V5, V6, V7, V8, V9, V10, V11, V12, V13, V14, V15, V16}
+use Rattle.xf_span.specs.declared.fault.Fault.{Fault}
+use Rattle.xf_span.specs.declared.fault.TextFault.{TextFault}
+use Rattle.xf_span.specs.declared.fault.TextFault.TheVariants as text_fault
+use Rattle.xf_span.specs.Fault.{fault_at}
+use Rattle.xf_span.specs.Line.{HasLine}
+use Rattle.xf_lex.specs.declared.token.Token.{Token}
+use Rattle.xf_lex.specs.declared.token.TokenKind.{TokenKind}
+use Rattle.xf_lex.specs.declared.token.TokenKind.TheVariants as kind
+use Rattle.xf_lex.specs.declared.front.Front.{Front}
+use Rattle.xf_lex.specs.declared.front.Front.TheVariants as front
+use Rattle.xf_lex.specs.Bytes.{is_digit, is_letter, is_word_byte, is_name_start, is_name_byte, is_mark, run, starts}
+use Rattle.xf_lex.specs.Fronts.{quoted_in, string_of, string_at, value_at, named_at, hash_at, shape_at, integer_of, sign_at, token_at}
+use Rattle.xf_lex.specs.Lexes.{HasFault, front_of, text_at}
+use Rattle.xf_read_base.specs.declared.verdict.Verdict.{Verdict}
+use Rattle.xf_read_base.specs.declared.verdict.Verdict.TheVariants.{Syntax, OutOfProfile, NotBuilt}
+use Rattle.xf_read.specs.declared.fault.Cause.{Cause}
+use Rattle.xf_read.specs.declared.fault.Cause.TheVariants as cause
+use Rattle.xf_read.specs.Spells.{judged, syntax_fault, mismatch_fault, twice_fault_or, undefined_fault_or, first_fault, Misspells}
+use Rattle.xf_read.specs.Meant.{file_faults}
+use Rattle.xf_payload.specs.Payload.{rule_code, rule_fault, IsNoPayload, IsRefused, IsTellable}
+
+-- ---- tokens
+
+-- the fault of a front has what its line tells, at any place
+record IsPlaced (f : Front) : Type 0 where
+  pub line : (code : Code) (inside : ℕ) (p : Place) → f ≡ front.Fault code inside → HasLine (fault_at code p)
+
+token : (k : TokenKind) (count : ℕ) → IsPlaced (front.Token k count)
+token k count = record { line = λ code inside p e. absurd (cc) }
+
+end : IsPlaced front.End
+end = record { line = λ code inside p e. absurd (cc) }
+
+fault : (c : Code) (n : ℕ) → ((p : Place) → HasLine (fault_at c p)) → IsPlaced (front.Fault c n)
+fault c n l = record { line = λ code inside p e. let same : c ≡ code = cc in subst (λ d. HasLine (fault_at d p)) same (l p) }
+
+bad_byte : (n : ℕ) → IsPlaced (front.Fault L1 n)
+bad_byte n = fault L1 n (λ p. refl)
+
+either : (b : Bool) (x y : Front) → IsPlaced x → IsPlaced y → IsPlaced (if b then x else y)
+either true x y p q = p
+either false x y p q = q
+
+string_placed : (bytes : List ℕ) (closed : Bool) → IsPlaced (string_of bytes closed)
+string_placed bytes closed = either closed _ _ (either _ _ _ (bad_byte _) (token _ _)) (fault L2 0 (λ p. refl))
+
+value_placed : (bs : List ℕ) → IsPlaced (value_at bs)
+value_placed [] = bad_byte 0
+value_placed (b ∷ bs) =
+    either (is_digit b) (front.Token kind.Value (suc (suc (run is_digit bs)))) (if is_name_start b then front.Token kind.Value (suc (suc (run is_name_byte bs))) else front.Fault L1 0)
+    (token _ _) (either (is_name_start b) (front.Token kind.Value (suc (suc (run is_name_byte bs)))) (front.Fault L1 0) (token _ _) (bad_byte 0))
+
+named_placed : (k : TokenKind) (bs : List ℕ) → IsPlaced (named_at k bs)
+named_placed k [] = bad_byte 0
+named_placed k (b ∷ bs) = either _ _ _ (token _ _) (bad_byte 0)
+
+hash_placed : (bs : List ℕ) → IsPlaced (hash_at bs)
+hash_placed [] = bad_byte 0
+hash_placed (b ∷ bs) = either _ _ _ (token _ _) (named_placed kind.Hash (b ∷ bs))
+
+shape_placed : (bs : List ℕ) → IsPlaced (shape_at bs)
+shape_placed bs = either _ _ _ (token _ _) (bad_byte 0)
+
+integer_placed : (digits : List ℕ) → IsPlaced (integer_of digits)
+integer_placed digits = either _ _ _ (token _ _) (fault L3 0 (λ p. refl))
+
+sign_placed : (b : ℕ) (bs : List ℕ) → IsPlaced (sign_at b bs)
+sign_placed b bs =
+    either _ _ _ (value_placed bs) (either _ _ _ (named_placed kind.Symbol bs) (either _ _ _ (named_placed kind.BlockName bs) (either _ _ _ (named_placed kind.DialectType bs)
+    (either _ _ _ (hash_placed bs)
+    (either ((b == 45) && starts 62 bs) (front.Token kind.Arrow 2) (if is_mark b then front.Token (kind.Mark b) 1 else front.Fault L1 0) (token _ _)
+    (either (is_mark b) (front.Token (kind.Mark b) 1) (front.Fault L1 0) (token _ _) (bad_byte 0)))))))
+
+token_placed : (after_tensor : Bool) (bs : List ℕ) → IsPlaced (token_at after_tensor bs)
+token_placed after_tensor [] = end
+token_placed after_tensor (b ∷ bs) =
+    either (is_letter b) (front.Token kind.Word (suc (run is_word_byte bs)))
+    (if is_digit b then integer_of (b ∷ take (run is_digit bs) bs) else if b == 34 then string_at bs else if (b == 60) && after_tensor then shape_at bs else sign_at b bs)
+    (token _ _)
+    (either (is_digit b) (integer_of (b ∷ take (run is_digit bs) bs)) (if b == 34 then string_at bs else if (b == 60) && after_tensor then shape_at bs else sign_at b bs) (integer_placed (b ∷ take (run is_digit bs) bs))
+    (either (b == 34) (string_at bs) (if (b == 60) && after_tensor then shape_at bs else sign_at b bs) (string_placed (take (quoted_in false bs) bs) (starts 34 (drop (quoted_in false bs) bs)))
+    (either ((b == 60) && after_tensor) (shape_at bs) (sign_at b bs) (shape_placed bs) (sign_placed b bs))))
+
+lexical_line : (bytes : List ℕ) (f : Fault) → HasFault bytes f → HasLine f
+lexical_line bytes f (inl x) = subst HasLine (sym x.fault) ((token_placed x.last.after_tensor (text_at x.last.rest)).line x.code x.inside _ x.broken)
+lexical_line bytes f (inr x) = subst HasLine (sym x.fault) refl
+
+-- ---- the syntax
+
+judged_line : (v : Verdict) (p : Place) → HasLine (judged v p)
+judged_line Syntax p = refl
+judged_line (OutOfProfile n) p = refl
+judged_line NotBuilt p = tt
+
+syntax_line : (all : List Token) (at : ℕ) (c : Cause) → HasLine (syntax_fault all at c)
+syntax_line all at (cause.Due d) = judged_line _ _
+syntax_line all at cause.NestLimit = refl
+syntax_line all at cause.TooManyOps = refl
+
+-- ---- names and types
+
+some_line : (f g : Fault) → HasLine f → Some f ≡ Some g → HasLine g
+some_line f g l e = let same : f ≡ g = cc in subst HasLine same l
+
+mismatch_line : (all : List Token) (m : Option ℕ) (f : Fault) → mismatch_fault all m ≡ Some f → HasLine f
+mismatch_line all None f e = absurd (cc)
+mismatch_line all (Some i) f e = some_line (fault_at A4 _) f refl e
+
+twice_line : (all : List Token) (t m : Option ℕ) (f : Fault) → twice_fault_or all t (mismatch_fault all m) ≡ Some f → HasLine f
+twice_line all None m f e = mismatch_line all m f e
+twice_line all (Some i) m f e = some_line (fault_at A3 _) f refl e
+
+undefined_line : (all : List Token) (u t m : Option ℕ) (f : Fault) → undefined_fault_or all u (twice_fault_or all t (mismatch_fault all m)) ≡ Some f → HasLine f
+undefined_line all None t m f e = twice_line all t m f e
+undefined_line all (Some i) t m f e = some_line (fault_at A2 _) f refl e
+
+misspelt_line : (bytes : List ℕ) (f : Fault) → Misspells bytes f → HasLine f
+misspelt_line bytes f (inl x) = lexical_line bytes f x
+misspelt_line bytes f (inr (inl x)) = subst HasLine (sym x.bad.is) (syntax_line x.tokens x.bad.at x.bad.cause)
+misspelt_line bytes f (inr (inr x)) = undefined_line x.tokens (file_faults x.tokens x.bad.file).undefined (file_faults x.tokens x.bad.file).twice (file_faults x.tokens x.bad.file).mismatch f x.bad.finds
+
+-- ---- rules
+
+-- the line of a code tells of a place alone
+record IsRule (c : Code) : Type 0 where
+  pub line : (p : Place) → HasLine (fault_at c p)
+
+rule : (c : Code) → ((p : Place) → HasLine (fault_at c p)) → IsRule c
+rule c l = record { line = l }
+
+one_of : (b : Bool) (c d : Code) → IsRule c → IsRule d → IsRule (if b then c else d)
+one_of true c d x y = x
+one_of false c d x y = y
+
+code_is_rule : (n : ℕ) → IsRule (rule_code n)
+code_is_rule n =
+    one_of _ _ _ (rule V1 (λ p. refl))
+    (one_of _ _ _ (rule V2 (λ p. refl))
+    (one_of _ _ _ (rule V3 (λ p. refl))
+    (one_of _ _ _ (rule V4 (λ p. refl))
+    (one_of _ _ _ (rule V5 (λ p. refl))
+    (one_of _ _ _ (rule V6 (λ p. refl))
+    (one_of _ _ _ (rule V7 (λ p. refl))
+    (one_of _ _ _ (rule V8 (λ p. refl))
+    (one_of _ _ _ (rule V9 (λ p. refl))
+    (one_of _ _ _ (rule V10 (λ p. refl))
+    (one_of _ _ _ (rule V11 (λ p. refl))
+    (one_of _ _ _ (rule V12 (λ p. refl))
+    (one_of _ _ _ (rule V13 (λ p. refl))
+    (one_of _ _ _ (rule V14 (λ p. refl))
+    (one_of _ _ _ (rule V15 (λ p. refl))
+    (rule V16 (λ p. refl))))))))))))))))
+
+-- ---- files
+
+no_payload_line : (file : List ℕ) (f : Fault) → IsNoPayload file f → HasLine f
+no_payload_line file f (inl x) = subst HasLine (sym x.is) refl
+no_payload_line file f (inr (inl x)) = misspelt_line file f x.misspells
+no_payload_line file f (inr (inr x)) = subst HasLine (sym x.is) ((code_is_rule x.violation.rule).line _)
+
+pub refused_line : (file : List ℕ) (e : TextFault) → IsRefused file e → IsTellable e
+refused_line file (text_fault.At f) r = no_payload_line file f r
+refused_line file text_fault.NoMemory r = tt
