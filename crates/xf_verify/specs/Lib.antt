@@ -1,0 +1,5 @@
+pub mod Given
+pub mod Visible
+pub mod Symbols
+pub mod Chains
+pub mod Judged
