@@ -1,11 +1,13 @@
 -- Values that become visible, and that no longer are.
-use Rattle.std.proofs.Common.{◌≡◌, ℕ, ◌<◌, ◌≤◌, List, [], ◌∷◌, ◌++◌, length, Bool, true, false, eqb, Option, None, Some, Bor, inl, inr, refl, sym, ap, subst, ◌∙◌, arith}
-use Rattle.std.specs.Prelude.{if◌then◌else◌, nat_lt, slice_get, ◌||◌, ◌&&◌}
+use Rattle.std.proofs.Common.{◌≡◌, ℕ, ◌<◌, ◌≤◌, List, [], ◌∷◌, ◌++◌, length, Bool, true, false, eqb, Option, None, Some, Bor, inl, inr, get_or, drop, ◌+◌, refl, sym, ap, subst, ◌∙◌, arith, append_assoc}
+use Rattle.std.specs.Prelude.{if◌then◌else◌, nat_lt, slice_get, ◌||◌, ◌&&◌, map}
 use Rattle.std.specs.BTreeMap as tree
 use Rattle.std.specs.BTreeMap.{BTreeMap}
 use Rattle.std.specs.Ordering.{nat_cmp}
 use Rattle.std.proofs.lemmas.Bool.{cases_Bool, eqb-true, ltb-false}
 use Rattle.std.proofs.lemmas.Option.{slice_get_past}
+use Rattle.std.proofs.lemmas.List.{at_drop_more}
+use Rattle.std.specs.Option.{option_copied}
 use Rattle.xf_type.specs.declared.payload_type.PayloadType.{PayloadType}
 use Rattle.xf_ir.specs.declared.name.OpName.{OpName}
 use Rattle.xf_ir.specs.declared.name.ValueName.{ValueName}
@@ -17,6 +19,7 @@ use Rattle.xf_ir.specs.Placed.{type_or, type_at}
 use Rattle.xf_verify.specs.declared.scope.Definition.{Definition}
 use Rattle.xf_verify.specs.declared.scope.Definition.TheVariants.{Results, Arguments}
 use Rattle.xf_verify.specs.Visible.{Definitions, no_definitions, with_definition, without, result_type, argument_type, type_among}
+use Rattle.xf_verify.specs.Given.{operand_type, operand_types}
 use Rattle.xf_verify.specs.Judged.{Sees, sees_with}
 
 pub same_definitions : (f g : Definitions) → ((q : ℕ) → f q ≡ g q) → f ≡ g
@@ -127,3 +130,28 @@ back_at false q n d ds e h = refl
 
 pub entered_left : (n : ℕ) (d : Option Definition) (ds : Definitions) → ds n ≡ None → with_definition n None (with_definition n d ds) ≡ ds
 entered_left n d ds e = same_definitions _ _ (λ q. back_at (eqb q n) q n d ds e refl)
+
+pub leave_on : (ts : List Tree) (i : ℕ) (t : Tree) → t ≡ get_or ts i t → i < length ts → (ds es total : Definitions) → es ≡ with_definition t.name.0 None ds → without (drop i ts) ds ≡ total → without (drop (i + 1) ts) es ≡ total
+leave_on ts i t is lt ds es total e h =
+    ap (without (drop (i + 1) ts)) e ∙ sym (first_left t (drop (i + 1) ts) ds) ∙ ap (λ x. without (x ∷ drop (i + 1) ts) ds) is ∙ sym (at_drop_more (λ xs. without xs ds) ts i t lt) ∙ h
+
+-- ---- the types of operands
+
+copied_is : (o : Option (Bor PayloadType)) → operand_type o ≡ option_copied o
+copied_is None = refl
+copied_is (Some t) = refl
+
+types_push : (xs : List (Option (Bor PayloadType))) (x : Option (Bor PayloadType)) → operand_types (xs ++ x ∷ []) ≡ operand_types xs ++ operand_type x ∷ []
+types_push [] x = refl
+types_push (y ∷ xs) x = ap (λ (os : List (Option PayloadType)). operand_type y ∷ os) (types_push xs x)
+
+pub types_on : (see : Sees) (vs : List ValueName) (i : ℕ) (v : ValueName) → v ≡ get_or vs i v → i < length vs → (xs ys : List (Option (Bor PayloadType))) (x : Option (Bor PayloadType)) (total : List (Option PayloadType)) →
+    ys ≡ xs ++ x ∷ [] → option_copied x ≡ see v → operand_types xs ++ map see (drop i vs) ≡ total → operand_types ys ++ map see (drop (i + 1) vs) ≡ total
+types_on see vs i v is lt xs ys x total p e h =
+    ap (λ zs. operand_types zs ++ map see (drop (i + 1) vs)) p
+    ∙ ap (λ zs. zs ++ map see (drop (i + 1) vs)) (types_push xs x)
+    ∙ append_assoc (operand_types xs) (operand_type x ∷ []) (map see (drop (i + 1) vs))
+    ∙ ap (λ (o : Option PayloadType). operand_types xs ++ (o ∷ map see (drop (i + 1) vs))) (copied_is x ∙ e)
+    ∙ ap (λ u. operand_types xs ++ (see u ∷ map see (drop (i + 1) vs))) is
+    ∙ sym (at_drop_more (λ us. operand_types xs ++ map see us) vs i v lt)
+    ∙ h

@@ -125,13 +125,10 @@ pub walk_finds : (m : Module) (f : Facts) → IsOf m f → holds_functions m ≡
 walk_finds m f o h names e =
     ap (λ x. first_behind f x (stands top (type_at []) m.root no_ops ∷ blocks_stand (root_holder m.root) (type_at []) m.root.regions)) e
     ∙ ap (λ bs. broken_or (first_false 1 bs) m.root.name (first_behind f (names_from (m.root.name ∷ [])) (blocks_stand (root_holder m.root) (type_at []) m.root.regions))) rules
-    ∙ ap (broken_or (first_false 1 (rules_kept m [] first)) m.root.name) (ap (first_behind f (names_from (m.root.name ∷ []))) (sym (blocks_same (root_holder m.root) m.root.regions)) ∙ sym (behind_same m f o m.root.name [] (blocks_placed (root_holder m.root) m.root.regions)))
+    ∙ ap (broken_or (first_false 1 (rules_kept m [] (place top [] m.root no_ops))) m.root.name) (ap (first_behind f (names_from (m.root.name ∷ []))) (sym (blocks_same (root_holder m.root) m.root.regions)) ∙ sym (behind_same m f o m.root.name [] (blocks_placed (root_holder m.root) m.root.regions)))
   where
-    abbrev first : Placed
-    first = place top [] m.root no_ops
-
-    rules : rules_behind f (names_from []) first ≡ rules_kept m [] first
+    rules : rules_behind f (names_from []) (place top [] m.root no_ops) ≡ rules_kept m [] (place top [] m.root no_ops)
     rules =
-        ap (λ (b : Bool). b ∷ (true ∷ rules_of f first)) (new_same m f o [] m.root.name)
-        ∙ ap (λ (b : Bool). is_new_name m.next [] m.root.name ∷ (b ∷ rules_of f first)) (sym h)
-        ∙ ap (λ (bs : List Bool). is_new_name m.next [] m.root.name ∷ (holds_functions m ∷ bs)) (local_same m f o first)
+        ap (λ (b : Bool). b ∷ (true ∷ rules_of f (place top [] m.root no_ops))) (new_same m f o [] m.root.name)
+        ∙ ap (λ (b : Bool). is_new_name m.next [] m.root.name ∷ (b ∷ rules_of f (place top [] m.root no_ops))) (sym h)
+        ∙ ap (λ (bs : List Bool). is_new_name m.next [] m.root.name ∷ (holds_functions m ∷ bs)) (local_same m f o (place top [] m.root no_ops))

@@ -12,6 +12,12 @@ bytes_same [] (y ∷ t) = refl
 bytes_same (x ∷ s) [] = refl
 bytes_same (x ∷ s) (y ∷ t) = ap (λ b. b && bytes_eq s t) (eqb_sym x y) ∙ ap (λ b. eqb y x && b) (bytes_same s t)
 
+pub bytes_is : (s t : List ℕ) → bytes_eq s t ≡ same_bytes s t
+bytes_is [] [] = refl
+bytes_is [] (y ∷ t) = refl
+bytes_is (x ∷ s) [] = refl
+bytes_is (x ∷ s) (y ∷ t) = ap (λ b. eqb x y && b) (bytes_is s t)
+
 pub same_symbols : (f g : Symbols) → ((s : List ℕ) → f s ≡ g s) → f ≡ g
 same_symbols f g h = λ i s. h s i
 

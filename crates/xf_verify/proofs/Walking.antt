@@ -25,17 +25,35 @@ first_both f names (p ∷ ps) qs =
     ∙ broken_first (first_false 1 (rules_behind f names p)) p.tree.name (first_behind f (set.insert names p.tree.name.0) ps) _
 
 -- a fault that stops at some operations stops at these before others
-stopped : {A B : Type 0} (e : VerifyFault) (v w : Option Violation) → Answers {A = A} (Err e) v → Answers {A = B} (Err e) (first_of v w)
-stopped (Rule rule name) v w h = rw h refl
-stopped NoMemory v w h = tt
+stopped : (A B : Type 0) (e : VerifyFault) (v w : Option Violation) → Answers {A = A} (Err e) v → Answers {A = B} (Err e) (first_of v w)
+stopped A B (Rule rule name) v w h = rw h refl
+stopped A B NoMemory v w h = tt
 
-pub stops : {A B : Type 0} (f : Facts) (names : Names) (ps qs : List Placed) (e : VerifyFault) → Answers {A = A} (Err e) (first_behind f names ps) → Answers {A = B} (Err e) (first_behind f names (ps ++ qs))
-stops {A} {B} f names ps qs e h = subst (Answers {A = B} (Err e)) (sym (first_both f names ps qs)) (stopped {A = A} {B = B} e (first_behind f names ps) _ h)
+pub stops : (A B : Type 0) (f : Facts) (names : Names) (ps qs : List Placed) (e : VerifyFault) → Answers {A = A} (Err e) (first_behind f names ps) → Answers {A = B} (Err e) (first_behind f names (ps ++ qs))
+stops A B f names ps qs e h = subst (Answers {A = B} (Err e)) (sym (first_both f names ps qs)) (stopped A B e (first_behind f names ps) _ h)
 
-pub same_answer : {A B : Type 0} (e : VerifyFault) (v w : Option Violation) → w ≡ v → Answers {A = A} (Err e) v → Answers {A = B} (Err e) w
-same_answer (Rule rule name) v w p h = p ∙ h
-same_answer NoMemory v w p h = tt
+pub same_answer : (A B : Type 0) (e : VerifyFault) (v w : Option Violation) → w ≡ v → Answers {A = A} (Err e) v → Answers {A = B} (Err e) w
+same_answer A B (Rule rule name) v w p h = p ∙ h
+same_answer A B NoMemory v w p h = tt
 
 -- what passes leaves what comes behind
 pub goes_on : (f : Facts) (names : Names) (ps qs : List Placed) → first_behind f names ps ≡ None → first_behind f names (ps ++ qs) ≡ first_behind f (names_behind names ps) qs
 goes_on f names ps qs h = first_both f names ps qs ∙ ap (λ v. first_of v (first_behind f (names_behind names ps) qs)) h
+
+-- ---- the rules of one operation, in parts
+
+-- the first broken rule is in the first part
+pub stop_in : (i r : ℕ) (bs cs : List Bool) → Some r ≡ first_false i bs → Some r ≡ first_false i (bs ++ cs)
+stop_in i r [] cs h = absurd (cc)
+stop_in i r (true ∷ bs) cs h = stop_in (i + 1) r bs cs h
+stop_in i r (false ∷ bs) cs h = h
+
+abbrev pub numbers_on : ℕ → List Bool → ℕ
+numbers_on i [] = i
+numbers_on i (b ∷ bs) = numbers_on (i + 1) bs
+
+-- the first part is kept
+pub pass_on : (i : ℕ) (bs cs : List Bool) → first_false i bs ≡ None → first_false i (bs ++ cs) ≡ first_false (numbers_on i bs) cs
+pass_on i [] cs h = refl
+pass_on i (true ∷ bs) cs h = pass_on (i + 1) bs cs h
+pass_on i (false ∷ bs) cs h = absurd (cc)

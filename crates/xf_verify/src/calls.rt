@@ -109,13 +109,19 @@ fn calls_of(
     Ok(calls)
 }
 
+/// Whether the chains of calls from the function of that number end. From one that is not there they do.
+fn ends_at(ends: &[bool], number: usize) -> bool
+    ensures { result ≡ ends_at ends.now number }
+{
+    ends.get(number).copied().unwrap_or(true)
+}
+
 /// Whether the chains of calls from each of these functions end.
 fn all_end(callees: &[usize], ends: &[bool]) -> bool
     ensures { result ≡ every (ends_at ends.now) callees.now }
 {
     for callee in callees {
-        let ends = ends.get(*callee).copied().unwrap_or(true);
-        if !ends {
+        if !ends_at(ends, *callee) {
             return false;
         }
     }
@@ -211,7 +217,7 @@ impl<'a> Calls<'a> {
     {
         match kind {
             Kind::Call { callee } => match self.numbers.get(callee.as_slice()) {
-                Some(number) => self.ends.get(*number).copied().unwrap_or(true),
+                Some(number) => ends_at(&self.ends, *number),
                 None => true,
             },
             _ => true,

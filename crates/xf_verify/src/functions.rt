@@ -1,9 +1,9 @@
 //! The functions of a module: they alone stand in its root, and their symbols are different.
-ghost use Rattle.std.specs.Prelude.{◌≡◌, true, IfOk};
+ghost use Rattle.std.specs.Prelude.{◌≡◌, true, [], IfOk, OnOk};
 ghost use Rattle.xf_ir.specs.Kinds.{is_module, is_function};
 ghost use Rattle.xf_ir.specs.Lists.{texts_once};
 ghost use Rattle.xf_ir.specs.Placed.{functions_of};
-ghost use Rattle.xf_ir.specs.Valid.{symbols_of, symbols_in};
+ghost use Rattle.xf_ir.specs.Valid.{symbols_before, symbols_of, symbols_in};
 ghost use Rattle.xf_ir.specs.View.{ops_of, regions_of};
 ghost use Rattle.xf_ir.specs.Violations.{regions_inner, functions_alone, blocks_alone, holds_functions};
 ghost use Rattle.xf_verify.specs.Symbols.{symbols_seen, no_symbols, new_symbols, with_symbols};
@@ -75,16 +75,25 @@ fn hold_functions(blocks: &[Block]) -> bool
     true
 }
 
+/// Adds the symbol of a function, and tells whether it was not there before.
+fn add_symbol<'a>(symbols: &mut BTreeSet<&'a [u8]>, kind: &'a Kind) -> Result<bool, NoMemory>
+    ensures new { IfOk result (λ new. new ≡ new_symbols (symbols_seen symbols.old) (symbols_before kind.now [])) }
+    ensures symbols { OnOk result (symbols_seen symbols.new ≡ with_symbols (symbols_before kind.now []) (symbols_seen symbols.old)) }
+{
+    match kind {
+        Kind::Func { symbol, .. } => Ok(symbols.insert(symbol.as_slice())?),
+        _ => Ok(true),
+    }
+}
+
 /// Adds the symbols of functions, and tells whether none of them was there before.
 fn add_symbols<'a>(symbols: &mut BTreeSet<&'a [u8]>, ops: &'a [Op]) -> Result<bool, NoMemory>
     ensures new { IfOk result (λ new. new ≡ new_symbols (symbols_seen symbols.old) (symbols_of (ops_of ops.now))) }
     ensures symbols { IfOk result (λ new. new ≡ true → symbols_seen symbols.new ≡ with_symbols (symbols_of (ops_of ops.now)) (symbols_seen symbols.old)) }
 {
     for op in ops {
-        if let Kind::Func { symbol, .. } = &op.kind {
-            if !symbols.insert(symbol.as_slice())? {
-                return Ok(false);
-            }
+        if !add_symbol(symbols, &op.kind)? {
+            return Ok(false);
         }
     }
     Ok(true)
