@@ -1,5 +1,5 @@
 -- Values that become visible, and that no longer are.
-use Rattle.std.proofs.Common.{◌≡◌, ℕ, ◌<◌, ◌≤◌, List, [], ◌∷◌, ◌++◌, length, Bool, true, false, eqb, Option, None, Some, Bor, inl, inr, get_or, drop, ◌+◌, refl, sym, ap, subst, ◌∙◌, arith, append_assoc}
+use Rattle.std.proofs.Common.{◌≡◌, ℕ, suc, ◌-◌, ◌<◌, ◌≤◌, List, [], ◌∷◌, ◌++◌, length, Bool, true, false, eqb, Option, None, Some, Bor, inl, inr, get_or, drop, ◌+◌, refl, sym, ap, subst, ◌∙◌, arith, append_assoc}
 use Rattle.std.specs.Prelude.{if◌then◌else◌, nat_lt, slice_get, ◌||◌, ◌&&◌, map}
 use Rattle.std.specs.BTreeMap as tree
 use Rattle.std.specs.BTreeMap.{BTreeMap}
@@ -16,6 +16,7 @@ use Rattle.xf_ir.specs.Tree.{Tree}
 use Rattle.xf_ir.specs.Lists.{some}
 use Rattle.xf_ir.specs.Places.{below, results_of, args_of}
 use Rattle.xf_ir.specs.Placed.{type_or, type_at}
+use Rattle.xf_ir.specs.Types.{last_type}
 use Rattle.xf_verify.specs.declared.scope.Definition.{Definition}
 use Rattle.xf_verify.specs.declared.scope.Definition.TheVariants.{Results, Arguments}
 use Rattle.xf_verify.specs.Visible.{Definitions, no_definitions, with_definition, without, result_type, argument_type, type_among}
@@ -145,13 +146,20 @@ types_push : (xs : List (Option (Bor PayloadType))) (x : Option (Bor PayloadType
 types_push [] x = refl
 types_push (y ∷ xs) x = ap (λ (os : List (Option PayloadType)). operand_type y ∷ os) (types_push xs x)
 
-pub types_on : (see : Sees) (vs : List ValueName) (i : ℕ) (v : ValueName) → v ≡ get_or vs i v → i < length vs → (xs ys : List (Option (Bor PayloadType))) (x : Option (Bor PayloadType)) (total : List (Option PayloadType)) →
-    ys ≡ xs ++ x ∷ [] → option_copied x ≡ see v → operand_types xs ++ map see (drop i vs) ≡ total → operand_types ys ++ map see (drop (i + 1) vs) ≡ total
-types_on see vs i v is lt xs ys x total p e h =
+pub types_on : (see : Sees) (vs : List ValueName) (i : ℕ) (d : ValueName) → i < length vs → (xs ys : List (Option (Bor PayloadType))) (x : Option (Bor PayloadType)) (total : List (Option PayloadType)) →
+    ys ≡ xs ++ x ∷ [] → option_copied x ≡ see (get_or vs i d) → operand_types xs ++ map see (drop i vs) ≡ total → operand_types ys ++ map see (drop (i + 1) vs) ≡ total
+types_on see vs i d lt xs ys x total p e h =
     ap (λ zs. operand_types zs ++ map see (drop (i + 1) vs)) p
     ∙ ap (λ zs. zs ++ map see (drop (i + 1) vs)) (types_push xs x)
     ∙ append_assoc (operand_types xs) (operand_type x ∷ []) (map see (drop (i + 1) vs))
     ∙ ap (λ (o : Option PayloadType). operand_types xs ++ (o ∷ map see (drop (i + 1) vs))) (copied_is x ∙ e)
-    ∙ ap (λ u. operand_types xs ++ (see u ∷ map see (drop (i + 1) vs))) is
-    ∙ sym (at_drop_more (λ us. operand_types xs ++ map see us) vs i v lt)
+    ∙ sym (at_drop_more (λ us. operand_types xs ++ map see us) vs i d lt)
     ∙ h
+
+-- the last type is that of the last operand
+pub last_is : (xs : List (Option (Bor PayloadType))) (x : Option (Bor PayloadType)) → Some x ≡ slice_get xs (length xs - 1) → last_type (operand_types xs) ≡ operand_type x
+last_is [] x h = absurd (cc)
+last_is (y ∷ []) x h = ap operand_type (let e : Some x ≡ Some y = h in cc)
+last_is (y ∷ (z ∷ xs)) x h =
+    let e : length (y ∷ (z ∷ xs)) - 1 ≡ suc (length (z ∷ xs) - 1) = omega arith in
+    last_is (z ∷ xs) x (subst (λ k. Some x ≡ slice_get (y ∷ (z ∷ xs)) k) e h)

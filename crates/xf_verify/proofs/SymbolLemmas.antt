@@ -1,8 +1,12 @@
 -- Symbols that are different.
-use Rattle.std.proofs.Common.{◌≡◌, ℕ, List, [], ◌∷◌, ◌++◌, Bool, true, false, eqb, refl, sym, ap, ◌∙◌}
+use Rattle.std.proofs.Common.{◌≡◌, ℕ, List, [], ◌∷◌, ◌++◌, Bool, true, false, eqb, ◌+◌, ◌<◌, get_or, drop, length, refl, sym, ap, ◌∙◌}
 use Rattle.std.specs.Prelude.{not, ◌&&◌, ◌||◌}
 use Rattle.std.specs.Str.{bytes_eq}
 use Rattle.xf_ir.specs.Lists.{same_bytes, is_text_among, texts_once}
+use Rattle.std.proofs.lemmas.List.{at_drop_more}
+use Rattle.xf_ir.specs.Tree.{Ops, Body}
+use Rattle.xf_ir.specs.Valid.{symbols_of, symbols_in}
+use Rattle.xf_ir.specs.View.{regions_of}
 use Rattle.xf_verify.proofs.Tests.{eqb_sym}
 use Rattle.xf_verify.specs.Symbols.{Symbols, no_symbols, with_symbol, with_symbols, new_symbols}
 
@@ -66,3 +70,12 @@ new_once ss = apart_is no_symbols ss ∙ ap (λ b. b && texts_once ss) (all_new 
     all_new : (ss : List (List ℕ)) → none_there no_symbols ss ≡ true
     all_new [] = refl
     all_new (s ∷ ss) = all_new ss
+
+-- the symbols of one block, and of the others
+pub blocks_on : (bs : List Body) (i : ℕ) (b : Body) → b ≡ get_or bs i b → i < length bs → (seen : Symbols) (os : Ops) → os ≡ b.ops →
+    new_symbols seen (symbols_in (regions_of (drop i bs))) ≡ (new_symbols seen (symbols_of os) && new_symbols (with_symbols (symbols_of os) seen) (symbols_in (regions_of (drop (i + 1) bs))))
+blocks_on bs i b is lt seen os e =
+    at_drop_more (λ xs. new_symbols seen (symbols_in (regions_of xs))) bs i b lt
+    ∙ ap (λ x. new_symbols seen (symbols_in (regions_of (x ∷ drop (i + 1) bs)))) (sym is)
+    ∙ ap (λ x. new_symbols seen (symbols_of x ++ symbols_in (regions_of (drop (i + 1) bs)))) (sym e)
+    ∙ new_both seen (symbols_of os) (symbols_in (regions_of (drop (i + 1) bs)))
