@@ -6,3 +6,4 @@ pub mod Walking
 pub mod Standing
 pub mod SymbolLemmas
 pub mod ChainLemmas
+pub mod Stepping

@@ -1,5 +1,5 @@
 -- The walk judges what is placed.
-use Rattle.std.proofs.Common.{◌≡◌, ℕ, suc, List, [], ◌∷◌, ◌++◌, length, Option, None, Some, Bool, true, false, eqb, refl, sym, ap, subst, ◌∙◌}
+use Rattle.std.proofs.Common.{◌≡◌, ℕ, suc, List, [], ◌∷◌, ◌++◌, length, Option, None, Some, Bool, true, false, eqb, refl, sym, ap, subst, ◌∙◌, add-one}
 use Rattle.std.specs.Prelude.{map, not, ◌&&◌, ◌||◌, nat_lt, ◌↔◌}
 use Rattle.std.specs.FinSet as set
 use Rattle.std.specs.Ordering.{nat_cmp}
@@ -36,7 +36,7 @@ mutual
   regions_same h env n i no_regions = refl
   regions_same h env n i (region args ops rest) =
       ap (λ ps. ps ++ regions_placed h env n (suc i) rest) (ops_same h ((inside n i (length args), args) ∷ env) ops)
-      ∙ ap (λ ps. ops_stand h (type_at ((inside n i (length args), args) ∷ env)) ops ++ ps) (regions_same h env n (suc i) rest)
+      ∙ ap (λ ps. ops_stand h (type_at ((inside n i (length args), args) ∷ env)) ops ++ ps) (regions_same h env n (suc i) rest ∙ ap (λ k. regions_stand h (type_at env) n k rest) (sym (add-one i)))
 
 functions_same : (h : Holder) (fs : Ops) → functions_placed h fs ≡ functions_stand h (type_at []) fs
 functions_same h no_ops = refl

@@ -1,6 +1,6 @@
 -- What the walk over the operations judges: each where it stands, by the types of the values that are visible there and by the set
 -- of the names before it.
-use Rattle.std.specs.Prelude.{◌≡◌, ℕ, suc, List, [], ◌∷◌, ◌++◌, length, map, Option, Some, None, Bool, true, not, ◌&&◌, nat_lt, Result, Ok, Err, is_some}
+use Rattle.std.specs.Prelude.{◌≡◌, ℕ, ◌+◌, List, [], ◌∷◌, ◌++◌, length, map, Option, Some, None, Bool, true, not, ◌&&◌, nat_lt, Result, Ok, Err, is_some}
 use Rattle.std.specs.Ordering.{nat_cmp}
 use Rattle.std.specs.FinSet as set
 use Rattle.xf_type.specs.declared.payload_type.PayloadType.{PayloadType}
@@ -51,7 +51,7 @@ abbrev mutual
 
   pub regions_stand : Holder → Sees → OpName → ℕ → Regions → List Placed
   regions_stand h see n i no_regions = []
-  regions_stand h see n i (region args ops rest) = ops_stand h (sees_with (args_of n i (length args)) args see) ops ++ regions_stand h see n (suc i) rest
+  regions_stand h see n i (region args ops rest) = ops_stand h (sees_with (args_of n i (length args)) args see) ops ++ regions_stand h see n (i + 1) rest
 
 -- an operation, and what it holds
 abbrev pub tree_stands : Holder → Sees → Tree → Ops → List Placed

@@ -70,7 +70,7 @@ fn broken_linalg(alloc: Global, stand: &Stand<'_>) -> Result<Option<u8>, NoMemor
     if !maps_fit(alloc, kind, stand.types)? {
         return Ok(Some(10));
     }
-    if !iterators_fit(kind, stand.types) {
+    if !iterators_fit(alloc, kind, stand.types)? {
         return Ok(Some(11));
     }
     if !reduces(alloc, op)? {

@@ -96,10 +96,14 @@ pub fn maps_fit(
     Ok(true)
 }
 
-pub fn iterators_fit(kind: &Kind, types: &[Option<&PayloadType>]) -> bool
-    ensures { result ≡ iterators_fit (last_results (maps_of kind.now (operand_types types.now))) 0 (iterators_of kind.now (operand_types types.now)) }
+pub fn iterators_fit(
+    alloc: Global,
+    kind: &Kind,
+    types: &[Option<&PayloadType>],
+) -> Result<bool, NoMemory>
+    ensures { IfOk result (λ fit. fit ≡ iterators_fit (last_results (maps_of kind.now (operand_types types.now))) 0 (iterators_of kind.now (operand_types types.now))) }
 {
-    true
+    Ok(true)
 }
 
 pub fn reduces(alloc: Global, op: &Op) -> Result<bool, NoMemory>
