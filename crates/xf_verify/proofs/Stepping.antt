@@ -2,10 +2,10 @@
 use Rattle.std.proofs.Common.{◌≡◌, ℕ, ◌+◌, ◌<◌, ◌≤◌, List, [], ◌∷◌, ◌++◌, length, get_or, take, drop, Option, None, Some, Bool, true, false, Bor, refl, sym, ap, subst, ◌∙◌}
 use Rattle.std.specs.Prelude.{Result, Ok, Err, map}
 use Rattle.std.specs.FinSet as set
-use Rattle.std.proofs.lemmas.List.{at_drop_more, at_drop_all, take_all}
+use Rattle.std.proofs.lemmas.List.{at_drop_more, take_more}
 use Rattle.xf_type.specs.declared.payload_type.PayloadType.{PayloadType}
 use Rattle.xf_ir.specs.declared.name.OpName.{OpName}
-use Rattle.xf_ir.specs.Tree.{Ops, Regions, region, cons, Tree, Body}
+use Rattle.xf_ir.specs.Tree.{Ops, no_ops, Regions, region, cons, Tree, Body}
 use Rattle.xf_ir.specs.View.{ops_of, regions_of}
 use Rattle.xf_ir.specs.Places.{results_of, args_of}
 use Rattle.xf_ir.specs.Placed.{Holder, holder_of, Placed}
@@ -15,7 +15,7 @@ use Rattle.xf_verify.specs.declared.facts.Facts.{Facts}
 use Rattle.xf_verify.specs.declared.scope.Definition.{Definition}
 use Rattle.xf_verify.specs.declared.scope.Definition.TheVariants.{Results, Arguments}
 use Rattle.xf_verify.specs.Visible.{Definitions, with_definition, without, type_among}
-use Rattle.xf_verify.specs.Judged.{Sees, sees_with, stands, tree_stands, ops_stand, regions_stand, functions_stand, blocks_stand, Names, Answers, first_behind, names_behind}
+use Rattle.xf_verify.specs.Judged.{Sees, sees_with, stands, all_stand, tree_stands, ops_stand, regions_stand, functions_stand, blocks_stand, Names, Answers, first_behind, names_behind}
 use Rattle.xf_verify.proofs.Defining.{results_enter, arguments_enter, left_more}
 use Rattle.xf_verify.proofs.Naming.{Named, own_inserted, kept_behind, names_both, entered_named}
 use Rattle.xf_verify.proofs.Walking.{stops, same_answer, goes_on}
@@ -37,6 +37,12 @@ module _ (f : Facts) (h inner : Holder) (see next : Sees) (t : Tree) (after : Op
 
     pub tree_named : names_behind names (regions_stand inner next t.name 0 t.regions) ≡ names_behind before (tree_stands h see t after)
     tree_named = ap (names_behind names) inside_is ∙ ap (λ n. names_behind n (regions_stand own see t.name 0 t.regions)) ni
+
+    pub root_judged : first_behind f before (stands h see t no_ops ∷ []) ≡ None → first_behind f before (all_stand h see t) ≡ first_behind f names (blocks_stand inner next t.regions)
+    root_judged p =
+        goes_on f before (stands h see t no_ops ∷ []) (blocks_stand own see t.regions) p
+        ∙ ap (λ n. first_behind f n (blocks_stand own see t.regions)) (sym ni)
+        ∙ ap (first_behind f names) (sym (ap (λ x. blocks_stand x next t.regions) hi ∙ ap (λ s. blocks_stand own s t.regions) si))
 
 -- its name is there behind it
 pub own_there : (before : Names) (h : Holder) (see : Sees) (t : Tree) (after : Ops) → set.contains (names_behind before (tree_stands h see t after)) t.name.0 ≡ true
@@ -114,7 +120,7 @@ module _ (f : Facts) (h : Holder) (ts : List Tree) (i : ℕ) (t : Tree) (is : t 
         ∙ left_more (take i ts) t d olds new ∙ inv
       where
         taken : take (i + 1) ts ≡ take i ts ++ t ∷ []
-        taken = ?
+        taken = take_more ts i t lt ∙ ap (λ (x : Tree). take i ts ++ x ∷ []) (sym is)
 
 -- ---- regions of an operation
 

@@ -1,6 +1,6 @@
 -- The walk over operations, one step on.
 use Rattle.std.proofs.Common.{◌≡◌, ℕ, suc, ◌+◌, ◌<◌, List, [], ◌∷◌, ◌++◌, length, get_or, take, drop, Option, None, Some, Bool, true, false, refl, sym, ap, subst, ◌∙◌}
-use Rattle.std.specs.Prelude.{Result, Ok, Err}
+use Rattle.std.specs.Prelude.{Result, Ok, Err, OnOk}
 use Rattle.std.specs.FinSet as set
 use Rattle.std.proofs.lemmas.List.{at_drop_more}
 use Rattle.xf_ir.specs.Tree.{Ops, Regions, cons, Tree}
@@ -57,3 +57,13 @@ pub pass_on : (i : ℕ) (bs cs : List Bool) → first_false i bs ≡ None → fi
 pass_on i [] cs h = refl
 pass_on i (true ∷ bs) cs h = pass_on (i + 1) bs cs h
 pass_on i (false ∷ bs) cs h = absurd (cc)
+
+-- ---- answers
+
+pub on_ok : {A E : Type 0} (r : Result A E) (P Q : Type 0) → (P → Q) → OnOk r P → OnOk r Q
+on_ok (Ok x) P Q f h = f h
+on_ok (Err e) P Q f h = tt
+
+pub ok_is : {A : Type 0} (r : Result A VerifyFault) (v : Option Violation) (P : Type 0) → Answers {A = A} r v → (v ≡ None → P) → OnOk r P
+ok_is (Ok x) v P h f = f h
+ok_is (Err e) v P h f = tt

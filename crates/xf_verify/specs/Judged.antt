@@ -66,6 +66,10 @@ abbrev pub blocks_stand : Holder → Sees → Regions → List Placed
 blocks_stand h see no_regions = []
 blocks_stand h see (region args ops rest) = functions_stand h see ops ++ blocks_stand h see rest
 
+-- the root, and what it holds
+abbrev pub all_stand : Holder → Sees → Tree → List Placed
+all_stand h see t = stands h see t no_ops ∷ blocks_stand (holder_of t.kind (map see t.operands) t.results) see t.regions
+
 -- ---- the rules that each keeps
 
 abbrev pub shape_rules : Placed → List Bool

@@ -1,5 +1,5 @@
 //! The walk over all operations of a module, in preorder, to the first that breaks a rule.
-ghost use Rattle.std.specs.Prelude.{◌≡◌, ◌∷◌, [], None, false, true, map, IfOk, OnOk};
+ghost use Rattle.std.specs.Prelude.{◌≡◌, ◌<◌, ◌+◌, length, drop, ◌∷◌, [], None, false, true, map, IfOk, OnOk};
 ghost use Rattle.std.specs.FinSet as set;
 ghost use Rattle.xf_ir.specs.Placed.{holder_of};
 ghost use Rattle.xf_ir.specs.View.{ops_of, regions_of};
@@ -19,6 +19,14 @@ use xf_ir::{NameSet, Op};
 pub struct Walk<'a> {
     pub names: NameSet,
     pub scope: Scope<'a>,
+}
+
+/// The operations behind the one of that number.
+fn behind(ops: &[Op], number: usize) -> &[Op]
+    requires { number < length ops.now }
+    ensures { result.now ≡ drop (number + 1) ops.now }
+{
+    &ops[number + 1..]
 }
 
 /// Judges an operation where it stands, without what it holds, by all rules but V2.
@@ -103,7 +111,7 @@ fn operations<'a>(
     ensures moved { OnOk result (Judged walk.old walk.new (ops_stand (holder_seen holder.entry) (types_in walk.old.scope) (ops_of ops.now))) }
 {
     for (number, op) in ops.iter().enumerate() {
-        operation(alloc, facts, walk, holder, op, &ops[number + 1..])?;
+        operation(alloc, facts, walk, holder, op, behind(ops, number))?;
         let results = Definition::Results(op.results.as_slice());
         walk.scope.enter(op.name, results)?;
     }
@@ -148,7 +156,7 @@ fn functions<'a>(
     ensures moved { OnOk result (Judged walk.old walk.new (functions_stand (holder_seen holder.entry) (types_in walk.old.scope) (ops_of ops.now))) }
 {
     for (number, op) in ops.iter().enumerate() {
-        operation(alloc, facts, walk, holder, op, &ops[number + 1..])?;
+        operation(alloc, facts, walk, holder, op, behind(ops, number))?;
     }
     Ok(())
 }

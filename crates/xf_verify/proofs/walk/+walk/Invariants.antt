@@ -1,8 +1,18 @@
-use Rattle.std.proofs.Common.{◌≡◌, drop, take}
-use Rattle.xf_ir.specs.View.{ops_of, regions_of}
+use Rattle.std.proofs.Common.{◌≡◌, ◌+◌, ◌*◌, true, drop, take}
+use Rattle.std.specs.FinSet as set
+use Rattle.xf_ir.specs.View.{ops_of, regions_of, tree_size, ops_size}
 use Rattle.xf_verify.specs.Judged.{IsNamed, first_behind, names_behind, ops_stand, regions_stand, holder_seen}
 use Rattle.xf_verify.specs.Visible.{definitions_in, types_in, without}
 use Rattle.xf_verify.proofs.walk.+walk.Given as goal
+
+abbrev pub decreases-operation : goal.decreases-operation
+decreases-operation l = 2 * tree_size l.op.now + 1
+
+abbrev pub decreases-operations : goal.decreases-operations
+decreases-operations l = 2 * ops_size (ops_of l.ops.now)
+
+abbrev pub decreases-regions : goal.decreases-regions
+decreases-regions l = 2 * tree_size l.op.now
 
 -- what is left from here gives what all gives
 abbrev pub invariant-operations-loop-number : goal.invariant-operations-loop-number
@@ -19,4 +29,5 @@ invariant-regions-loop-number l = record {
   names : names_behind l.walk.names (regions_stand (holder_seen l.holder) (types_in l.walk.scope) l.op.name l.number (regions_of (drop l.number l.block-items))) ≡ names_behind l.fn.walk.names (regions_stand (holder_seen l.holder) (types_in l.fn.walk.scope) l.op.name 0 l.op.regions);
   scope : definitions_in l.walk.scope ≡ definitions_in l.fn.walk.scope;
   named : IsNamed l.walk;
+  here : set.contains l.walk.names l.op.name.0 ≡ true;
 }
