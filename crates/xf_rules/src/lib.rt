@@ -1,0 +1,8 @@
+//! The rules of a valid module as tests of one operation where it stands: its kind, its attributes, the types of its operands
+//! and results, and its regions. What the rules need to know of other operations is given by the caller.
+#![tactic(auto)]
+
+mod blocks;
+mod types;
+
+pub use blocks::{blocks_end, fits_body, regions_fit, stands_at_end};
