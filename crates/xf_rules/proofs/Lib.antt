@@ -1,2 +1,5 @@
 pub mod SameTypes
 pub mod BlockLemmas
+pub mod DenseLemmas
+pub mod Ascending
+pub mod SliceLemmas

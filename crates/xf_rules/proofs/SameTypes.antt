@@ -85,7 +85,7 @@ same_type_by r t u h = same_from_decides r (same_type t u) h (same_type_decides 
 pub same_width_by : (r : Bool) (w v : Width) → (IsTrue r ↔ (w ≡ v)) → r ≡ same_width w v
 same_width_by r w v h = same_from_decides r (same_width w v) h (width_is w v, λ e. subst (λ x. same_width w x ≡ true) e (width_itself w))
 
-unequal_behind : (a b : Bool) → b ≡ false → (a && b) ≡ false
+pub unequal_behind : (a b : Bool) → b ≡ false → (a && b) ≡ false
 unequal_behind true b h = h
 unequal_behind false b h = refl
 

@@ -1,1 +1,2 @@
 pub mod OperandTypes
+pub mod Attributes

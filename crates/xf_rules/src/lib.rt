@@ -2,7 +2,14 @@
 //! and results, and its regions. What the rules need to know of other operations is given by the caller.
 #![tactic(auto)]
 
+mod attributes;
 mod blocks;
+mod dense;
+mod ranges;
+mod slices;
 mod types;
 
+pub use attributes::{attributes_fit, kind_fits};
 pub use blocks::{blocks_end, fits_body, regions_fit, stands_at_end};
+pub use ranges::types_in_range;
+pub use slices::slices_fit;
