@@ -64,7 +64,7 @@ dims_is (d ∷ ds) (e ∷ es) p =
 shape_is : (s t : Shape) → s.elem ≡ t.elem → s.dims ≡ t.dims → Tensor s ≡ Tensor t
 shape_is s t p q = λ i. Tensor (record { dims = q i; elem = p i })
 
-type_itself : (t : PayloadType) → same_type t t ≡ true
+pub type_itself : (t : PayloadType) → same_type t t ≡ true
 type_itself (Scalar w) = width_itself w
 type_itself (Tensor s) = rw (width_itself s.elem) (dims_itself s.dims)
 
@@ -99,7 +99,7 @@ unequal_items same (x ∷ xs) (y ∷ ys) n = unequal_behind (same x y) (same_ite
 pub unequal_lengths : (ts us : List PayloadType) → length ts ≢ length us → same_types ts us ≡ false
 unequal_lengths ts us n = unequal_items same_type ts us n
 
-unequal_operands : (os : List (Option PayloadType)) (ts : List PayloadType) → length os ≢ length ts → have_types os ts ≡ false
+pub unequal_operands : (os : List (Option PayloadType)) (ts : List PayloadType) → length os ≢ length ts → have_types os ts ≡ false
 unequal_operands [] [] n = absurd (n refl)
 unequal_operands [] (t ∷ ts) n = refl
 unequal_operands (o ∷ os) [] n = refl
@@ -128,6 +128,10 @@ unequal_scalars os ws n = unequal_types os (scalars ws) (λ e. n (e ∙ scalars_
 
 pub unequal_widths : (ts : List PayloadType) (ws : List Width) → length ts ≢ length ws → same_types ts (scalars ws) ≡ false
 unequal_widths ts ws n = unequal_lengths ts (scalars ws) (λ e. n (e ∙ scalars_length ws))
+
+pub some_operands : (os : List (Option (Bor PayloadType))) → 1 ≤ length os → have_types (operand_types os) [] ≡ false
+some_operands [] h = absurd (omega arith)
+some_operands (o ∷ os) h = refl
 
 -- ---- shapes
 

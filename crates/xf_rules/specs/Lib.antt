@@ -1,2 +1,3 @@
 pub mod OperandTypes
 pub mod Attributes
+pub mod Given

@@ -5,11 +5,17 @@
 mod attributes;
 mod blocks;
 mod dense;
+mod given;
+mod linalg_rows;
 mod ranges;
+mod rows;
 mod slices;
+mod tensor_rows;
 mod types;
 
 pub use attributes::{attributes_fit, kind_fits};
 pub use blocks::{blocks_end, fits_body, regions_fit, stands_at_end};
+pub use given::{Gives, Signature};
 pub use ranges::types_in_range;
+pub use rows::{callee_agrees, types_fit};
 pub use slices::slices_fit;

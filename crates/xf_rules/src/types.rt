@@ -217,3 +217,24 @@ pub fn last_type<'a>(types: &[Option<&'a PayloadType>]) -> Option<&'a PayloadTyp
         [.., last] => *last,
     }
 }
+
+/// Whether there are no operands.
+#[tactic(auto, using(crate::proofs::SameTypes::some_operands))]
+pub fn has_no_operands(types: &[Option<&PayloadType>]) -> bool
+    ensures { result ≡ have_types (operand_types types.now) [] }
+{
+    match types {
+        [] => true,
+        _ => false,
+    }
+}
+
+/// Whether there are no results.
+pub fn has_no_results(results: &[PayloadType]) -> bool
+    ensures { result ≡ same_types results.now [] }
+{
+    match results {
+        [] => true,
+        _ => false,
+    }
+}
