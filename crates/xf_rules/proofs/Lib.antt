@@ -5,3 +5,5 @@ pub mod Ascending
 pub mod SliceLemmas
 pub mod Indices
 pub mod Callees
+pub mod DimSets
+pub mod NamedMaps

@@ -1,3 +1,4 @@
 pub mod OperandTypes
 pub mod Attributes
 pub mod Given
+pub mod Dims

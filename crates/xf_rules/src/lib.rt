@@ -5,8 +5,10 @@
 mod attributes;
 mod blocks;
 mod dense;
+mod dim_set;
 mod given;
 mod linalg_rows;
+mod maps;
 mod ranges;
 mod rows;
 mod slices;
@@ -16,6 +18,7 @@ mod types;
 pub use attributes::{attributes_fit, kind_fits};
 pub use blocks::{blocks_end, fits_body, regions_fit, stands_at_end};
 pub use given::{Gives, Signature};
+pub use maps::{iterators_fit, maps_fit};
 pub use ranges::types_in_range;
 pub use rows::{callee_agrees, types_fit};
 pub use slices::slices_fit;
