@@ -14,7 +14,7 @@ use Rattle.xf_rules.specs.Dims.{Dims, with_dims, with_results, are_new, iterator
 inserted : (s : Dims) (k q : ℕ) → set.contains (set.insert s k) q ≡ ((q == k) || set.contains s q)
 inserted s k q = set.contains-insert nat_cmp_total s k q ∙ ap (λ b. b || set.contains s q) (unsigned_tied q k)
 
-flipped : (a b : ℕ) → (a == b) ≡ (b == a)
+pub flipped : (a b : ℕ) → (a == b) ≡ (b == a)
 flipped a b = elim (cases_Bool (a == b)) [
   | inl h ↦ (let e = eqb-true a b h in h ∙ sym (eq-eqb b a (sym e)))
   | inr h ↦ elim (cases_Bool (b == a)) [ inl k ↦ (let e = eqb-true b a k in let z = eq-eqb a b (sym e) in absurd (cc)) | inr k ↦ h ∙ sym k ]

@@ -7,3 +7,4 @@ pub mod Indices
 pub mod Callees
 pub mod DimSets
 pub mod NamedMaps
+pub mod ExtentLemmas

@@ -2,3 +2,4 @@ pub mod OperandTypes
 pub mod Attributes
 pub mod Given
 pub mod Dims
+pub mod Extents

@@ -6,6 +6,7 @@ mod attributes;
 mod blocks;
 mod dense;
 mod dim_set;
+mod extents;
 mod given;
 mod linalg_rows;
 mod maps;
@@ -17,6 +18,7 @@ mod types;
 
 pub use attributes::{attributes_fit, kind_fits};
 pub use blocks::{blocks_end, fits_body, regions_fit, stands_at_end};
+pub use extents::extents_agree;
 pub use given::{Gives, Signature};
 pub use maps::{iterators_fit, maps_fit};
 pub use ranges::types_in_range;
