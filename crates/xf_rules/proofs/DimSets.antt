@@ -11,7 +11,7 @@ use Rattle.xf_ir.specs.Lists.{every, some}
 use Rattle.xf_ir.specs.RuleLinalg.{counted, is_number_among, numbers_once, are_covered, is_parallel, same_truth, last_results, iterators_fit}
 use Rattle.xf_rules.specs.Dims.{Dims, with_dims, with_results, are_new, iterators_fit_set}
 
-inserted : (s : Dims) (k q : ℕ) → set.contains (set.insert s k) q ≡ ((q == k) || set.contains s q)
+pub inserted : (s : Dims) (k q : ℕ) → set.contains (set.insert s k) q ≡ ((q == k) || set.contains s q)
 inserted s k q = set.contains-insert nat_cmp_total s k q ∙ ap (λ b. b || set.contains s q) (unsigned_tied q k)
 
 pub flipped : (a b : ℕ) → (a == b) ≡ (b == a)

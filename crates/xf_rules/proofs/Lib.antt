@@ -8,3 +8,4 @@ pub mod Callees
 pub mod DimSets
 pub mod NamedMaps
 pub mod ExtentLemmas
+pub mod DependentLemmas

@@ -3,3 +3,4 @@ pub mod Attributes
 pub mod Given
 pub mod Dims
 pub mod Extents
+pub mod Dependents

@@ -17,7 +17,6 @@ pub fn same_width(a: Width, b: Width) -> bool
 }
 
 /// Whether two types are equal.
-
 pub fn same_type(a: &PayloadType, b: &PayloadType) -> bool
     ensures { result ≡ same_type a.now b.now }
 {
@@ -180,7 +179,6 @@ pub fn is_tensor_of(types: &[PayloadType], shape: &Shape) -> bool
 }
 
 /// Whether two shapes are equal.
-
 fn same_shape(a: &Shape, b: &Shape) -> bool
     ensures { result ≡ same_shape a.now b.now }
 {
