@@ -20,7 +20,7 @@ use Rattle.xf_ir.specs.Types.{last_type}
 use Rattle.xf_verify.specs.declared.scope.Definition.{Definition}
 use Rattle.xf_verify.specs.declared.scope.Definition.TheVariants.{Results, Arguments}
 use Rattle.xf_verify.specs.Visible.{Definitions, no_definitions, with_definition, without, result_type, argument_type, type_among}
-use Rattle.xf_verify.specs.Given.{operand_type, operand_types}
+use Rattle.xf_rules.specs.OperandTypes.{operand_type, operand_types}
 use Rattle.xf_verify.specs.Judged.{Sees, sees_with}
 
 pub same_definitions : (f g : Definitions) → ((q : ℕ) → f q ≡ g q) → f ≡ g

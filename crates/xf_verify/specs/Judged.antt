@@ -26,7 +26,8 @@ use Rattle.xf_verify.specs.declared.stand.Holder.{Holder as HolderSeen}
 use Rattle.xf_verify.specs.declared.stand.Stand.{Stand}
 use Rattle.xf_verify.specs.declared.walk.Walk.{Walk}
 use Rattle.xf_verify.specs.Chains.{signatures_in, ends_in, callee_ends}
-use Rattle.xf_verify.specs.Given.{operand_types, gives_seen}
+use Rattle.xf_rules.specs.OperandTypes.{operand_types}
+use Rattle.xf_rules.specs.Given.{gives_seen}
 use Rattle.xf_verify.specs.Visible.{definitions_in}
 
 -- ---- where operations stand

@@ -1,4 +1,3 @@
-pub mod Given
 pub mod Visible
 pub mod Symbols
 pub mod Chains

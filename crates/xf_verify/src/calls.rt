@@ -5,10 +5,10 @@ ghost use Rattle.xf_ir.specs.Calls.{signatures, signature, callee_before, region
 ghost use Rattle.xf_ir.specs.Lists.{every};
 ghost use Rattle.xf_ir.specs.Placed.{functions_of};
 ghost use Rattle.xf_verify.specs.Chains.{no_numbers, numbers_in, with_number, number_from, pick, numbers_called, tree_calls, ends_at, ends_after, signatures_in, ends_in, callee_ends};
-ghost use Rattle.xf_verify.specs.Given.{callee_of, callee_seen};
+ghost use Rattle.xf_rules.specs.Given.{callee_of, callee_seen};
 
 use crate::functions::functions_of;
-use crate::rules::Signature;
+use xf_rules::Signature;
 use std::alloc::Global;
 use std::collections::BTreeMap;
 use xf_ir::{Kind, Module, Op};

@@ -6,7 +6,6 @@ mod facts;
 mod fault;
 mod functions;
 mod local;
-mod rules;
 mod scope;
 mod stand;
 mod verifier;
@@ -14,3 +13,6 @@ mod walk;
 
 pub use fault::VerifyFault;
 pub use verifier::verify;
+
+#[cfg(test)]
+mod tests;

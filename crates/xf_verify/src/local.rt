@@ -5,7 +5,7 @@ ghost use Rattle.xf_ir.specs.Violations.{first_false};
 ghost use Rattle.xf_verify.specs.Judged.{shape_rules, type_rules, linalg_rules, range_rules, rules_of, stand_seen};
 
 use crate::facts::Facts;
-use crate::rules::{
+use xf_rules::{
     attributes_fit, blocks_end, callee_agrees, extents_agree, fits_body, iterators_fit, kind_fits,
     maps_fit, reduces, regions_fit, slices_fit, stands_at_end, types_fit, types_in_range,
 };

@@ -2,7 +2,7 @@
 ghost use Rattle.std.specs.Prelude.{◌≡◌, ◌++◌, ◌∷◌, [], Some, None, map, IfOk, OnOk};
 ghost use Rattle.std.specs.Option.{option_copied};
 ghost use Rattle.xf_verify.specs.Visible.{definitions_in, no_definitions, with_definition, without, result_type, argument_type, types_in};
-ghost use Rattle.xf_verify.specs.Given.{operand_types};
+ghost use Rattle.xf_rules.specs.OperandTypes.{operand_types};
 
 use std::alloc::Global;
 use std::collections::BTreeMap;

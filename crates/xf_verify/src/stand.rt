@@ -3,10 +3,11 @@ ghost use Rattle.std.specs.Prelude.{◌≡◌, IfOk};
 ghost use Rattle.xf_ir.specs.Lists.{every};
 ghost use Rattle.xf_ir.specs.Placed.{holder_of, gives_of, body_gives, top};
 ghost use Rattle.xf_ir.specs.Types.{known, last_type, element_of};
-ghost use Rattle.xf_verify.specs.Given.{operand_types, gives_seen};
+ghost use Rattle.xf_rules.specs.OperandTypes.{operand_types};
+ghost use Rattle.xf_rules.specs.Given.{gives_seen};
 ghost use Rattle.xf_verify.specs.Judged.{holder_seen};
 
-use crate::rules::Gives;
+use xf_rules::Gives;
 use xf_ir::{Kind, Op};
 use xf_type::{PayloadType, Width};
 

@@ -10,7 +10,7 @@ use crate::calls::Calls;
 use crate::facts::Facts;
 use crate::fault::VerifyFault;
 use crate::functions::holds_functions;
-use crate::rules::Gives;
+use xf_rules::Gives;
 use crate::scope::Scope;
 use crate::stand::Holder;
 use crate::walk::{Walk, blocks, enter};

@@ -1,6 +1,6 @@
 use Rattle.std.proofs.Common.{◌≡◌, ◌++◌, drop}
 use Rattle.std.specs.Prelude.{map}
-use Rattle.xf_verify.specs.Given.{operand_types}
+use Rattle.xf_rules.specs.OperandTypes.{operand_types}
 use Rattle.xf_verify.specs.Visible.{types_in}
 use Rattle.xf_verify.proofs.scope.Scope.operand_types.Given as goal
 
