@@ -8,10 +8,10 @@ ghost use Rattle.xf_verify.specs.Chains.{no_numbers, numbers_in, with_number, nu
 ghost use Rattle.xf_rules.specs.Given.{callee_of, callee_seen};
 
 use crate::functions::functions_of;
-use xf_rules::Signature;
 use std::alloc::Global;
 use std::collections::BTreeMap;
 use xf_ir::{Kind, Module, Op};
+use xf_rules::Signature;
 use xf_type::{ListOf, NoMemory};
 
 /// The numbers of functions in their block, by their symbols.
@@ -129,11 +129,7 @@ fn all_end(callees: &[usize], ends: &[bool]) -> bool
 }
 
 /// Whether the chains of calls from each function pass at most one function more than before.
-fn one_longer(
-    alloc: Global,
-    calls: &[CalleeList],
-    ends: &[bool],
-) -> Result<Vec<bool>, NoMemory>
+fn one_longer(alloc: Global, calls: &[CalleeList], ends: &[bool]) -> Result<Vec<bool>, NoMemory>
     ensures { IfOk result (λ longer. longer.items ≡ map (every (ends_at ends.now)) calls.now) }
 {
     let mut longer = Vec::new(alloc);

@@ -5,12 +5,12 @@ ghost use Rattle.xf_ir.specs.Violations.{first_false};
 ghost use Rattle.xf_verify.specs.Judged.{shape_rules, type_rules, linalg_rules, range_rules, rules_of, stand_seen};
 
 use crate::facts::Facts;
+use crate::stand::{Stand, are_known};
+use std::alloc::Global;
 use xf_rules::{
     attributes_fit, blocks_end, callee_agrees, extents_agree, fits_body, iterators_fit, kind_fits,
     maps_fit, reduces, regions_fit, slices_fit, stands_at_end, types_fit, types_in_range,
 };
-use crate::stand::{Stand, are_known};
-use std::alloc::Global;
 use xf_type::NoMemory;
 
 /// Whether the blocks of an operation end as they are to, and it stands where it may end one.

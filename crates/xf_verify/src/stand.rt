@@ -7,8 +7,8 @@ ghost use Rattle.xf_rules.specs.OperandTypes.{operand_types};
 ghost use Rattle.xf_rules.specs.Given.{gives_seen};
 ghost use Rattle.xf_verify.specs.Judged.{holder_seen};
 
-use xf_rules::Gives;
 use xf_ir::{Kind, Op};
+use xf_rules::Gives;
 use xf_type::{PayloadType, Width};
 
 /// What holds the operations of a block: an operation of a kind, which is given these values at the

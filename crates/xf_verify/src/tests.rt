@@ -123,7 +123,14 @@ fn step_operation(alloc: Global, step: Step) -> Result<Op, NoMemory> {
     let operands = step_operands(alloc, step)?;
     let results = step_results(alloc, step)?;
     let kind = step_kind(alloc, step)?;
-    operation(alloc, step_name(step), kind, &operands, results, Vec::new(alloc))
+    operation(
+        alloc,
+        step_name(step),
+        kind,
+        &operands,
+        results,
+        Vec::new(alloc),
+    )
 }
 
 fn operations(alloc: Global, steps: &[Step]) -> Result<OpList, NoMemory> {
@@ -198,8 +205,24 @@ type Case = (&'static [Function], u8, u64);
 
 const BROKEN: [Case; 14] = [
     // V1: a name that occurs earlier, and one that is not below the next
-    (&[(1, b"f", &[Step::Constant(2, 7), Step::Constant(2, 7), Step::Return(3, 2)])], 1, 2),
-    (&[(1, b"f", &[Step::Constant(2, 7), Step::Return(90, 2)])], 1, 90),
+    (
+        &[(
+            1,
+            b"f",
+            &[
+                Step::Constant(2, 7),
+                Step::Constant(2, 7),
+                Step::Return(3, 2),
+            ],
+        )],
+        1,
+        2,
+    ),
+    (
+        &[(1, b"f", &[Step::Constant(2, 7), Step::Return(90, 2)])],
+        1,
+        90,
+    ),
     // V2: two functions of one symbol
     (
         &[
@@ -210,11 +233,23 @@ const BROKEN: [Case; 14] = [
         0,
     ),
     // V3: regions that are not there
-    (&[(1, b"f", &[Step::If(2), Step::Constant(3, 7), Step::Return(4, 3)])], 3, 2),
+    (
+        &[(
+            1,
+            b"f",
+            &[Step::If(2), Step::Constant(3, 7), Step::Return(4, 3)],
+        )],
+        3,
+        2,
+    ),
     // V4: no terminator, and one in the middle
     (&[(1, b"f", &[Step::Constant(2, 7)])], 4, 1),
     (
-        &[(1, b"f", &[Step::Constant(2, 7), Step::Return(3, 2), Step::Return(4, 2)])],
+        &[(
+            1,
+            b"f",
+            &[Step::Constant(2, 7), Step::Return(3, 2), Step::Return(4, 2)],
+        )],
         4,
         3,
     ),
@@ -227,7 +262,15 @@ const BROKEN: [Case; 14] = [
         5,
         5,
     ),
-    (&[(1, b"f", &[Step::Add(2, 3, 3), Step::Constant(3, 7), Step::Return(4, 3)])], 5, 2),
+    (
+        &[(
+            1,
+            b"f",
+            &[Step::Add(2, 3, 3), Step::Constant(3, 7), Step::Return(4, 3)],
+        )],
+        5,
+        2,
+    ),
     // V6: no value is returned
     (&[(1, b"f", &[Step::Leave(2)])], 6, 2),
     // V7: a number of more bits, before a later operation that breaks V5
@@ -237,9 +280,17 @@ const BROKEN: [Case; 14] = [
         2,
     ),
     // V8: no such function
-    (&[(1, b"f", &[Step::Call(2, b"g"), Step::Return(3, 2)])], 8, 2),
+    (
+        &[(1, b"f", &[Step::Call(2, b"g"), Step::Return(3, 2)])],
+        8,
+        2,
+    ),
     // V9: recursion, direct and over another function
-    (&[(1, b"f", &[Step::Call(2, b"f"), Step::Return(3, 2)])], 9, 2),
+    (
+        &[(1, b"f", &[Step::Call(2, b"f"), Step::Return(3, 2)])],
+        9,
+        2,
+    ),
     (
         &[
             (1, b"f", &[Step::Call(2, b"g"), Step::Return(3, 2)]),
@@ -250,7 +301,15 @@ const BROKEN: [Case; 14] = [
     ),
     // V15: a dimension that is too large
     (
-        &[(1, b"f", &[Step::Empty(2, 1 << 31), Step::Constant(3, 7), Step::Return(4, 3)])],
+        &[(
+            1,
+            b"f",
+            &[
+                Step::Empty(2, 1 << 31),
+                Step::Constant(3, 7),
+                Step::Return(4, 3),
+            ],
+        )],
         15,
         2,
     ),
@@ -290,7 +349,14 @@ fn link(alloc: Global, number: u8, length: u8) -> Result<OpList, NoMemory> {
         }
     };
     let mut ops = Vec::new(alloc);
-    ops.push(operation(alloc, name + 2, kind, &[], self::number(alloc)?, Vec::new(alloc))?)?;
+    ops.push(operation(
+        alloc,
+        name + 2,
+        kind,
+        &[],
+        self::number(alloc)?,
+        Vec::new(alloc),
+    )?)?;
     ops.push(step_operation(alloc, Step::Return(name + 3, name + 2))?)?;
     Ok(ops)
 }
@@ -329,6 +395,9 @@ fn a_fault_says_which_operation_breaks_which_rule(rt: HostRuntime) -> Result<(),
         rule: 5,
         op: OpName(12),
     };
-    assert_eq!(rt; format!(in alloc; "{fault}")?.as_str(), "operation 12 breaks rule V5");
+    assert_eq!(rt;
+        format!(in alloc; "{fault}")?.as_str(),
+        "operation 12 breaks rule V5"
+    );
     Ok(())
 }

@@ -15,7 +15,7 @@ returns-in_ok-insert-in-Func-clause-symbols c =
     let key = c.as_slice.result.now in
     let old = symbols_seen c.args.symbols.now in
     rw c.in-Func.is (same_symbols _ _ (λ s.
-        c.in_ok-insert-in-Func.ensures.updates.0 (record { ref_ptr = (0, 0); now = s })
-        ∙ ap (λ b. cond b true (old s)) (is_eq-slice_cmp key s)
-        ∙ cond_or (bytes_eq key s) (old s)
-        ∙ ap (λ k. bytes_eq k s || old s) c.as_slice.ensures))
+    c.in_ok-insert-in-Func.ensures.updates.0 (record { ref_ptr = (0, 0); now = s })
+    ∙ ap (λ b. cond b true (old s)) (is_eq-slice_cmp key s)
+    ∙ cond_or (bytes_eq key s) (old s)
+    ∙ ap (λ k. bytes_eq k s || old s) c.as_slice.ensures))

@@ -19,4 +19,4 @@ returns-clause-ends c =
     let calls : c.deref.result.now ≡ map (tree_calls (number_from 0 ts)) ts = c.deref.ensures.value ∙ c.in_ok-calls.ensures ∙ ap (λ (n : Numbers). map (tree_calls n) ts) c.in_ok-numbers.ensures in
     let ends : c.in_ok-ends.ends.items ≡ ends_after 31 (map (tree_calls (number_from 0 ts)) ts) = c.in_ok-ends.ensures ∙ ap (ends_after 31) calls in
     λ i s. (ap (λ (es : List Bool). ends_there es (numbers_in c.in_ok-numbers.numbers s)) ends ∙ ap (λ (n : Numbers). ends_there (ends_after 31 (map (tree_calls (number_from 0 ts)) ts)) (n s)) c.in_ok-numbers.ensures
-      ∙ sym (chains_are ts 31 s) ∙ ap (λ (fs : Ops). chains_end fs 31 s) c.functions_of-functions.ensures) i
+    ∙ sym (chains_are ts 31 s) ∙ ap (λ (fs : Ops). chains_end fs 31 s) c.functions_of-functions.ensures) i
