@@ -1,4 +1,4 @@
-pub mod Tests
+pub mod Truths
 pub mod KindLemmas
 pub mod Defining
 pub mod Naming

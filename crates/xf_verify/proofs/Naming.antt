@@ -12,7 +12,7 @@ use Rattle.xf_ir.specs.Placed.{Placed}
 use Rattle.xf_verify.specs.declared.scope.Definition.{Definition}
 use Rattle.xf_verify.specs.Visible.{Definitions, no_definitions, with_definition, without}
 use Rattle.xf_verify.specs.Judged.{Names, names_behind}
-use Rattle.xf_verify.proofs.Tests.{is_none_from}
+use Rattle.xf_verify.proofs.Truths.{is_none_from}
 
 -- each operation whose values are visible was named
 abbrev pub Named : Definitions → Names → Type 0

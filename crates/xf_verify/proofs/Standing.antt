@@ -20,7 +20,7 @@ use Rattle.xf_verify.specs.declared.facts.Facts.{Facts}
 use Rattle.xf_verify.specs.Chains.{signatures_in, ends_in, callee_ends}
 use Rattle.xf_verify.specs.Judged.{Sees, sees_with, ops_stand, regions_stand, tree_stands, functions_stand, blocks_stand, stands, shape_rules, linalg_rules, range_rules, rules_of, rules_behind, Names, is_new, first_behind}
 use Rattle.xf_verify.proofs.Naming.{inserted}
-use Rattle.xf_verify.proofs.Tests.{eqb_sym}
+use Rattle.xf_verify.proofs.Truths.{eqb_sym}
 
 -- ---- the same operations
 

@@ -7,7 +7,7 @@ use Rattle.std.proofs.lemmas.List.{at_drop_more}
 use Rattle.xf_ir.specs.Tree.{Ops, Body}
 use Rattle.xf_ir.specs.Valid.{symbols_of, symbols_in}
 use Rattle.xf_ir.specs.View.{regions_of}
-use Rattle.xf_verify.proofs.Tests.{eqb_sym}
+use Rattle.xf_verify.proofs.Truths.{eqb_sym}
 use Rattle.xf_verify.specs.Symbols.{Symbols, no_symbols, with_symbol, with_symbols, new_symbols}
 
 pub bytes_same : (s t : List ℕ) → bytes_eq s t ≡ same_bytes t s
