@@ -1,4 +1,5 @@
 //! Modules of functions without arguments that give one number of 32 bits: valid ones, and ones with one broken rule.
+ghost use Rattle.std.specs.Prelude.{◌<◌};
 
 use super::*;
 use std::alloc::Global;
@@ -336,7 +337,9 @@ fn chain_symbol(alloc: Global, number: u8) -> Result<ByteList, NoMemory> {
 }
 
 /// The operations of the function of that number in a chain: a call of the next function, or a constant in the last.
-fn link(alloc: Global, number: u8, length: u8) -> Result<OpList, NoMemory> {
+fn link(alloc: Global, number: u8, length: u8) -> Result<OpList, NoMemory>
+    requires { number < length }
+{
     let name = 3 * u64::from(number);
     let kind = if number + 1 < length {
         Kind::Call {
