@@ -4,8 +4,7 @@ use Rattle.std.specs.Prelude.{map, slice_get, if◌then◌else◌, ◌&&◌, unw
 use Rattle.std.proofs.lemmas.List.{at_drop_more}
 use Rattle.std.proofs.lemmas.Option.{slice_get-map}
 use Rattle.std.specs.Option.{option_map}
-use Rattle.xf_ir.specs.declared.kind.Kind.{Kind}
-use Rattle.xf_ir.specs.Tree.{Ops, Tree, cons}
+use Rattle.xf_ir.specs.Tree.{Tree}
 use Rattle.xf_ir.specs.View.{ops_of}
 use Rattle.xf_ir.specs.Lists.{every}
 use Rattle.xf_ir.specs.Walk.{first_of}

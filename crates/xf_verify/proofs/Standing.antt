@@ -1,6 +1,6 @@
 -- The walk judges what is placed.
-use Rattle.std.proofs.Common.{◌≡◌, ℕ, suc, List, [], ◌∷◌, ◌++◌, length, Option, None, Some, Bool, true, false, eqb, refl, sym, ap, subst, ◌∙◌, add-one}
-use Rattle.std.specs.Prelude.{map, not, ◌&&◌, ◌||◌, nat_lt, ◌↔◌}
+use Rattle.std.proofs.Common.{◌≡◌, ℕ, suc, List, [], ◌∷◌, ◌++◌, length, Bool, true, eqb, refl, sym, ap, ◌∙◌, add-one}
+use Rattle.std.specs.Prelude.{map, not, ◌&&◌, ◌||◌, nat_lt}
 use Rattle.std.specs.FinSet as set
 use Rattle.std.specs.Ordering.{nat_cmp}
 use Rattle.xf_ir.specs.declared.name.OpName.{OpName}
@@ -10,15 +10,15 @@ use Rattle.xf_ir.specs.declared.op.Module.{Module}
 use Rattle.xf_ir.specs.Tree.{Ops, no_ops, op, Regions, no_regions, region}
 use Rattle.xf_ir.specs.Lists.{is_among}
 use Rattle.xf_ir.specs.Calls.{Signatures, signatures, chains_end, chain_ends}
-use Rattle.xf_ir.specs.Places.{done, inside, results_of, args_of}
-use Rattle.xf_ir.specs.Placed.{Typed, type_at, Holder, holder_of, Placed, place, ops_placed, regions_placed, functions_placed, blocks_placed, placed, top, root_holder, functions_of}
-use Rattle.xf_ir.specs.Violations.{Violation, is_new_name, root_holds_functions, local_rules, rules_kept, first_false, broken_or, first_broken, first_violation, holds_functions}
+use Rattle.xf_ir.specs.Places.{done, inside}
+use Rattle.xf_ir.specs.Placed.{Typed, type_at, Holder, holder_of, Placed, place, ops_placed, regions_placed, functions_placed, blocks_placed, top, root_holder, functions_of}
+use Rattle.xf_ir.specs.Violations.{is_new_name, local_rules, rules_kept, first_false, broken_or, first_broken, first_violation, holds_functions}
 use Rattle.xf_ir.specs.Calls.{has_its_callee}
 use Rattle.xf_ir.specs.RuleTypes.{has_its_types}
 use Rattle.xf_ir.specs.RuleAttributes.{has_its_attributes}
 use Rattle.xf_verify.specs.declared.facts.Facts.{Facts}
 use Rattle.xf_verify.specs.Chains.{signatures_in, ends_in, callee_ends}
-use Rattle.xf_verify.specs.Judged.{Sees, sees_with, ops_stand, regions_stand, tree_stands, functions_stand, blocks_stand, stands, shape_rules, linalg_rules, range_rules, rules_of, rules_behind, Names, is_new, first_behind}
+use Rattle.xf_verify.specs.Judged.{ops_stand, regions_stand, functions_stand, blocks_stand, stands, shape_rules, linalg_rules, range_rules, rules_of, rules_behind, Names, is_new, first_behind}
 use Rattle.xf_verify.proofs.Naming.{inserted}
 use Rattle.xf_verify.proofs.Truths.{eqb_sym}
 

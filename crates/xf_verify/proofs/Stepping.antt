@@ -1,6 +1,6 @@
 -- The walk over the operations of a block, the regions of an operation and the functions of the root, one step on.
-use Rattle.std.proofs.Common.{◌≡◌, ℕ, ◌+◌, ◌<◌, ◌≤◌, List, [], ◌∷◌, ◌++◌, length, get_or, take, drop, Option, None, Some, Bool, true, false, Bor, refl, sym, ap, subst, ◌∙◌}
-use Rattle.std.specs.Prelude.{Result, Ok, Err, map}
+use Rattle.std.proofs.Common.{◌≡◌, ℕ, ◌+◌, ◌<◌, List, [], ◌∷◌, ◌++◌, length, get_or, take, drop, Option, None, Some, true, Bor, sym, ap, subst, ◌∙◌}
+use Rattle.std.specs.Prelude.{Err, map}
 use Rattle.std.specs.FinSet as set
 use Rattle.std.proofs.lemmas.List.{at_drop_more, take_more}
 use Rattle.xf_type.specs.declared.payload_type.PayloadType.{PayloadType}
@@ -8,7 +8,7 @@ use Rattle.xf_ir.specs.declared.name.OpName.{OpName}
 use Rattle.xf_ir.specs.Tree.{Ops, no_ops, Regions, region, cons, Tree, Body}
 use Rattle.xf_ir.specs.View.{ops_of, regions_of}
 use Rattle.xf_ir.specs.Places.{results_of, args_of}
-use Rattle.xf_ir.specs.Placed.{Holder, holder_of, Placed}
+use Rattle.xf_ir.specs.Placed.{Holder, holder_of}
 use Rattle.xf_ir.specs.Violations.{Violation}
 use Rattle.xf_verify.specs.declared.fault.VerifyFault.{VerifyFault}
 use Rattle.xf_verify.specs.declared.facts.Facts.{Facts}
@@ -17,7 +17,7 @@ use Rattle.xf_verify.specs.declared.scope.Definition.TheVariants.{Results, Argum
 use Rattle.xf_verify.specs.Visible.{Definitions, with_definition, without, type_among}
 use Rattle.xf_verify.specs.Judged.{Sees, sees_with, stands, all_stand, tree_stands, ops_stand, regions_stand, functions_stand, blocks_stand, Names, Answers, first_behind, names_behind}
 use Rattle.xf_verify.proofs.Defining.{results_enter, arguments_enter, left_more}
-use Rattle.xf_verify.proofs.Naming.{Named, own_inserted, kept_behind, names_both, entered_named}
+use Rattle.xf_verify.proofs.Naming.{own_inserted, kept_behind, names_both}
 use Rattle.xf_verify.proofs.Walking.{stops, same_answer, goes_on}
 
 -- ---- one operation

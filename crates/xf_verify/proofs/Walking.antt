@@ -1,11 +1,9 @@
 -- The walk over operations, one step on.
-use Rattle.std.proofs.Common.{◌≡◌, ℕ, suc, ◌+◌, ◌<◌, List, [], ◌∷◌, ◌++◌, length, get_or, take, drop, Option, None, Some, Bool, true, false, refl, sym, ap, subst, ◌∙◌}
+use Rattle.std.proofs.Common.{◌≡◌, ℕ, ◌+◌, List, [], ◌∷◌, ◌++◌, Option, None, Some, Bool, true, false, refl, sym, ap, subst, ◌∙◌}
 use Rattle.std.specs.Prelude.{Result, Ok, Err, OnOk}
 use Rattle.std.specs.FinSet as set
-use Rattle.std.proofs.lemmas.List.{at_drop_more}
-use Rattle.xf_ir.specs.Tree.{Ops, Regions, cons, Tree}
 use Rattle.xf_ir.specs.Walk.{first_of}
-use Rattle.xf_ir.specs.Placed.{Placed, Holder}
+use Rattle.xf_ir.specs.Placed.{Placed}
 use Rattle.xf_ir.specs.Violations.{Violation, first_false, broken_or}
 use Rattle.xf_verify.specs.declared.fault.VerifyFault.{VerifyFault}
 use Rattle.xf_verify.specs.declared.fault.VerifyFault.TheVariants.{Rule, NoMemory}

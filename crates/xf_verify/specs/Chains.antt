@@ -6,7 +6,7 @@ use Rattle.std.specs.Ordering.{nat_cmp}
 use denote.Ref.{Bor}
 use Rattle.xf_ir.specs.declared.kind.Kind.{Kind}
 use Rattle.xf_ir.specs.declared.kind.Kind.TheVariants as kind
-use Rattle.xf_ir.specs.Tree.{Ops, Tree}
+use Rattle.xf_ir.specs.Tree.{Tree}
 use Rattle.xf_ir.specs.Lists.{every}
 use Rattle.xf_ir.specs.Walk.{first_of}
 use Rattle.xf_ir.specs.Calls.{has_symbol, Signatures, signature, regions_callees}

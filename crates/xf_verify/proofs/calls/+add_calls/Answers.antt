@@ -1,4 +1,4 @@
-use Rattle.std.proofs.Common.{◌≡◌, ◌+◌, ◌++◌, ◌<◌, drop, length, get_or, sym, ap, subst, ◌∙◌, arith, []}
+use Rattle.std.proofs.Common.{◌+◌, ◌++◌, drop, ap, ◌∙◌, []}
 use Rattle.xf_ir.specs.Calls.{regions_callees, callee_before}
 use Rattle.xf_ir.specs.Tree.{Tree}
 use Rattle.xf_ir.specs.View.{regions_of}

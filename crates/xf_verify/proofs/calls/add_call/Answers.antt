@@ -1,5 +1,5 @@
-use Rattle.std.proofs.Common.{◌≡◌, ◌++◌, [], ◌∷◌, Some, None, Option, ℕ, sym, ap, ◌∙◌, append-nil}
-use Rattle.xf_verify.specs.Chains.{numbers_in, number_before}
+use Rattle.std.proofs.Common.{◌≡◌, Some, None, sym, ap, ◌∙◌, append-nil}
+use Rattle.xf_verify.specs.Chains.{numbers_in}
 use Rattle.xf_verify.proofs.calls.add_call.Goals as goal
 
 pub returns-in_ok-push : goal.returns-in_ok-push

@@ -1,4 +1,4 @@
-use Rattle.std.proofs.Common.{◌≡◌, Some, Option, ℕ, List, true, false, sym, ap, ◌∙◌}
+use Rattle.std.proofs.Common.{◌≡◌, Some, ℕ, List, true, false, sym, ap, ◌∙◌}
 use Rattle.std.specs.Prelude.{is_some, if◌then◌else◌}
 use Rattle.std.specs.Str.{bytes_eq}
 use Rattle.std.proofs.lemmas.Map.Text.{btree_map_updates_str}

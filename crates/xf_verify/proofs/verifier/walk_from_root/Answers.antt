@@ -7,7 +7,7 @@ use Rattle.xf_ir.specs.Tree.{no_ops, Tree}
 use Rattle.xf_ir.specs.Placed.{Holder, type_at, top, holder_of}
 use Rattle.xf_verify.specs.declared.stand.Holder.{Holder as HolderSeen}
 use Rattle.xf_verify.specs.declared.facts.Facts.{Facts}
-use Rattle.xf_verify.specs.Visible.{types_in, type_among, definitions_in}
+use Rattle.xf_verify.specs.Visible.{types_in, type_among}
 use Rattle.xf_verify.specs.Judged.{Answers, Names, Sees, holder_seen, first_behind, stands, blocks_stand, all_stand}
 use Rattle.xf_verify.proofs.Defining.{nothing_seen}
 use Rattle.xf_verify.proofs.Naming.{Named, none_named}

@@ -1,15 +1,15 @@
-use Rattle.std.proofs.Common.{rules, ◌≡◌, ◌+◌, ◌≤◌, ◌<◌, get_or, List, [], ◌∷◌, Bool, Err, Some, None, length, drop, take, sym, ap, subst, ◌∙◌, arith, false}
+use Rattle.std.proofs.Common.{◌≡◌, ◌+◌, ◌≤◌, ◌<◌, get_or, List, [], ◌∷◌, Err, Some, None, length, drop, sym, ap, subst, ◌∙◌, arith}
 use Rattle.std.specs.Prelude.{map}
 use Rattle.std.specs.FinSet as set
 use Rattle.std.proofs.lemmas.List.{at_drop_all, take_all}
 use Rattle.std.proofs.lemmas.Result.{err_from_is_err_and}
-use Rattle.xf_ir.specs.Tree.{Ops, Tree, Body}
-use Rattle.xf_ir.specs.Placed.{Placed, holder_of}
+use Rattle.xf_ir.specs.Tree.{Tree, Body}
+use Rattle.xf_ir.specs.Placed.{holder_of}
 use Rattle.xf_ir.specs.View.{ops_of, regions_of, tree_size, body_size, ops_size, regions_size}
 use Rattle.xf_verify.specs.declared.stand.Holder.{Holder}
 use Rattle.xf_verify.specs.declared.scope.Definition.TheVariants.{Results, Arguments}
 use Rattle.xf_verify.specs.Visible.{Definitions, definitions_in, types_in, type_among, with_definition, without}
-use Rattle.xf_verify.specs.Judged.{Answers, Judged, holder_seen, first_behind, names_behind, stands, tree_stands, ops_stand, regions_stand, IsNamed}
+use Rattle.xf_verify.specs.Judged.{Answers, Judged, holder_seen, first_behind, names_behind, stands, tree_stands, ops_stand, regions_stand}
 use Rattle.xf_ir.proofs.EraseLemmas.{size_at, body_size_at}
 use Rattle.xf_verify.proofs.Defining.{entered_left}
 use Rattle.xf_verify.proofs.Naming.{Named, own_inserted, named_kept, new_undefined, kept_behind, entered_named, without_named, left_named}

@@ -1,4 +1,4 @@
-use Rattle.std.proofs.Common.{◌≡◌, Some, None, true, sym, ap, ◌∙◌}
+use Rattle.std.proofs.Common.{◌≡◌, Some, None, sym, ap, ◌∙◌}
 use Rattle.xf_verify.specs.Chains.{numbers_in, ends_at}
 use Rattle.xf_verify.proofs.calls.Calls.callee_ends.Goals as goal
 

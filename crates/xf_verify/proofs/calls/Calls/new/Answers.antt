@@ -1,9 +1,7 @@
-use Rattle.std.proofs.Common.{◌≡◌, ℕ, List, Bool, Option, sym, ap, ◌∙◌}
+use Rattle.std.proofs.Common.{◌≡◌, List, Bool, sym, ap, ◌∙◌}
 use Rattle.std.specs.Prelude.{map}
-use Rattle.xf_ir.specs.Tree.{Tree, Ops}
-use Rattle.xf_ir.specs.Calls.{Signature, signature, function_of, chains_end}
-use Rattle.xf_ir.specs.Placed.{functions_of}
-use Rattle.xf_ir.specs.View.{ops_of}
+use Rattle.xf_ir.specs.Tree.{Ops}
+use Rattle.xf_ir.specs.Calls.{signature, function_of, chains_end}
 use Rattle.xf_verify.specs.Chains.{Numbers, numbers_in, number_from, pick, ends_there, ends_after, tree_calls}
 use Rattle.xf_verify.proofs.ChainLemmas.{picked, chains_are}
 use Rattle.xf_verify.proofs.calls.Calls.new.Goals as goal
