@@ -1,10 +1,10 @@
 //! Attributes.
-ghost use Rattle.std.specs.Prelude.{◌≡◌, ◌&&◌, None};
+ghost use Rattle.std.specs.Prelude.{◌≡◌, None};
 ghost use Rattle.std.specs.Option.{option_copied};
 ghost use Rattle.xf_ir.specs.Attributes.{bytes_before};
 ghost use Rattle.xf_ir.specs.Lists.{every};
-ghost use Rattle.xf_ir.specs.RuleAttributes.{fits_bits, value_fits, attributes_fit, all_equal, conversion_fits, is_index, is_narrower, has_one_index, is_word_or_none, kind_fits};
-ghost use Rattle.xf_ir.specs.Words.{is_letter, is_digit, is_word_byte, is_word};
+ghost use Rattle.xf_ir.specs.RuleAttributes.{fits_bits, value_fits, attributes_fit, conversion_fits, is_index, is_narrower, has_one_index, is_word_or_none, kind_fits};
+ghost use Rattle.xf_ir.specs.Words.{is_letter, is_word_byte, is_word};
 ghost use Rattle.xf_rules.specs.Attributes.{attribute_fits, follows, names_ascend};
 
 use crate::dense::dense_fits;

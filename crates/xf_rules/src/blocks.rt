@@ -1,5 +1,5 @@
 //! Regions, the arguments of their blocks, and the ends of blocks.
-ghost use Rattle.std.specs.Prelude.{◌≡◌, ◌&&◌, ◌||◌, not, ◌∷◌, [], map};
+ghost use Rattle.std.specs.Prelude.{◌≡◌, ◌&&◌, ◌||◌, not, ◌∷◌, []};
 ghost use Rattle.xf_ir.specs.Kinds.{ends, ends_for, is_endless, is_generic, is_arith, is_return, is_yield, is_linalg_yield};
 ghost use Rattle.xf_ir.specs.RuleBlocks.{block_args, blocks_fit, block_ends, blocks_end, are_blocks, is_body};
 ghost use Rattle.xf_ir.specs.Types.{same_types};

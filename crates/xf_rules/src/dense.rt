@@ -1,5 +1,5 @@
 //! The numbers of dense constants.
-ghost use Rattle.std.specs.Prelude.{◌≡◌, ◌*◌, ◌&&◌, ◌-◌, ◌^◌, ◌==◌, not, min};
+ghost use Rattle.std.specs.Prelude.{◌≡◌, ◌*◌, ◌-◌, ◌^◌, ◌==◌, not, min};
 ghost use Rattle.xf_ir.specs.Lists.{every};
 ghost use Rattle.xf_ir.specs.RuleAttributes.{fits_bits, element_count, all_equal, numbers_of, dense_fits};
 ghost use Rattle.xf_ir.specs.Types.{is_dynamic};

@@ -1,5 +1,5 @@
 //! The extents of the dimensions of structured operations.
-ghost use Rattle.std.specs.Prelude.{◌≡◌, ◌++◌, ◌∷◌, [], IfOk, OnOk};
+ghost use Rattle.std.specs.Prelude.{◌≡◌, ◌++◌, IfOk, OnOk};
 ghost use Rattle.std.specs.BTreeMap.{get};
 ghost use Rattle.std.specs.Ordering.{nat_cmp};
 ghost use Rattle.xf_ir.specs.RuleLinalg.{maps_of, named_maps, by_dims, extents, dims_or_none, extents_agree, rank_or_none};

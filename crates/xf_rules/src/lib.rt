@@ -26,3 +26,6 @@ pub use ranges::types_in_range;
 pub use reduction::reduces;
 pub use rows::{callee_agrees, types_fit};
 pub use slices::slices_fit;
+
+#[cfg(test)]
+mod tests;

@@ -1,5 +1,5 @@
 //! Numbers and types of the operands and results of structured operations.
-ghost use Rattle.std.specs.Prelude.{◌≡◌, ◌∷◌, [], length};
+ghost use Rattle.std.specs.Prelude.{◌≡◌};
 ghost use Rattle.xf_ir.specs.Lists.{every};
 ghost use Rattle.xf_ir.specs.RuleTypes.{out_row, operand_count, has_element, fill_fits, named_row};
 ghost use Rattle.xf_ir.specs.Types.{is_scalar, is_tensor_with, last_type};

@@ -1,5 +1,5 @@
 //! The ranges of types: ranks, and fixed dimensions.
-ghost use Rattle.std.specs.Prelude.{◌≡◌, ◌&&◌, length};
+ghost use Rattle.std.specs.Prelude.{◌≡◌, ◌&&◌};
 ghost use Rattle.xf_ir.specs.Kinds.{returned_types};
 ghost use Rattle.xf_ir.specs.Lists.{every};
 ghost use Rattle.xf_ir.specs.RuleAttributes.{dim_fits, type_fits};

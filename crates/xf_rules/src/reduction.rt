@@ -1,9 +1,9 @@
 //! Reductions: what the body of a structured operation does with the out.
-ghost use Rattle.std.specs.Prelude.{◌≡◌, ◌+◌, ◌-◌, ◌^◌, ◌==◌, ◌&&◌, ◌||◌, min, not, false, IfOk, OnOk};
+ghost use Rattle.std.specs.Prelude.{◌≡◌, ◌+◌, ◌-◌, ◌^◌, ◌==◌, min, false, IfOk, OnOk};
 ghost use Rattle.std.specs.Option.{option_copied};
 ghost use Rattle.std.specs.FinSet as set;
 ghost use Rattle.xf_ir.specs.Lists.{some};
-ghost use Rattle.xf_ir.specs.RuleLinalg.{is_combiner, only_value, yielded, definer, joins_out, combines, is_reduction, has_reduction, reduces};
+ghost use Rattle.xf_ir.specs.RuleLinalg.{is_combiner, only_value, yielded, definer, combines, is_reduction, has_reduction, reduces};
 ghost use Rattle.xf_type.specs.declared.payload_type.Width.{Width};
 ghost use Rattle.xf_ir.specs.Uses.{same_value, use_count, tree_operands, ops_operands};
 ghost use Rattle.xf_ir.specs.Placed.{block_of};

@@ -1,8 +1,8 @@
 //! Numbers and types of operands and results.
-ghost use Rattle.std.specs.Prelude.{◌≡◌, ◌&&◌, ◌∷◌, [], length};
-ghost use Rattle.xf_ir.specs.Calls.{agrees, callee_agrees};
+ghost use Rattle.std.specs.Prelude.{◌≡◌, ◌∷◌, []};
+ghost use Rattle.xf_ir.specs.Calls.{callee_agrees};
 ghost use Rattle.xf_ir.specs.RuleTypes.{takes_gives, call_row, row_of};
-ghost use Rattle.xf_ir.specs.Types.{same_types, have_types};
+ghost use Rattle.xf_ir.specs.Types.{have_types};
 ghost use Rattle.xf_type.specs.declared.payload_type.PayloadType.TheVariants.{Scalar, Tensor};
 ghost use Rattle.xf_rules.specs.Given.{callee_seen, gives_seen};
 ghost use Rattle.xf_rules.specs.OperandTypes.{operand_types, scalars};

@@ -1,8 +1,7 @@
 //! Slices of tensors.
-ghost use Rattle.std.specs.Prelude.{◌≡◌, ◌&&◌};
-ghost use Rattle.xf_ir.specs.Lists.{every, behind_first};
+ghost use Rattle.std.specs.Prelude.{◌≡◌};
+ghost use Rattle.xf_ir.specs.Lists.{every};
 ghost use Rattle.xf_ir.specs.RuleSlices.{is_at_least_zero, size_fits, sizes_fit, slice_fits, slice_between, slices};
-ghost use Rattle.xf_ir.specs.Types.{first_type};
 ghost use Rattle.xf_rules.specs.OperandTypes.{operand_type, operand_types};
 
 use crate::types::{behind_first, first_type, same_width};

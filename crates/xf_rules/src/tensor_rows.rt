@@ -1,7 +1,7 @@
 //! Numbers and types of the operands and results of tensor operations.
-ghost use Rattle.std.specs.Prelude.{◌≡◌, ◌+◌, ◌==◌, ◌&&◌, ◌∷◌, [], Some, true, length};
+ghost use Rattle.std.specs.Prelude.{◌≡◌, ◌+◌, ◌&&◌, ◌∷◌, [], Some, true};
 ghost use Rattle.xf_ir.specs.Lists.{every, is_empty, behind_first};
-ghost use Rattle.xf_ir.specs.RuleTypes.{empty_row, dim_row, extract_row, insert_row, is_open, open_count, slice_indices, is_one_tensor, extract_slice_row, insert_slice_row, dims_cast, cast_row};
+ghost use Rattle.xf_ir.specs.RuleTypes.{empty_row, dim_row, extract_row, insert_row, open_count, slice_indices, is_one_tensor, extract_slice_row, insert_slice_row, dims_cast, cast_row};
 ghost use Rattle.xf_ir.specs.Types.{have_types, are_indices, dynamic_count, is_tensor_with, same_items, same_width};
 ghost use Rattle.xf_type.specs.declared.payload_type.PayloadType.TheVariants.{Scalar, Tensor};
 ghost use Rattle.xf_rules.specs.OperandTypes.{operand_type, operand_types, is_index_type};
