@@ -1,1 +1,4 @@
-pub mod Breaks
+pub mod Visible
+pub mod Symbols
+pub mod Chains
+pub mod Judged

@@ -1,0 +1,27 @@
+-- What a caller tells of other operations: the signature of a callee, and what a block's terminator gives.
+use Rattle.std.specs.Prelude.{ℕ, List, [], ◌∷◌, Option, Some, None}
+use Rattle.xf_type.specs.declared.payload_type.PayloadType.{PayloadType}
+use Rattle.xf_type.specs.declared.payload_type.PayloadType.TheVariants.{Scalar}
+use Rattle.xf_ir.specs.declared.kind.Kind.{Kind}
+use Rattle.xf_ir.specs.declared.kind.Kind.TheVariants as kind
+use Rattle.xf_ir.specs.Calls as calls
+use Rattle.xf_ir.specs.Calls.{Signatures}
+use Rattle.xf_rules.specs.declared.given.Signature.{Signature}
+use Rattle.xf_rules.specs.declared.given.Gives.{Gives}
+use Rattle.xf_rules.specs.declared.given.Gives.TheVariants.{Types, Element, Nothing}
+
+-- the signature of a callee, none where no function has the symbol
+abbrev pub callee_seen : Option Signature → Option calls.Signature
+callee_seen None = None
+callee_seen (Some s) = Some (record { takes = s.takes.now; gives = s.gives.now })
+
+-- the types of the values that the terminator of a block gives
+abbrev pub gives_seen : Gives → List PayloadType
+gives_seen (Types ts) = ts.now
+gives_seen (Element w) = Scalar w ∷ []
+gives_seen Nothing = []
+
+-- the signature of what an operation calls, none where it is no call
+abbrev pub callee_of : Signatures → Kind → Option calls.Signature
+callee_of sigs (kind.Call callee) = sigs callee
+callee_of sigs _ = None

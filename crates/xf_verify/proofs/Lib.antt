@@ -1,0 +1,9 @@
+pub mod Truths
+pub mod KindLemmas
+pub mod Defining
+pub mod Naming
+pub mod Walking
+pub mod Standing
+pub mod SymbolLemmas
+pub mod ChainLemmas
+pub mod Stepping
