@@ -1,4 +1,6 @@
 //! The printed form of modules.
 #![tactic(auto)]
 
+mod attributes;
+mod number;
 mod words;
