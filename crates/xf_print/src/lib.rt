@@ -2,5 +2,7 @@
 #![tactic(auto)]
 
 mod attributes;
+mod dense;
+mod index;
 mod number;
 mod words;
