@@ -5,4 +5,5 @@ mod attributes;
 mod dense;
 mod index;
 mod number;
+mod values;
 mod words;
