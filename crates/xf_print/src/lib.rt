@@ -1,9 +1,14 @@
 //! The printed form of modules.
 #![tactic(auto)]
 
+mod arith_rows;
 mod attributes;
 mod dense;
+mod func_rows;
 mod index;
+mod linalg_rows;
 mod number;
+mod scf_rows;
+mod tensor_rows;
 mod values;
 mod words;
