@@ -6,7 +6,6 @@ use Rattle.std.proofs.lemmas.List.{take_min, drop_min}
 use Rattle.xf_print.specs.Dense.{rows}
 use Rattle.xf_print.specs.Words.{listed, listed_more}
 
-
 rows_suc : (count at size : ℕ) (ns : List ℕ) → count ≡ suc at → rows count size ns ≡ take size ns ∷ rows at size (drop size ns)
 rows_suc count at size ns e = rw e refl
 

@@ -95,12 +95,16 @@ abbrev pub behind_places : List SliceIndex → List ValueName → List ValueName
 behind_places [] os = os
 behind_places (i ∷ is) os = behind_places is (behind_place os i)
 
+-- the stride of a dimension
+abbrev pub stride_text : SliceIndex → List ℕ
+stride_text i = codes "1"
+
 -- `[0, %1] [4, %2] [1, 1]`
 abbrev pub window_text : Names → List SliceIndex → List SliceIndex → List ValueName → List ℕ
 window_text names offsets sizes os =
     codes "[" ++ (listed (place_texts names offsets os)
     ++ (codes "] [" ++ (listed (place_texts names sizes (behind_places offsets os))
-    ++ (codes "] [" ++ (listed (map (λ _. codes "1") offsets) ++ codes "]")))))
+    ++ (codes "] [" ++ (listed (map stride_text offsets) ++ codes "]")))))
 
 -- ---- linalg
 

@@ -11,8 +11,8 @@ use crate::attributes::write_attrs;
 use crate::dense::write_body;
 use crate::index::Index;
 use crate::number::write_literal;
-use crate::values::write_values;
-use crate::words::{write_predicate, write_tensor, write_width};
+use crate::values::{write_op_attrs, write_operands};
+use crate::words::{write_predicate, write_shape, write_width};
 use xf_ir::{Attr, Op};
 use xf_type::{CmpKind, NoMemory, Shape, Width};
 
@@ -29,7 +29,8 @@ pub fn write_constant(
     line.extend_from_slice(b"arith.constant")?;
     write_attrs(attrs, line)?;
     line.push(b' ')?;
-    write_literal(width, bits, line)
+    write_literal(width, bits, line)?;
+    Ok(())
 }
 
 /// Appends a constant tensor.
@@ -45,9 +46,26 @@ pub fn write_dense(
     line.extend_from_slice(b"arith.constant")?;
     write_attrs(attrs, line)?;
     line.extend_from_slice(b" dense<")?;
-    write_body(shape.elem, shape.dims.as_slice(), numbers, line)?;
+    write_body(shape, numbers, line)?;
     line.extend_from_slice(b"> : ")?;
-    write_tensor(shape.dims.as_slice(), shape.elem, line)
+    write_shape(shape, line)?;
+    Ok(())
+}
+
+/// Appends operands of one width, attributes and that width.
+fn write_of_width(
+    width: Width,
+    names: &Index<'_>,
+    op: &Op,
+    line: &mut Vec<u8>,
+) -> Result<(), NoMemory>
+    ensures { OnOk result (line.new.items ≡ line.old.items ++ (values_text (names_of names.now)
+        op.now.operands ++ (attrs_text op.now.attrs ++ (codes " : " ++ width_text width)))) }
+{
+    write_operands(names, op, line)?;
+    write_op_attrs(op, line)?;
+    line.extend_from_slice(b" : ")?;
+    write_width(width, line)
 }
 
 /// Appends the operation of a word on operands of one width: its operands, attributes and that width.
@@ -64,10 +82,7 @@ pub fn write_simple(
 {
     line.extend_from_slice(word)?;
     line.push(b' ')?;
-    write_values(names, op.operands.as_slice(), line)?;
-    write_attrs(op.attrs.as_slice(), line)?;
-    line.extend_from_slice(b" : ")?;
-    write_width(width, line)
+    write_of_width(width, names, op, line)
 }
 
 /// Appends a comparison.
@@ -84,10 +99,8 @@ pub fn write_compare(
     line.extend_from_slice(b"arith.cmpi ")?;
     write_predicate(which, line)?;
     line.extend_from_slice(b", ")?;
-    write_values(names, op.operands.as_slice(), line)?;
-    write_attrs(op.attrs.as_slice(), line)?;
-    line.extend_from_slice(b" : ")?;
-    write_width(width, line)
+    write_of_width(width, names, op, line)?;
+    Ok(())
 }
 
 /// Appends a conversion from one width to another.

@@ -6,7 +6,7 @@ ghost use Rattle.xf_print.specs.Numbers.{number_text};
 ghost use Rattle.xf_print.specs.Words.{listed};
 
 use crate::number::write_number_of;
-use xf_type::{Dim, NoMemory, Width};
+use xf_type::{Dim, NoMemory, Shape, Width};
 
 fn write_numbers(width: Width, numbers: &[u128], line: &mut Vec<u8>) -> Result<(), NoMemory>
     ensures { OnOk result (line.new.items
@@ -116,18 +116,12 @@ fn write_nested(
 }
 
 /// Appends the body of a dense constant: nothing for no numbers, a number for one, and else nested lists.
-pub fn write_body(
-    width: Width,
-    dims: &[Dim],
-    numbers: &[u128],
-    line: &mut Vec<u8>,
-) -> Result<(), NoMemory>
-    ensures { OnOk result (line.new.items
-        ≡ line.old.items ++ body_text (record { dims = dims.now; elem = width }) numbers.now) }
+pub fn write_body(shape: &Shape, numbers: &[u128], line: &mut Vec<u8>) -> Result<(), NoMemory>
+    ensures { OnOk result (line.new.items ≡ line.old.items ++ body_text shape.now numbers.now) }
 {
     match numbers {
         [] => Ok(()),
-        [number] => write_number_of(width, *number, line),
-        _ => write_nested(width, dims, numbers, line),
+        [number] => write_number_of(shape.elem, *number, line),
+        _ => write_nested(shape.elem, shape.dims.as_slice(), numbers, line),
     }
 }

@@ -6,9 +6,12 @@ ghost use Rattle.xf_print.specs.Attributes.{attrs_text};
 ghost use Rattle.xf_print.specs.Names.{no_names};
 ghost use Rattle.xf_print.specs.Rows.{symbol_text, attributes_text, private_text, returned_text, given_text, row_text};
 
-use crate::attributes::{write_attrs, write_dictionary};
+use crate::attributes::write_dictionary;
 use crate::index::Index;
-use crate::values::{write_given, write_params, write_value_types, write_values};
+use crate::values::{
+    write_arrow_results, write_given, write_op_attrs, write_operand_types, write_operands,
+    write_params,
+};
 use crate::words::write_arrow_types;
 use xf_ir::{Attr, Op};
 use xf_type::{ByteList, NoMemory, PayloadType};
@@ -61,10 +64,12 @@ fn write_returned(types: &[PayloadType], line: &mut Vec<u8>) -> Result<(), NoMem
         return Ok(());
     }
     line.extend_from_slice(b" -> ")?;
-    write_arrow_types(types, line)
+    write_arrow_types(types, line)?;
+    Ok(())
 }
 
 /// What a function is, beside its body.
+#[derive(Clone, Copy)]
 pub struct Signature<'a> {
     pub symbol: &'a [u8],
     pub private: bool,
@@ -74,11 +79,7 @@ pub struct Signature<'a> {
 }
 
 /// Appends the head of a function.
-pub fn write_func(
-    of: &Signature<'_>,
-    attrs: &[Attr],
-    line: &mut Vec<u8>,
-) -> Result<(), NoMemory>
+pub fn write_func(of: &Signature<'_>, attrs: &[Attr], line: &mut Vec<u8>) -> Result<(), NoMemory>
     ensures { OnOk result (line.new.items ≡ line.old.items ++ row_text no_names of.now.first
         of.now.args.now (kind.Func of.now.symbol.now of.now.private of.now.results.now)
         attrs.now [] []) }
@@ -107,8 +108,9 @@ pub fn write_giving(
         ++ (attrs_text op.now.attrs ++ given_text (names_of names.now) op.now.operands))) }
 {
     line.extend_from_slice(word)?;
-    write_attrs(op.attrs.as_slice(), line)?;
-    write_given(names, op.operands.as_slice(), line)
+    write_op_attrs(op, line)?;
+    write_given(names, op.operands.as_slice(), line)?;
+    Ok(())
 }
 
 /// Appends a call.
@@ -124,11 +126,12 @@ pub fn write_call(
     line.extend_from_slice(b"func.call @")?;
     line.extend_from_slice(callee)?;
     line.push(b'(')?;
-    write_values(names, op.operands.as_slice(), line)?;
+    write_operands(names, op, line)?;
     line.push(b')')?;
-    write_attrs(op.attrs.as_slice(), line)?;
+    write_op_attrs(op, line)?;
     line.extend_from_slice(b" : (")?;
-    write_value_types(names, op.operands.as_slice(), line)?;
+    write_operand_types(names, op, line)?;
     line.extend_from_slice(b") -> ")?;
-    write_arrow_types(op.results.as_slice(), line)
+    write_arrow_results(op, line)?;
+    Ok(())
 }

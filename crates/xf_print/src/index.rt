@@ -58,11 +58,7 @@ pub fn first_args(regions: &[Block]) -> &[PayloadType]
     }
 }
 
-fn write_result_part(
-    results: &[PayloadType],
-    num: u32,
-    line: &mut Vec<u8>,
-) -> Result<(), NoMemory>
+fn write_result_part(results: &[PayloadType], num: u32, line: &mut Vec<u8>) -> Result<(), NoMemory>
     ensures { OnOk result (line.new.items ≡ line.old.items ++ result_part results.now num) }
 {
     match results {
@@ -129,7 +125,11 @@ impl<'a> Index<'a> {
         ensures { OnOk result (names_of self.new ≡ with_ops (names_of self.old) (ops_of ops.now)) }
     {
         for op in ops {
-            self.add(op.name, op.results.as_slice(), first_args(op.regions.as_slice()))?;
+            self.add(
+                op.name,
+                op.results.as_slice(),
+                first_args(op.regions.as_slice()),
+            )?;
             self.add_regions(op.regions.as_slice())?;
         }
         Ok(())

@@ -8,6 +8,7 @@ mod func_rows;
 mod index;
 mod linalg_rows;
 mod number;
+mod row;
 mod scf_rows;
 mod tensor_rows;
 mod values;

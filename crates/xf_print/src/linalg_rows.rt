@@ -6,18 +6,14 @@ ghost use Rattle.xf_print.specs.Index.{names_of};
 ghost use Rattle.xf_print.specs.Rows.{ins_text, outs_text, structured_text, dimension_texts, map_text, generic_text, row_text};
 ghost use Rattle.xf_print.specs.Words.{listed, arrow_types, dimension_text, iterator_text};
 
-use crate::attributes::{write_attrs, write_dictionary};
+use crate::attributes::write_dictionary;
 use crate::index::Index;
-use crate::values::{write_value_types, write_values};
-use crate::words::{write_arrow_types, write_dimension, write_iterator};
+use crate::values::{write_arrow_results, write_op_attrs, write_value_types, write_values};
+use crate::words::{write_dimension, write_iterator};
 use xf_ir::{IteratorKind, Op, ValueName};
 use xf_type::{AffineMap, NoMemory};
 
-fn write_ins(
-    names: &Index<'_>,
-    values: &[ValueName],
-    line: &mut Vec<u8>,
-) -> Result<(), NoMemory>
+fn write_ins(names: &Index<'_>, values: &[ValueName], line: &mut Vec<u8>) -> Result<(), NoMemory>
     ensures { OnOk result (line.new.items
         ≡ line.old.items ++ ins_text (names_of names.now) values.now) }
 {
@@ -32,11 +28,7 @@ fn write_ins(
     Ok(())
 }
 
-fn write_outs(
-    names: &Index<'_>,
-    values: &[ValueName],
-    line: &mut Vec<u8>,
-) -> Result<(), NoMemory>
+fn write_outs(names: &Index<'_>, values: &[ValueName], line: &mut Vec<u8>) -> Result<(), NoMemory>
     ensures { OnOk result (line.new.items
         ≡ line.old.items ++ outs_text (names_of names.now) values.now) }
 {
@@ -49,17 +41,15 @@ fn write_outs(
 }
 
 /// Appends the operands: the last one is the out.
-fn write_structured(
-    names: &Index<'_>,
-    operands: &[ValueName],
-    line: &mut Vec<u8>,
-) -> Result<(), NoMemory>
+fn write_structured(names: &Index<'_>, op: &Op, line: &mut Vec<u8>) -> Result<(), NoMemory>
     ensures { OnOk result (line.new.items
-        ≡ line.old.items ++ structured_text (names_of names.now) operands.now) }
+        ≡ line.old.items ++ structured_text (names_of names.now) op.now.operands) }
 {
+    let operands = op.operands.as_slice();
     let (ins, outs) = operands.split_at(operands.len().saturating_sub(1));
     write_ins(names, ins, line)?;
-    write_outs(names, outs, line)
+    write_outs(names, outs, line)?;
+    Ok(())
 }
 
 /// Appends an operation with a name.
@@ -74,10 +64,11 @@ pub fn write_named(
         ++ (codes " -> " ++ arrow_types op.now.results))))) }
 {
     line.extend_from_slice(word)?;
-    write_attrs(op.attrs.as_slice(), line)?;
-    write_structured(names, op.operands.as_slice(), line)?;
+    write_op_attrs(op, line)?;
+    write_structured(names, op, line)?;
     line.extend_from_slice(b" -> ")?;
-    write_arrow_types(op.results.as_slice(), line)
+    write_arrow_results(op, line)?;
+    Ok(())
 }
 
 /// Appends the dimensions of a map that has so many.
@@ -181,7 +172,7 @@ pub fn write_generic(
         (kind.Generic maps.now iterators.now) op.now.attrs op.now.operands op.now.results) }
 {
     write_traits(maps, iterators, line)?;
-    write_structured(names, op.operands.as_slice(), line)?;
+    write_structured(names, op, line)?;
     write_dictionary(b" attrs = ", op.attrs.as_slice(), line)?;
     line.extend_from_slice(b" {")?;
     Ok(())

@@ -2,15 +2,15 @@
 ghost use Rattle.std.specs.Prelude.{◌≡◌, ◌++◌, OnOk, IfOk, [], map, drop, codes};
 ghost use Rattle.xf_ir.specs.declared.kind.Kind.TheVariants as kind;
 ghost use Rattle.xf_print.specs.Index.{names_of};
-ghost use Rattle.xf_print.specs.Rows.{place_text, behind_place, place_texts, behind_places, window_text, row_text};
+ghost use Rattle.xf_print.specs.Rows.{place_text, behind_place, place_texts, behind_places, stride_text, window_text, row_text};
 ghost use Rattle.xf_print.specs.Words.{listed};
 
-use crate::attributes::write_attrs;
 use crate::index::Index;
 use crate::values::{
-    operands_behind, write_operand, write_operand_type, write_values,
+    operands_behind, write_behind, write_nth, write_nth_type, write_op_attrs, write_operand,
+    write_operands, write_result_types,
 };
-use crate::words::{write_integer, write_types};
+use crate::words::write_integer;
 use xf_ir::{Op, SliceIndex, ValueName};
 use xf_type::NoMemory;
 
@@ -20,11 +20,12 @@ pub fn write_empty(names: &Index<'_>, op: &Op, line: &mut Vec<u8>) -> Result<(),
         kind.Empty op.now.attrs op.now.operands op.now.results) }
 {
     line.extend_from_slice(b"tensor.empty(")?;
-    write_values(names, op.operands.as_slice(), line)?;
+    write_operands(names, op, line)?;
     line.push(b')')?;
-    write_attrs(op.attrs.as_slice(), line)?;
+    write_op_attrs(op, line)?;
     line.extend_from_slice(b" : ")?;
-    write_types(op.results.as_slice(), line)
+    write_result_types(op, line)?;
+    Ok(())
 }
 
 /// Appends the extent of a dimension.
@@ -33,11 +34,12 @@ pub fn write_dim(names: &Index<'_>, op: &Op, line: &mut Vec<u8>) -> Result<(), N
         kind.Dim op.now.attrs op.now.operands op.now.results) }
 {
     line.extend_from_slice(b"tensor.dim")?;
-    write_attrs(op.attrs.as_slice(), line)?;
+    write_op_attrs(op, line)?;
     line.push(b' ')?;
-    write_values(names, op.operands.as_slice(), line)?;
+    write_operands(names, op, line)?;
     line.extend_from_slice(b" : ")?;
-    write_operand_type(names, op.operands.as_slice(), 0, line)
+    write_nth_type(names, op, 0, line)?;
+    Ok(())
 }
 
 /// Appends the reading of an element.
@@ -45,15 +47,15 @@ pub fn write_extract(names: &Index<'_>, op: &Op, line: &mut Vec<u8>) -> Result<(
     ensures { OnOk result (line.new.items ≡ line.old.items ++ row_text (names_of names.now) 0 []
         kind.Extract op.now.attrs op.now.operands op.now.results) }
 {
-    let operands = op.operands.as_slice();
     line.extend_from_slice(b"tensor.extract ")?;
-    write_operand(names, operands, 0, line)?;
+    write_nth(names, op, 0, line)?;
     line.push(b'[')?;
-    write_values(names, operands_behind(operands, 1), line)?;
+    write_behind(names, op, 1, line)?;
     line.push(b']')?;
-    write_attrs(op.attrs.as_slice(), line)?;
+    write_op_attrs(op, line)?;
     line.extend_from_slice(b" : ")?;
-    write_operand_type(names, operands, 0, line)
+    write_nth_type(names, op, 0, line)?;
+    Ok(())
 }
 
 /// Appends the change of an element.
@@ -61,17 +63,17 @@ pub fn write_insert(names: &Index<'_>, op: &Op, line: &mut Vec<u8>) -> Result<()
     ensures { OnOk result (line.new.items ≡ line.old.items ++ row_text (names_of names.now) 0 []
         kind.Insert op.now.attrs op.now.operands op.now.results) }
 {
-    let operands = op.operands.as_slice();
     line.extend_from_slice(b"tensor.insert ")?;
-    write_operand(names, operands, 0, line)?;
+    write_nth(names, op, 0, line)?;
     line.extend_from_slice(b" into ")?;
-    write_operand(names, operands, 1, line)?;
+    write_nth(names, op, 1, line)?;
     line.push(b'[')?;
-    write_values(names, operands_behind(operands, 2), line)?;
+    write_behind(names, op, 2, line)?;
     line.push(b']')?;
-    write_attrs(op.attrs.as_slice(), line)?;
+    write_op_attrs(op, line)?;
     line.extend_from_slice(b" : ")?;
-    write_operand_type(names, operands, 1, line)
+    write_nth_type(names, op, 1, line)?;
+    Ok(())
 }
 
 /// Appends an offset or a size, where the first operand is the next unknown one, and answers the operands that are left.
@@ -119,32 +121,43 @@ fn write_places<'a>(
     Ok(left)
 }
 
+fn write_stride(line: &mut Vec<u8>) -> Result<(), NoMemory>
+    ensures { OnOk result (line.new.items ≡ line.old.items ++ codes "1") }
+{
+    line.push(b'1')?;
+    Ok(())
+}
+
 /// Appends a stride of 1 for each dimension.
 fn write_strides(places: &[SliceIndex], line: &mut Vec<u8>) -> Result<(), NoMemory>
     ensures { OnOk result (line.new.items
-        ≡ line.old.items ++ listed (map (λ _. codes "1") places.now)) }
+        ≡ line.old.items ++ listed (map stride_text places.now)) }
 {
     let [_, rest @ ..] = places else {
         return Ok(());
     };
-    line.push(b'1')?;
+    write_stride(line)?;
     for _ in rest {
-        line.extend_from_slice(b", 1")?;
+        line.extend_from_slice(b", ")?;
+        write_stride(line)?;
     }
     Ok(())
 }
 
+/// Appends offsets, sizes and strides, where the unknown ones are the operands behind the first ones.
 fn write_window(
     names: &Index<'_>,
     offsets: &[SliceIndex],
     sizes: &[SliceIndex],
-    operands: &[ValueName],
+    op: &Op,
+    count: usize,
     line: &mut Vec<u8>,
 ) -> Result<(), NoMemory>
-    ensures { OnOk result (line.new.items ≡ line.old.items
-        ++ window_text (names_of names.now) offsets.now sizes.now operands.now) }
+    ensures { OnOk result (line.new.items ≡ line.old.items ++ window_text (names_of names.now)
+        offsets.now sizes.now (drop count op.now.operands)) }
 {
     line.push(b'[')?;
+    let operands = operands_behind(op.operands.as_slice(), count);
     let left = write_places(names, offsets, operands, line)?;
     line.extend_from_slice(b"] [")?;
     write_places(names, sizes, left, line)?;
@@ -165,15 +178,15 @@ pub fn write_extract_slice(
     ensures { OnOk result (line.new.items ≡ line.old.items ++ row_text (names_of names.now) 0 []
         (kind.ExtractSlice offsets.now sizes.now) op.now.attrs op.now.operands op.now.results) }
 {
-    let operands = op.operands.as_slice();
     line.extend_from_slice(b"tensor.extract_slice ")?;
-    write_operand(names, operands, 0, line)?;
-    write_window(names, offsets, sizes, operands_behind(operands, 1), line)?;
-    write_attrs(op.attrs.as_slice(), line)?;
+    write_nth(names, op, 0, line)?;
+    write_window(names, offsets, sizes, op, 1, line)?;
+    write_op_attrs(op, line)?;
     line.extend_from_slice(b" : ")?;
-    write_operand_type(names, operands, 0, line)?;
+    write_nth_type(names, op, 0, line)?;
     line.extend_from_slice(b" to ")?;
-    write_types(op.results.as_slice(), line)
+    write_result_types(op, line)?;
+    Ok(())
 }
 
 /// Appends the change of a window.
@@ -187,17 +200,17 @@ pub fn write_insert_slice(
     ensures { OnOk result (line.new.items ≡ line.old.items ++ row_text (names_of names.now) 0 []
         (kind.InsertSlice offsets.now sizes.now) op.now.attrs op.now.operands op.now.results) }
 {
-    let operands = op.operands.as_slice();
     line.extend_from_slice(b"tensor.insert_slice ")?;
-    write_operand(names, operands, 0, line)?;
+    write_nth(names, op, 0, line)?;
     line.extend_from_slice(b" into ")?;
-    write_operand(names, operands, 1, line)?;
-    write_window(names, offsets, sizes, operands_behind(operands, 2), line)?;
-    write_attrs(op.attrs.as_slice(), line)?;
+    write_nth(names, op, 1, line)?;
+    write_window(names, offsets, sizes, op, 2, line)?;
+    write_op_attrs(op, line)?;
     line.extend_from_slice(b" : ")?;
-    write_operand_type(names, operands, 0, line)?;
+    write_nth_type(names, op, 0, line)?;
     line.extend_from_slice(b" into ")?;
-    write_operand_type(names, operands, 1, line)
+    write_nth_type(names, op, 1, line)?;
+    Ok(())
 }
 
 /// Appends a cast.
@@ -206,10 +219,11 @@ pub fn write_cast(names: &Index<'_>, op: &Op, line: &mut Vec<u8>) -> Result<(), 
         kind.Cast op.now.attrs op.now.operands op.now.results) }
 {
     line.extend_from_slice(b"tensor.cast ")?;
-    write_values(names, op.operands.as_slice(), line)?;
-    write_attrs(op.attrs.as_slice(), line)?;
+    write_operands(names, op, line)?;
+    write_op_attrs(op, line)?;
     line.extend_from_slice(b" : ")?;
-    write_operand_type(names, op.operands.as_slice(), 0, line)?;
+    write_nth_type(names, op, 0, line)?;
     line.extend_from_slice(b" to ")?;
-    write_types(op.results.as_slice(), line)
+    write_result_types(op, line)?;
+    Ok(())
 }

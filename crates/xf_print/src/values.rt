@@ -1,13 +1,15 @@
 //! Values and their types, appended to the line so far. They refuse for want of memory alone.
 ghost use Rattle.std.specs.Prelude.{◌≡◌, ◌+◌, ◌<◌, ◌^◌, ◌++◌, OnOk, map, drop, codes};
+ghost use Rattle.xf_print.specs.Attributes.{attrs_text};
 ghost use Rattle.xf_print.specs.Index.{names_of};
 ghost use Rattle.xf_print.specs.Names.{name_text, values_text, value_type, value_types, argument_text, param_texts, carried_texts, results_text};
 ghost use Rattle.xf_print.specs.Rows.{operand, operand_type, given_text};
-ghost use Rattle.xf_print.specs.Words.{listed, type_text};
+ghost use Rattle.xf_print.specs.Words.{listed, type_text, types_text, arrow_types};
 
+use crate::attributes::write_attrs;
 use crate::index::{Index, write_argument};
-use crate::words::{write_number, write_type};
-use xf_ir::ValueName;
+use crate::words::{write_arrow_types, write_number, write_type, write_types};
+use xf_ir::{Op, ValueName};
 use xf_type::{NoMemory, PayloadType};
 
 /// Appends the names of values, with a comma and a blank between each two.
@@ -118,11 +120,7 @@ fn write_param(number: u128, of: &PayloadType, line: &mut Vec<u8>) -> Result<(),
 }
 
 /// Appends arguments with their types, of which `first` is the first number.
-pub fn write_params(
-    first: u64,
-    types: &[PayloadType],
-    line: &mut Vec<u8>,
-) -> Result<(), NoMemory>
+pub fn write_params(first: u64, types: &[PayloadType], line: &mut Vec<u8>) -> Result<(), NoMemory>
     ensures { OnOk result (line.new.items
         ≡ line.old.items ++ listed (param_texts first types.now)) }
 {
@@ -195,4 +193,75 @@ pub fn write_results(
     }
     line.extend_from_slice(b" = ")?;
     Ok(())
+}
+
+/// Appends an operation's attributes behind a blank, or nothing where there are none.
+pub fn write_op_attrs(op: &Op, line: &mut Vec<u8>) -> Result<(), NoMemory>
+    ensures { OnOk result (line.new.items ≡ line.old.items ++ attrs_text op.now.attrs) }
+{
+    write_attrs(op.attrs.as_slice(), line)
+}
+
+/// Appends an operation's operands.
+pub fn write_operands(names: &Index<'_>, op: &Op, line: &mut Vec<u8>) -> Result<(), NoMemory>
+    ensures { OnOk result (line.new.items
+        ≡ line.old.items ++ values_text (names_of names.now) op.now.operands) }
+{
+    write_values(names, op.operands.as_slice(), line)
+}
+
+/// Appends an operation's operands behind the first ones.
+pub fn write_behind(
+    names: &Index<'_>,
+    op: &Op,
+    count: usize,
+    line: &mut Vec<u8>,
+) -> Result<(), NoMemory>
+    ensures { OnOk result (line.new.items
+        ≡ line.old.items ++ values_text (names_of names.now) (drop count op.now.operands)) }
+{
+    write_values(names, operands_behind(op.operands.as_slice(), count), line)
+}
+
+/// Appends the types of an operation's operands.
+pub fn write_operand_types(names: &Index<'_>, op: &Op, line: &mut Vec<u8>) -> Result<(), NoMemory>
+    ensures { OnOk result (line.new.items
+        ≡ line.old.items ++ value_types (names_of names.now) op.now.operands) }
+{
+    write_value_types(names, op.operands.as_slice(), line)
+}
+
+/// Appends an operation's operand with that number.
+pub fn write_nth(names: &Index<'_>, op: &Op, at: usize, line: &mut Vec<u8>) -> Result<(), NoMemory>
+    ensures { OnOk result (line.new.items
+        ≡ line.old.items ++ operand (names_of names.now) op.now.operands at) }
+{
+    write_operand(names, op.operands.as_slice(), at, line)
+}
+
+/// Appends the type of an operation's operand with that number.
+pub fn write_nth_type(
+    names: &Index<'_>,
+    op: &Op,
+    at: usize,
+    line: &mut Vec<u8>,
+) -> Result<(), NoMemory>
+    ensures { OnOk result (line.new.items
+        ≡ line.old.items ++ operand_type (names_of names.now) op.now.operands at) }
+{
+    write_operand_type(names, op.operands.as_slice(), at, line)
+}
+
+/// Appends the types of an operation's results.
+pub fn write_result_types(op: &Op, line: &mut Vec<u8>) -> Result<(), NoMemory>
+    ensures { OnOk result (line.new.items ≡ line.old.items ++ types_text op.now.results) }
+{
+    write_types(op.results.as_slice(), line)
+}
+
+/// Appends the types of an operation's results behind an arrow.
+pub fn write_arrow_results(op: &Op, line: &mut Vec<u8>) -> Result<(), NoMemory>
+    ensures { OnOk result (line.new.items ≡ line.old.items ++ arrow_types op.now.results) }
+{
+    write_arrow_types(op.results.as_slice(), line)
 }
