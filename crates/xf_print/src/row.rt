@@ -1,7 +1,7 @@
 //! The row of an operation, by its kind.
 ghost use Rattle.std.specs.Prelude.{◌≡◌, ◌++◌, OnOk, codes};
 ghost use Rattle.xf_print.specs.Index.{names_of};
-ghost use Rattle.xf_print.specs.Names.{first_args};
+ghost use Rattle.xf_print.specs.Names.{first_args, first_of, number_of, results_text};
 ghost use Rattle.xf_print.specs.Printed.{op_text};
 ghost use Rattle.xf_print.specs.Rows.{row_text};
 
@@ -71,11 +71,27 @@ fn write_row(names: &Index<'_>, first: u64, op: &Op, line: &mut Vec<u8>) -> Resu
     }
 }
 
+fn write_op_results(names: &Index<'_>, op: &Op, line: &mut Vec<u8>) -> Result<(), NoMemory>
+    ensures { OnOk result (line.new.items ≡ line.old.items ++ results_text
+        (number_of ((names_of names.now).entry op.now.name.0)) op.now.results) }
+{
+    write_results(names.number_of(op.name), op.results.as_slice(), line)
+}
+
+fn write_op_row(names: &Index<'_>, op: &Op, line: &mut Vec<u8>) -> Result<(), NoMemory>
+    ensures { OnOk result (line.new.items ≡ line.old.items ++ row_text (names_of names.now)
+        (first_of ((names_of names.now).entry op.now.name.0)) (first_args op.now.regions)
+        op.now.kind op.now.attrs op.now.operands op.now.results) }
+{
+    write_row(names, names.first_of(op.name), op, line)
+}
+
 /// Appends an operation with its results.
 pub fn write_op(names: &Index<'_>, op: &Op, line: &mut Vec<u8>) -> Result<(), NoMemory>
     ensures { OnOk result (line.new.items
         ≡ line.old.items ++ op_text (names_of names.now) op.now) }
 {
-    write_results(names.number_of(op.name), op.results.as_slice(), line)?;
-    write_row(names, names.first_of(op.name), op, line)
+    write_op_results(names, op, line)?;
+    write_op_row(names, op, line)?;
+    Ok(())
 }

@@ -1,5 +1,5 @@
-use Rattle.xf_print.proofs.Pieces.{piece}
+use Rattle.std.proofs.Common.{append_assoc}
 use Rattle.xf_print.proofs.linalg_rows.write_generic.Goals as goal
 
 pub returns : goal.returns
-returns c = piece _ _ _ _ _ c.in_ok-write_traits.ensures (piece _ _ _ _ _ c.in_ok-write_structured.ensures (piece _ _ _ _ _ c.in_ok-write_dictionary.ensures c.in_ok-extend_from_slice.ensures.items))
+returns c = rw (c.in_ok-extend_from_slice.ensures.items, c.in_ok-write_dictionary.ensures, c.in_ok-write_structured.ensures, c.in_ok-write_traits.ensures, append_assoc, append_assoc, append_assoc)

@@ -1,5 +1,5 @@
-use Rattle.xf_print.proofs.Pieces.{piece}
+use Rattle.std.proofs.Common.{append_assoc}
 use Rattle.xf_print.proofs.tensor_rows.write_cast.Goals as goal
 
 pub returns : goal.returns
-returns c = piece _ _ _ _ _ c.in_ok-extend_from_slice.ensures.items (piece _ _ _ _ _ c.in_ok-write_operands.ensures (piece _ _ _ _ _ c.in_ok-write_op_attrs.ensures (piece _ _ _ _ _ c.in_ok-extend_from_slice-2.ensures.items (piece _ _ _ _ _ c.in_ok-write_nth_type.ensures (piece _ _ _ _ _ c.in_ok-extend_from_slice-3.ensures.items c.in_ok-write_result_types.ensures)))))
+returns c = rw (c.in_ok-write_result_types.ensures, c.in_ok-extend_from_slice-3.ensures.items, c.in_ok-write_nth_type.ensures, c.in_ok-extend_from_slice-2.ensures.items, c.in_ok-write_op_attrs.ensures, c.in_ok-write_operands.ensures, c.in_ok-extend_from_slice.ensures.items, append_assoc, append_assoc, append_assoc, append_assoc, append_assoc, append_assoc)
