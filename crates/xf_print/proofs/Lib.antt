@@ -2,4 +2,4 @@ mod Examples
 pub mod RowLemmas
 pub mod ListLemmas
 pub mod DimensionLemmas
-pub mod Pieces
+pub mod MapLemmas

@@ -1,7 +1,7 @@
 //! The rows of linalg, appended to the line so far. They refuse for want of memory alone.
 ghost use Rattle.std.specs.Prelude.{◌≡◌, ◌++◌, OnOk, [], map, codes};
 ghost use Rattle.xf_ir.specs.declared.kind.Kind.TheVariants as kind;
-ghost use Rattle.xf_print.specs.Attributes.{attrs_text};
+ghost use Rattle.xf_print.specs.Attributes.{attrs_text, dictionary_behind};
 ghost use Rattle.xf_print.specs.Index.{names_of};
 ghost use Rattle.xf_print.specs.Rows.{ins_text, outs_text, structured_text, dimension_texts, map_text, generic_text, row_text};
 ghost use Rattle.xf_print.specs.Words.{listed, arrow_types, dimension_text, iterator_text};
@@ -103,13 +103,20 @@ fn write_selected(dims: &[u32], line: &mut Vec<u8>) -> Result<(), NoMemory>
     Ok(())
 }
 
+fn write_map_results(of: &AffineMap, line: &mut Vec<u8>) -> Result<(), NoMemory>
+    ensures { OnOk result (line.new.items
+        ≡ line.old.items ++ listed (map dimension_text of.now.results)) }
+{
+    write_selected(of.results.as_slice(), line)
+}
+
 fn write_map(of: &AffineMap, line: &mut Vec<u8>) -> Result<(), NoMemory>
     ensures { OnOk result (line.new.items ≡ line.old.items ++ map_text of.now) }
 {
     line.extend_from_slice(b"affine_map<(")?;
     write_dimensions(of.dims, line)?;
     line.extend_from_slice(b") -> (")?;
-    write_selected(of.results.as_slice(), line)?;
+    write_map_results(of, line)?;
     line.extend_from_slice(b")>")?;
     Ok(())
 }
@@ -160,6 +167,13 @@ fn write_traits(
     Ok(())
 }
 
+fn write_op_attributes(op: &Op, line: &mut Vec<u8>) -> Result<(), NoMemory>
+    ensures { OnOk result (line.new.items
+        ≡ line.old.items ++ dictionary_behind (codes " attrs = ") op.now.attrs) }
+{
+    write_dictionary(b" attrs = ", op.attrs.as_slice(), line)
+}
+
 /// Appends the head of an operation with a body.
 pub fn write_generic(
     maps: &[AffineMap],
@@ -173,7 +187,7 @@ pub fn write_generic(
 {
     write_traits(maps, iterators, line)?;
     write_structured(names, op, line)?;
-    write_dictionary(b" attrs = ", op.attrs.as_slice(), line)?;
+    write_op_attributes(op, line)?;
     line.extend_from_slice(b" {")?;
     Ok(())
 }

@@ -2,7 +2,7 @@
 ghost use Rattle.std.specs.Prelude.{◌≡◌, ◌+◌, ◌++◌, OnOk, [], drop, codes};
 ghost use Rattle.xf_ir.specs.declared.kind.Kind.TheVariants as kind;
 ghost use Rattle.xf_print.specs.Index.{names_of};
-ghost use Rattle.xf_print.specs.Names.{carried_texts};
+ghost use Rattle.xf_print.specs.Names.{argument_text, carried_texts};
 ghost use Rattle.xf_print.specs.Rows.{carried_text, bound_text, chosen_text, row_text};
 ghost use Rattle.xf_print.specs.Words.{listed, types_text};
 
@@ -73,6 +73,12 @@ fn write_bound(width: Width, line: &mut Vec<u8>) -> Result<(), NoMemory>
     }
 }
 
+fn write_induction(first: u64, line: &mut Vec<u8>) -> Result<(), NoMemory>
+    ensures { OnOk result (line.new.items ≡ line.old.items ++ argument_text first) }
+{
+    write_argument(u128::from(first), line)
+}
+
 /// Appends the head of a loop, of whose arguments `first` is the first number.
 pub fn write_for(
     width: Width,
@@ -85,7 +91,7 @@ pub fn write_for(
         [] (kind.For width) op.now.attrs op.now.operands op.now.results) }
 {
     line.extend_from_slice(b"scf.for ")?;
-    write_argument(u128::from(first), line)?;
+    write_induction(first, line)?;
     line.extend_from_slice(b" = ")?;
     write_nth(names, op, 0, line)?;
     line.extend_from_slice(b" to ")?;

@@ -121,8 +121,8 @@ fn write_places<'a>(
     Ok(left)
 }
 
-fn write_stride(line: &mut Vec<u8>) -> Result<(), NoMemory>
-    ensures { OnOk result (line.new.items ≡ line.old.items ++ codes "1") }
+fn write_stride(_place: SliceIndex, line: &mut Vec<u8>) -> Result<(), NoMemory>
+    ensures { OnOk result (line.new.items ≡ line.old.items ++ stride_text _place) }
 {
     line.push(b'1')?;
     Ok(())
@@ -133,13 +133,13 @@ fn write_strides(places: &[SliceIndex], line: &mut Vec<u8>) -> Result<(), NoMemo
     ensures { OnOk result (line.new.items
         ≡ line.old.items ++ listed (map stride_text places.now)) }
 {
-    let [_, rest @ ..] = places else {
+    let [first, rest @ ..] = places else {
         return Ok(());
     };
-    write_stride(line)?;
-    for _ in rest {
+    write_stride(*first, line)?;
+    for place in rest {
         line.extend_from_slice(b", ")?;
-        write_stride(line)?;
+        write_stride(*place, line)?;
     }
     Ok(())
 }
