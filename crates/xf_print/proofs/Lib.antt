@@ -3,3 +3,4 @@ pub mod RowLemmas
 pub mod ListLemmas
 pub mod DimensionLemmas
 pub mod MapLemmas
+pub mod StrideLemmas

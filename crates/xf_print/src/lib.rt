@@ -7,6 +7,7 @@ mod dense;
 mod func_rows;
 mod index;
 mod linalg_rows;
+mod line;
 mod number;
 mod row;
 mod scf_rows;
