@@ -4,3 +4,5 @@ pub mod ListLemmas
 pub mod DimensionLemmas
 pub mod MapLemmas
 pub mod StrideLemmas
+pub mod BlankLemmas
+pub mod Writes

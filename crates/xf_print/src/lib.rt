@@ -9,6 +9,7 @@ mod index;
 mod linalg_rows;
 mod line;
 mod number;
+mod printer;
 mod row;
 mod scf_rows;
 mod tensor_rows;

@@ -1,0 +1,105 @@
+-- What was written so far of a text, and what a call that fails leaves.
+use Rattle.std.proofs.Common.{◌≡◌, ℕ, ◌+◌, ◌-◌, ◌<◌, ◌≤◌, List, [], ◌∷◌, ◌++◌, length, take, drop, get_or, Option, Result, Ok, Err, refl, sym, ap, subst, ◌∙◌, arith, append_assoc, append-nil, inl, inr, absurd}
+use Rattle.std.specs.Prelude.{codes}
+use Rattle.std.proofs.lemmas.Grind.{flat_map-append}
+use Rattle.std.proofs.lemmas.List.{drop_more, take_all}
+use Rattle.xf_ir.specs.Tree.{Tree, Body, Ops}
+use Rattle.xf_ir.specs.View.{ops_of, regions_of}
+use Rattle.xf_print.specs.Names.{Names}
+use Rattle.xf_print.specs.Lines.{lines_text, tree_lines, else_lines, else_block_lines, rest_lines, function_lines}
+use Rattle.xf_print.specs.Printed.{head_lines, ops_lines, regions_lines, end_lines, functions_lines}
+use Rattle.xf_host.specs.Writes.{Gains, GainsFront, WritesText, FailsByCount}
+use Rattle.xf_host.proofs.WriteLemmas.{gains_nothing, gains-append, front-append, gains-front, front_nothing}
+use Rattle.xf_host.specs.Count.{HasRisen}
+use Rattle.xf_host.specs.declared.sink.SinkFail.{SinkFail}
+
+-- a part of the text was written, and the rest is still to be written
+pub record Going (old : Option (List ℕ)) (text rest : List ℕ) (now : Option (List ℕ)) : Type 0 where
+  pub done : List ℕ
+  pub is : text ≡ done ++ rest
+  pub gains : Gains old done now
+
+pub going_start : (old : Option (List ℕ)) (text : List ℕ) → Going old text text old
+going_start old text = record { done = []; is = refl; gains = gains_nothing old }
+
+-- one more part
+pub going_on : (old now new : Option (List ℕ)) (text part rest : List ℕ) → Going old text (part ++ rest) now → Gains now part new → Going old text rest new
+going_on old now new text part rest g h = record { done = g.done ++ part; is = g.is ∙ sym (append_assoc g.done part rest); gains = gains-append old now new g.done part g.gains h }
+
+-- the rest, said in another way
+pub going_same : (old now : Option (List ℕ)) (text rest rest' : List ℕ) → rest ≡ rest' → Going old text rest now → Going old text rest' now
+going_same old now text rest rest' e g = subst (λ x. Going old text x now) e g
+
+-- a part that failed
+pub going_fails : (old now new : Option (List ℕ)) (text part rest : List ℕ) → Going old text (part ++ rest) now → GainsFront now part new → GainsFront old text new
+going_fails old now new text part rest g f = subst (λ t. GainsFront old t new) (sym g.is) (gains-front old now new g.done (part ++ rest) g.gains (front-append now new part rest f))
+
+-- nothing is left
+pub going_ends : (old now : Option (List ℕ)) (text : List ℕ) → Going old text [] now → Gains old text now
+going_ends old now text g = subst (λ t. Gains old t now) (sym (g.is ∙ append-nil g.done)) g.gains
+
+-- ---- a text of two parts
+
+-- the first part failed
+pub first_fails : (old new : Option (List ℕ)) (text a b : List ℕ) → text ≡ a ++ b → GainsFront old a new → GainsFront old text new
+first_fails old new text a b e f = subst (λ t. GainsFront old t new) (sym e) (front-append old new a b f)
+
+-- the first part was written, and the second is written last
+pub second_last : {T : Type 0} (r : Result T SinkFail) (old mid new : Option (List ℕ)) (text a b : List ℕ) → text ≡ a ++ b → Gains old a mid → WritesText r b mid new → WritesText r text old new
+second_last (Ok x) old mid new text a b e g w = subst (λ t. Gains old t new) (sym e) (gains-append old mid new a b g w)
+second_last (Err y) old mid new text a b e g w = subst (λ t. GainsFront old t new) (sym e) (gains-front old mid new a b g w)
+
+-- lines behind lines
+pub lines_append : (xs ys : List (List ℕ)) → lines_text (xs ++ ys) ≡ lines_text xs ++ lines_text ys
+lines_append xs ys = flat_map-append (λ line. line ++ 10 ∷ []) xs ys
+
+-- ---- operations of a block
+
+first_tree : (names : Names) (level : ℕ) (ts : List Tree) (i : ℕ) (t : Tree) → i < length ts → t ≡ get_or ts i t
+    → lines_text (ops_lines names level (ops_of (drop i ts))) ≡ lines_text (tree_lines names level t) ++ lines_text (ops_lines names level (ops_of (drop (i + 1) ts)))
+first_tree names level ts i t lt is =
+    let at : drop i ts ≡ t ∷ drop (i + 1) ts = drop_more ts i t lt ∙ ap (λ x. x ∷ drop (i + 1) ts) (sym is) in
+    ap (λ xs. lines_text (ops_lines names level (ops_of xs))) at ∙ lines_append (tree_lines names level t) (ops_lines names level (ops_of (drop (i + 1) ts)))
+
+pub tree_written : (old now new : Option (List ℕ)) (text : List ℕ) (names : Names) (level : ℕ) (ts : List Tree) (i : ℕ) (t : Tree) → i < length ts → t ≡ get_or ts i t
+    → Going old text (lines_text (ops_lines names level (ops_of (drop i ts)))) now → Gains now (lines_text (tree_lines names level t)) new
+    → Going old text (lines_text (ops_lines names level (ops_of (drop (i + 1) ts)))) new
+tree_written old now new text names level ts i t lt is g h = going_on old now new text _ _ (going_same old now text _ _ (first_tree names level ts i t lt is) g) h
+
+pub tree_failed : (old now new : Option (List ℕ)) (text : List ℕ) (names : Names) (level : ℕ) (ts : List Tree) (i : ℕ) (t : Tree) → i < length ts → t ≡ get_or ts i t
+    → Going old text (lines_text (ops_lines names level (ops_of (drop i ts)))) now → GainsFront now (lines_text (tree_lines names level t)) new → GainsFront old text new
+tree_failed old now new text names level ts i t lt is g f = going_fails old now new text _ _ (going_same old now text _ _ (first_tree names level ts i t lt is) g) f
+
+-- ---- blocks behind the first
+
+first_else : (names : Names) (level : ℕ) (bs : List Body) (i : ℕ) (b : Body) → i < length bs → b ≡ get_or bs i b
+    → lines_text (else_lines names level (regions_of (drop i bs))) ≡ lines_text (else_block_lines names level b.ops) ++ lines_text (else_lines names level (regions_of (drop (i + 1) bs)))
+first_else names level bs i b lt is =
+    let at : drop i bs ≡ b ∷ drop (i + 1) bs = drop_more bs i b lt ∙ ap (λ x. x ∷ drop (i + 1) bs) (sym is) in
+    ap (λ xs. lines_text (else_lines names level (regions_of xs))) at ∙ lines_append (else_block_lines names level b.ops) (else_lines names level (regions_of (drop (i + 1) bs)))
+
+pub else_written : (old now new : Option (List ℕ)) (text : List ℕ) (names : Names) (level : ℕ) (bs : List Body) (i : ℕ) (b : Body) → i < length bs → b ≡ get_or bs i b
+    → Going old text (lines_text (else_lines names level (regions_of (drop i bs)))) now → Gains now (lines_text (else_block_lines names level b.ops)) new
+    → Going old text (lines_text (else_lines names level (regions_of (drop (i + 1) bs)))) new
+else_written old now new text names level bs i b lt is g h = going_on old now new text _ _ (going_same old now text _ _ (first_else names level bs i b lt is) g) h
+
+pub else_failed : (old now new : Option (List ℕ)) (text : List ℕ) (names : Names) (level : ℕ) (bs : List Body) (i : ℕ) (b : Body) → i < length bs → b ≡ get_or bs i b
+    → Going old text (lines_text (else_lines names level (regions_of (drop i bs)))) now → GainsFront now (lines_text (else_block_lines names level b.ops)) new → GainsFront old text new
+else_failed old now new text names level bs i b lt is g f = going_fails old now new text _ _ (going_same old now text _ _ (first_else names level bs i b lt is) g) f
+
+-- the first block, and the others
+first_block : (names : Names) (level : ℕ) (bs : List Body) (b : Body) → 1 ≤ length bs → b ≡ get_or bs 0 b
+    → lines_text (regions_lines names level (regions_of bs)) ≡ lines_text (ops_lines names (level + 1) b.ops) ++ lines_text (else_lines names level (regions_of (take (length bs - 1) (drop 1 bs))))
+first_block names level [] b lt is = absurd (omega (arith, lt))
+first_block names level (x ∷ xs) b lt is =
+    let e : take (length (x ∷ xs) - 1) xs ≡ xs = take_all (length (x ∷ xs) - 1) xs (omega arith) in
+    rw (is, e) (lines_append (ops_lines names (level + 1) x.ops) (else_lines names level (regions_of xs)))
+
+pub block_fails : (old new : Option (List ℕ)) (names : Names) (level : ℕ) (bs : List Body) (b : Body) → 1 ≤ length bs → b ≡ get_or bs 0 b
+    → GainsFront old (lines_text (ops_lines names (level + 1) b.ops)) new → GainsFront old (lines_text (regions_lines names level (regions_of bs))) new
+block_fails old new names level bs b lt is f = first_fails old new _ _ _ (first_block names level bs b lt is) f
+
+pub block_written : (old new : Option (List ℕ)) (names : Names) (level : ℕ) (bs : List Body) (b : Body) → 1 ≤ length bs → b ≡ get_or bs 0 b
+    → Gains old (lines_text (ops_lines names (level + 1) b.ops)) new
+    → Going old (lines_text (regions_lines names level (regions_of bs))) (lines_text (else_lines names level (regions_of (take (length bs - 1) (drop 1 bs))))) new
+block_written old new names level bs b lt is g = record { done = _; is = first_block names level bs b lt is; gains = g }
