@@ -1,13 +1,14 @@
 -- What was written so far of a text, and what a call that fails leaves.
-use Rattle.std.proofs.Common.{◌≡◌, ℕ, ◌+◌, ◌-◌, ◌<◌, ◌≤◌, List, [], ◌∷◌, ◌++◌, length, take, drop, get_or, Option, Result, Ok, Err, refl, sym, ap, subst, ◌∙◌, arith, append_assoc, append-nil, inl, inr, absurd}
-use Rattle.std.specs.Prelude.{codes}
+use Rattle.std.proofs.Common.{◌≡◌, ℕ, suc, ◌+◌, ◌-◌, ◌<◌, ◌≤◌, List, [], ◌∷◌, ◌++◌, length, take, drop, get_or, Option, Result, Ok, Err, refl, sym, ap, subst, ◌∙◌, arith, append_assoc, append-nil, inl, inr}
+use Rattle.std.specs.Prelude.{codes, false}
 use Rattle.std.proofs.lemmas.Grind.{flat_map-append}
 use Rattle.std.proofs.lemmas.List.{drop_more, take_all}
 use Rattle.xf_ir.specs.Tree.{Tree, Body, Ops}
-use Rattle.xf_ir.specs.View.{ops_of, regions_of}
+use Rattle.xf_ir.specs.View.{ops_of, regions_of, tree_size, ops_size, regions_size, body_size}
+use Rattle.xf_ir.proofs.EraseLemmas.{size_at, body_size_at}
 use Rattle.xf_print.specs.Names.{Names}
 use Rattle.xf_print.specs.Lines.{lines_text, tree_lines, else_lines, else_block_lines, rest_lines, function_lines}
-use Rattle.xf_print.specs.Printed.{head_lines, ops_lines, regions_lines, end_lines, functions_lines}
+use Rattle.xf_print.specs.Printed.{line_at, op_text, is_empty_yield, body_head, head_lines, ops_lines, regions_lines, end_lines, functions_lines}
 use Rattle.xf_host.specs.Writes.{Gains, GainsFront, WritesText, FailsByCount}
 use Rattle.xf_host.proofs.WriteLemmas.{gains_nothing, gains-append, front-append, gains-front, front_nothing}
 use Rattle.xf_host.specs.Count.{HasRisen}
@@ -88,18 +89,52 @@ pub else_failed : (old now new : Option (List ℕ)) (text : List ℕ) (names : N
 else_failed old now new text names level bs i b lt is g f = going_fails old now new text _ _ (going_same old now text _ _ (first_else names level bs i b lt is) g) f
 
 -- the first block, and the others
-first_block : (names : Names) (level : ℕ) (bs : List Body) (b : Body) → 1 ≤ length bs → b ≡ get_or bs 0 b
-    → lines_text (regions_lines names level (regions_of bs)) ≡ lines_text (ops_lines names (level + 1) b.ops) ++ lines_text (else_lines names level (regions_of (take (length bs - 1) (drop 1 bs))))
-first_block names level [] b lt is = absurd (omega (arith, lt))
-first_block names level (x ∷ xs) b lt is =
+first_block : (names : Names) (level inner : ℕ) (bs : List Body) (b : Body) → 1 ≤ length bs → b ≡ get_or bs 0 b → inner ≡ level + 1
+    → lines_text (regions_lines names level (regions_of bs)) ≡ lines_text (ops_lines names inner b.ops) ++ lines_text (else_lines names level (regions_of (take (length bs - 1) (drop 1 bs))))
+first_block names level inner [] b lt is f = absurd (omega (arith, lt))
+first_block names level inner (x ∷ xs) b lt is f =
     let e : take (length (x ∷ xs) - 1) xs ≡ xs = take_all (length (x ∷ xs) - 1) xs (omega arith) in
-    rw (is, e) (lines_append (ops_lines names (level + 1) x.ops) (else_lines names level (regions_of xs)))
+    let q : inner ≡ suc level = omega (arith, f) in
+    rw (is, e, q) (lines_append (ops_lines names (suc level) x.ops) (else_lines names level (regions_of xs)))
 
-pub block_fails : (old new : Option (List ℕ)) (names : Names) (level : ℕ) (bs : List Body) (b : Body) → 1 ≤ length bs → b ≡ get_or bs 0 b
-    → GainsFront old (lines_text (ops_lines names (level + 1) b.ops)) new → GainsFront old (lines_text (regions_lines names level (regions_of bs))) new
-block_fails old new names level bs b lt is f = first_fails old new _ _ _ (first_block names level bs b lt is) f
+pub block_fails : (old new : Option (List ℕ)) (names : Names) (level inner : ℕ) (bs : List Body) (b : Body) → 1 ≤ length bs → b ≡ get_or bs 0 b → inner ≡ level + 1
+    → GainsFront old (lines_text (ops_lines names inner b.ops)) new → GainsFront old (lines_text (regions_lines names level (regions_of bs))) new
+block_fails old new names level inner bs b lt is q f = first_fails old new _ _ _ (first_block names level inner bs b lt is q) f
 
-pub block_written : (old new : Option (List ℕ)) (names : Names) (level : ℕ) (bs : List Body) (b : Body) → 1 ≤ length bs → b ≡ get_or bs 0 b
-    → Gains old (lines_text (ops_lines names (level + 1) b.ops)) new
+pub block_written : (old new : Option (List ℕ)) (names : Names) (level inner : ℕ) (bs : List Body) (b : Body) → 1 ≤ length bs → b ≡ get_or bs 0 b → inner ≡ level + 1
+    → Gains old (lines_text (ops_lines names inner b.ops)) new
     → Going old (lines_text (regions_lines names level (regions_of bs))) (lines_text (else_lines names level (regions_of (take (length bs - 1) (drop 1 bs))))) new
-block_written old new names level bs b lt is g = record { done = _; is = first_block names level bs b lt is; gains = g }
+block_written old new names level inner bs b lt is q g = record { done = _; is = first_block names level inner bs b lt is q; gains = g }
+
+-- the line of else, and its block
+pub else_text : (names : Names) (level inner : ℕ) (ops : Ops) → inner ≡ level + 1
+    → lines_text (else_block_lines names level ops) ≡ lines_text (line_at level (codes "} else {") ∷ []) ++ lines_text (ops_lines names inner ops)
+else_text names level inner ops f = let q : inner ≡ suc level = omega (arith, f) in rw q (lines_append (line_at level (codes "} else {") ∷ []) (ops_lines names (suc level) ops))
+
+-- ---- an operation
+
+pub tree_text : (names : Names) (level : ℕ) (t : Tree) → lines_text (tree_lines names level t) ≡ lines_text (head_lines names level t) ++ lines_text (rest_lines names level t)
+tree_text names level t = lines_append (head_lines names level t) (rest_lines names level t)
+
+pub rest_text : (names : Names) (level : ℕ) (t : Tree) (rs : List Body) → regions_of rs ≡ t.regions
+    → lines_text (rest_lines names level t) ≡ lines_text (regions_lines names level (regions_of rs)) ++ lines_text (end_lines level t.kind t.attrs t.results)
+rest_text names level t rs e = rw e (lines_append (regions_lines names level t.regions) (end_lines level t.kind t.attrs t.results))
+
+pub head_text : (names : Names) (level : ℕ) (t : Tree) → is_empty_yield t.kind t.attrs t.operands ≡ false
+    → lines_text (head_lines names level t) ≡ lines_text (line_at level (op_text names t) ∷ []) ++ lines_text (body_head names level t t.kind)
+head_text names level t e = rw e (lines_append (line_at level (op_text names t) ∷ []) (body_head names level t t.kind))
+
+-- ---- sizes
+
+pub tree_below : (ts : List Tree) (i : ℕ) (t : Tree) → i < length ts → t ≡ get_or ts i t → tree_size t + 1 ≤ ops_size (ops_of ts)
+tree_below ts i t lt is = let e : tree_size t ≡ tree_size (get_or ts i t) = ap tree_size is in omega (arith, e, size_at ts i t lt)
+
+pub block_below : (bs : List Body) (i : ℕ) (b : Body) → i < length bs → b ≡ get_or bs i b → body_size b + 1 ≤ regions_size (regions_of bs)
+block_below bs i b lt is = let e : body_size b ≡ body_size (get_or bs i b) = ap body_size is in omega (arith, e, body_size_at bs i b lt)
+
+rest_below : (bs : List Body) → regions_size (regions_of (take (length bs - 1) (drop 1 bs))) ≤ regions_size (regions_of bs)
+rest_below [] = omega arith
+rest_below (x ∷ xs) = let e : take (length (x ∷ xs) - 1) xs ≡ xs = take_all (length (x ∷ xs) - 1) xs (omega arith) in rw e (omega arith)
+
+pub else_below : (bs : List Body) (i : ℕ) (b : Body) → i < length (take (length bs - 1) (drop 1 bs)) → b ≡ get_or (take (length bs - 1) (drop 1 bs)) i b → body_size b + 1 ≤ regions_size (regions_of bs)
+else_below bs i b lt is = omega (arith, block_below (take (length bs - 1) (drop 1 bs)) i b lt is, rest_below bs)

@@ -110,6 +110,16 @@ fn print_end<S: Sink>(level: u64, op: &Op, line: &mut Vec<u8>, sink: &mut S) -> 
     sink.write(line.as_slice())
 }
 
+/// Writes the line of else.
+fn print_else_line<S: Sink>(level: u64, line: &mut Vec<u8>, sink: &mut S) -> Result<(), SinkFail>
+    ensures text { WritesText result (lines_text (line_at level (codes "} else {") ∷ []))
+        (S.written sink.old) (S.written sink.new) }
+    ensures count { FailsByCount result (S.faults sink.old) (S.faults sink.new) }
+{
+    word_line(level, b"} else {", line)?;
+    sink.write(line.as_slice())
+}
+
 /// Writes the lines of a block's operations.
 #[cycle(print)]
 fn print_ops<S: Sink>(
@@ -164,6 +174,23 @@ fn print_rest<S: Sink>(
     print_end(level, op, line, sink)
 }
 
+/// Writes the lines of a block.
+#[cycle(print)]
+fn print_block<S: Sink>(
+    names: &Index<'_>,
+    level: u64,
+    block: &Block,
+    line: &mut Vec<u8>,
+    sink: &mut S,
+) -> Result<(), SinkFail>
+    ensures text { WritesText result
+        (lines_text (ops_lines (names_of names.now) level block.now.ops))
+        (S.written sink.old) (S.written sink.new) }
+    ensures count { FailsByCount result (S.faults sink.old) (S.faults sink.new) }
+{
+    print_ops(names, level, block.ops.as_slice(), line, sink)
+}
+
 /// Writes the lines of regions, one level deeper.
 #[cycle(print)]
 fn print_regions<S: Sink>(
@@ -182,9 +209,9 @@ fn print_regions<S: Sink>(
         return Ok(());
     };
     let inner = sum(level, 1)?;
-    print_ops(names, inner, first.ops.as_slice(), line, sink)?;
+    print_block(names, inner, first, line, sink)?;
     for block in rest {
-        print_else(names, level, block.ops.as_slice(), line, sink)?;
+        print_else(names, level, block, line, sink)?;
     }
     Ok(())
 }
@@ -194,17 +221,16 @@ fn print_regions<S: Sink>(
 fn print_else<S: Sink>(
     names: &Index<'_>,
     level: u64,
-    ops: &[Op],
+    block: &Block,
     line: &mut Vec<u8>,
     sink: &mut S,
 ) -> Result<(), SinkFail>
     ensures text { WritesText result
-        (lines_text (else_block_lines (names_of names.now) level (ops_of ops.now)))
+        (lines_text (else_block_lines (names_of names.now) level block.now.ops))
         (S.written sink.old) (S.written sink.new) }
     ensures count { FailsByCount result (S.faults sink.old) (S.faults sink.new) }
 {
-    word_line(level, b"} else {", line)?;
     let inner = sum(level, 1)?;
-    sink.write(line.as_slice())?;
-    print_ops(names, inner, ops, line, sink)
+    print_else_line(level, line, sink)?;
+    print_block(names, inner, block, line, sink)
 }

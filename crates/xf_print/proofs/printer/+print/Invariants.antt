@@ -1,5 +1,5 @@
 use Rattle.std.proofs.Common.{◌≤◌, ◌+◌, ◌*◌, drop}
-use Rattle.xf_ir.specs.View.{ops_of, regions_of, tree_size, ops_size, regions_size}
+use Rattle.xf_ir.specs.View.{ops_of, regions_of, tree_size, ops_size, regions_size, body_size}
 use Rattle.xf_print.specs.Index.{names_of}
 use Rattle.xf_print.specs.Lines.{lines_text, else_lines}
 use Rattle.xf_print.specs.Printed.{ops_lines, regions_lines}
@@ -19,7 +19,10 @@ abbrev pub decreases-print_regions : goal.decreases-print_regions
 decreases-print_regions g l = 4 * regions_size (regions_of l.regions.now) + 1
 
 abbrev pub decreases-print_else : goal.decreases-print_else
-decreases-print_else g l = 4 * ops_size (ops_of l.ops.now) + 1
+decreases-print_else g l = 4 * body_size l.block.now + 2
+
+abbrev pub decreases-print_block : goal.decreases-print_block
+decreases-print_block g l = 4 * body_size l.block.now + 1
 
 abbrev pub invariant-print_ops-loop-op : goal.invariant-print_ops-loop-op
 invariant-print_ops-loop-op g l = record {
