@@ -3,12 +3,14 @@ use Rattle.std.proofs.Common.{◌≡◌, ℕ, suc, ◌+◌, ◌-◌, ◌<◌, �
 use Rattle.std.specs.Prelude.{codes, false}
 use Rattle.std.proofs.lemmas.Grind.{flat_map-append}
 use Rattle.std.proofs.lemmas.List.{drop_more, take_all}
+use Rattle.xf_ir.specs.declared.op.Module.{Module}
+use Rattle.xf_ir.specs.Placed.{functions_of}
 use Rattle.xf_ir.specs.Tree.{Tree, Body, Ops}
 use Rattle.xf_ir.specs.View.{ops_of, regions_of, tree_size, ops_size, regions_size, body_size}
 use Rattle.xf_ir.proofs.EraseLemmas.{size_at, body_size_at}
-use Rattle.xf_print.specs.Names.{Names}
+use Rattle.xf_print.specs.Names.{Names, no_names}
 use Rattle.xf_print.specs.Lines.{lines_text, tree_lines, else_lines, else_block_lines, rest_lines, function_lines}
-use Rattle.xf_print.specs.Printed.{line_at, op_text, is_empty_yield, body_head, head_lines, ops_lines, regions_lines, end_lines, functions_lines}
+use Rattle.xf_print.specs.Printed.{line_at, op_text, is_empty_yield, body_head, head_lines, ops_lines, regions_lines, end_lines, functions_lines, printed_form}
 use Rattle.xf_host.specs.Writes.{Gains, GainsFront, WritesText, FailsByCount}
 use Rattle.xf_host.proofs.WriteLemmas.{gains_nothing, gains-append, front-append, gains-front, front_nothing}
 use Rattle.xf_host.specs.Count.{HasRisen}
@@ -138,3 +140,32 @@ rest_below (x ∷ xs) = let e : take (length (x ∷ xs) - 1) xs ≡ xs = take_al
 
 pub else_below : (bs : List Body) (i : ℕ) (b : Body) → i < length (take (length bs - 1) (drop 1 bs)) → b ≡ get_or (take (length bs - 1) (drop 1 bs)) i b → body_size b + 1 ≤ regions_size (regions_of bs)
 else_below bs i b lt is = omega (arith, block_below (take (length bs - 1) (drop 1 bs)) i b lt is, rest_below bs)
+
+-- ---- functions
+
+first_function : (fs : List Tree) (i : ℕ) (t : Tree) → i < length fs → t ≡ get_or fs i t
+    → lines_text (functions_lines (ops_of (drop i fs))) ≡ lines_text (function_lines t) ++ lines_text (functions_lines (ops_of (drop (i + 1) fs)))
+first_function fs i t lt is =
+    let at : drop i fs ≡ t ∷ drop (i + 1) fs = drop_more fs i t lt ∙ ap (λ x. x ∷ drop (i + 1) fs) (sym is) in
+    ap (λ xs. lines_text (functions_lines (ops_of xs))) at
+    ∙ lines_append (function_lines t ++ []) (functions_lines (ops_of (drop (i + 1) fs)))
+    ∙ ap (λ x. lines_text x ++ lines_text (functions_lines (ops_of (drop (i + 1) fs)))) (append-nil (function_lines t))
+
+pub function_written : (old now new : Option (List ℕ)) (text : List ℕ) (fs : List Tree) (i : ℕ) (t : Tree) → i < length fs → t ≡ get_or fs i t
+    → Going old text (lines_text (functions_lines (ops_of (drop i fs)))) now → Gains now (lines_text (function_lines t)) new
+    → Going old text (lines_text (functions_lines (ops_of (drop (i + 1) fs)))) new
+function_written old now new text fs i t lt is g h = going_on old now new text _ _ (going_same old now text _ _ (first_function fs i t lt is) g) h
+
+pub function_failed : (old now new : Option (List ℕ)) (text : List ℕ) (fs : List Tree) (i : ℕ) (t : Tree) → i < length fs → t ≡ get_or fs i t
+    → Going old text (lines_text (functions_lines (ops_of (drop i fs)))) now → GainsFront now (lines_text (function_lines t)) new → GainsFront old text new
+function_failed old now new text fs i t lt is g f = going_fails old now new text _ _ (going_same old now text _ _ (first_function fs i t lt is) g) f
+
+-- ---- the module
+
+pub form_text : (m : Module) → printed_form m ≡ (op_text no_names m.root ++ codes "\n") ++ (lines_text (functions_lines (functions_of m)) ++ codes "}\n")
+form_text m = ap (λ x. (op_text no_names m.root ++ codes "\n") ++ x) (lines_append (functions_lines (functions_of m)) (codes "}" ∷ []))
+
+-- the functions, however they are named, and the end
+pub rest_of_module : (m : Module) (functions : Ops) → functions ≡ functions_of m
+    → lines_text (functions_lines (functions_of m)) ++ codes "}\n" ≡ lines_text (functions_lines functions) ++ codes "}\n"
+rest_of_module m functions e = ap (λ x. lines_text (functions_lines x) ++ codes "}\n") (sym e)

@@ -1,6 +1,7 @@
 //! The names of a function's values: an ordered index of what its operations define.
 ghost use Rattle.std.specs.Prelude.{◌≡◌, ◌+◌, ◌++◌, OnOk, IfOk, Some, None};
 ghost use Rattle.std.specs.Option.{option_map, option_copied};
+ghost use Rattle.xf_ir.specs.Tree.{cons, no_ops};
 ghost use Rattle.xf_ir.specs.View.{ops_of, regions_of};
 ghost use Rattle.xf_print.specs.Index.{entry_of, names_of};
 ghost use Rattle.xf_print.specs.Names.{no_names, with_op, with_ops, with_regions, first_args, next_number, result_part, result_text, argument_text, name_text, type_of, value_type, number_of, first_of};
@@ -119,18 +120,26 @@ impl<'a> Index<'a> {
         Ok(())
     }
 
-    /// Gives the operations of a block and all that they hold their numbers, in preorder.
+    /// Gives an operation and all that it holds their numbers, in preorder. Refuses for want of memory alone.
     #[cycle(number)]
-    pub fn add_ops(&mut self, ops: &'a [Op]) -> Result<(), NoMemory>
+    pub fn add_op(&mut self, op: &'a Op) -> Result<(), NoMemory>
+        ensures { OnOk result (names_of self.new ≡ with_ops (names_of self.old) (cons op.now no_ops)) }
+    {
+        self.add(
+            op.name,
+            op.results.as_slice(),
+            first_args(op.regions.as_slice()),
+        )?;
+        self.add_regions(op.regions.as_slice())
+    }
+
+    /// Gives the operations of a block their numbers.
+    #[cycle(number)]
+    fn add_ops(&mut self, ops: &'a [Op]) -> Result<(), NoMemory>
         ensures { OnOk result (names_of self.new ≡ with_ops (names_of self.old) (ops_of ops.now)) }
     {
         for op in ops {
-            self.add(
-                op.name,
-                op.results.as_slice(),
-                first_args(op.regions.as_slice()),
-            )?;
-            self.add_regions(op.regions.as_slice())?;
+            self.add_op(op)?;
         }
         Ok(())
     }

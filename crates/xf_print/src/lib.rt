@@ -15,3 +15,5 @@ mod scf_rows;
 mod tensor_rows;
 mod values;
 mod words;
+
+pub use printer::print;

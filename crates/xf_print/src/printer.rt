@@ -11,8 +11,9 @@ ghost use Rattle.xf_ir.specs.Tree.{cons, no_ops};
 
 use crate::index::{Index, sum};
 use crate::line::{body_end_line, body_line, end_line, op_line, word_line};
+use std::alloc::Global;
 use xf_host::sink::{Sink, SinkFail};
-use xf_ir::{Block, Kind, Op};
+use xf_ir::{Block, Kind, Module, Op};
 use xf_type::NoMemory;
 
 /// Whether an operation is a yield that is left out: without operands and attributes.
@@ -233,4 +234,77 @@ fn print_else<S: Sink>(
     let inner = sum(level, 1)?;
     print_else_line(level, line, sink)?;
     print_block(names, inner, block, line, sink)
+}
+
+/// Writes the lines of a function, whose values get names of their own.
+fn print_function<S: Sink>(
+    alloc: Global,
+    function: &Op,
+    line: &mut Vec<u8>,
+    sink: &mut S,
+) -> Result<(), SinkFail>
+    ensures text { WritesText result (lines_text (function_lines function.now))
+        (S.written sink.old) (S.written sink.new) }
+    ensures count { FailsByCount result (S.faults sink.old) (S.faults sink.new) }
+{
+    let mut names = Index::new(alloc);
+    names.add_op(function)?;
+    print_tree(&names, 1, function, line, sink)
+}
+
+/// Writes the lines of functions.
+fn print_functions<S: Sink>(alloc: Global, functions: &[Op], sink: &mut S) -> Result<(), SinkFail>
+    ensures text { WritesText result (lines_text (functions_lines (ops_of functions.now)))
+        (S.written sink.old) (S.written sink.new) }
+    ensures count { FailsByCount result (S.faults sink.old) (S.faults sink.new) }
+{
+    let mut line = Vec::new(alloc);
+    for function in functions {
+        print_function(alloc, function, &mut line, sink)?;
+    }
+    Ok(())
+}
+
+/// The functions of a module.
+fn functions_of(m: &Module) -> &[Op]
+    ensures { ops_of result.now ≡ functions_of m.now }
+{
+    let root = &m.root;
+    match root.regions.as_slice() {
+        [] => &[],
+        [block, ..] => block.ops.as_slice(),
+    }
+}
+
+/// Writes the line that begins a module.
+fn print_module_head<S: Sink>(alloc: Global, m: &Module, sink: &mut S) -> Result<(), SinkFail>
+    ensures text { WritesText result (op_text no_names m.now.root ++ 10 ∷ [])
+        (S.written sink.old) (S.written sink.new) }
+    ensures count { FailsByCount result (S.faults sink.old) (S.faults sink.new) }
+{
+    let names = Index::new(alloc);
+    let mut line = Vec::new(alloc);
+    op_line(&names, 0, &m.root, &mut line)?;
+    sink.write(line.as_slice())
+}
+
+/// Writes the lines of a module's functions, and its end.
+fn print_module_rest<S: Sink>(alloc: Global, m: &Module, sink: &mut S) -> Result<(), SinkFail>
+    ensures text { WritesText result
+        (lines_text (functions_lines (functions_of m.now)) ++ codes "}\n")
+        (S.written sink.old) (S.written sink.new) }
+    ensures count { FailsByCount result (S.faults sink.old) (S.faults sink.new) }
+{
+    print_functions(alloc, functions_of(m), sink)?;
+    sink.write(b"}\n")
+}
+
+/// Writes the printed form of a module: each line, with its line feed, by one write. It refuses as the sink does, and for want of
+/// memory. The time is linear in the text, but for the search of names in an ordered index.
+pub fn print<S: Sink>(alloc: Global, m: &Module, sink: &mut S) -> Result<(), SinkFail>
+    ensures text { WritesText result (printed_form m.now) (S.written sink.old) (S.written sink.new) }
+    ensures count { FailsByCount result (S.faults sink.old) (S.faults sink.new) }
+{
+    print_module_head(alloc, m, sink)?;
+    print_module_rest(alloc, m, sink)
 }
