@@ -1,5 +1,5 @@
 -- The blanks before a line.
-use Rattle.std.proofs.Common.{◌≡◌, ℕ, zero, suc, ◌+◌, ◌*◌, List, [], ◌∷◌, ◌++◌, codes, refl, ap, ◌∙◌, arith}
+use Rattle.std.proofs.Common.{◌≡◌, ℕ, zero, suc, ◌+◌, ◌*◌, List, ◌∷◌, ◌++◌, codes, refl, ap, ◌∙◌, arith}
 use Rattle.std.specs.Prelude.{replicate}
 
 two_more : (n : ℕ) → replicate n 32 ++ codes "  " ≡ replicate (suc (suc n)) 32

@@ -1,5 +1,5 @@
 -- The dimensions of a map, one behind the other.
-use Rattle.std.proofs.Common.{◌≡◌, ℕ, suc, ◌+◌, ◌-◌, ◌<◌, List, ◌∷◌, ◌++◌, codes, refl, sym, ap, ◌∙◌, append_assoc, arith}
+use Rattle.std.proofs.Common.{◌≡◌, ℕ, suc, ◌+◌, ◌-◌, ◌<◌, List, ◌∷◌, ◌++◌, codes, sym, ap, ◌∙◌, append_assoc, arith}
 use Rattle.xf_print.specs.Words.{listed, listed_more, dimension_text}
 use Rattle.xf_print.specs.Rows.{dimension_texts}
 

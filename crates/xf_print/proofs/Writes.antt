@@ -1,5 +1,5 @@
 -- What was written so far of a text, and what a call that fails leaves.
-use Rattle.std.proofs.Common.{◌≡◌, ℕ, suc, ◌+◌, ◌-◌, ◌<◌, ◌≤◌, List, [], ◌∷◌, ◌++◌, length, take, drop, get_or, Option, Result, Ok, Err, refl, sym, ap, subst, ◌∙◌, arith, append_assoc, append-nil, inl, inr}
+use Rattle.std.proofs.Common.{◌≡◌, ℕ, suc, ◌+◌, ◌-◌, ◌<◌, ◌≤◌, List, [], ◌∷◌, ◌++◌, length, take, drop, get_or, Option, Result, Ok, Err, refl, sym, ap, subst, ◌∙◌, arith, append_assoc, append-nil}
 use Rattle.std.specs.Prelude.{codes, false}
 use Rattle.std.proofs.lemmas.Grind.{flat_map-append}
 use Rattle.std.proofs.lemmas.List.{drop_more, take_all}
@@ -11,9 +11,8 @@ use Rattle.xf_ir.proofs.EraseLemmas.{size_at, body_size_at}
 use Rattle.xf_print.specs.Names.{Names, no_names}
 use Rattle.xf_print.specs.Lines.{lines_text, tree_lines, else_lines, else_block_lines, rest_lines, function_lines}
 use Rattle.xf_print.specs.Printed.{line_at, op_text, is_empty_yield, body_head, head_lines, ops_lines, regions_lines, end_lines, functions_lines, printed_form}
-use Rattle.xf_host.specs.Writes.{Gains, GainsFront, WritesText, FailsByCount}
-use Rattle.xf_host.proofs.WriteLemmas.{gains_nothing, gains-append, front-append, gains-front, front_nothing}
-use Rattle.xf_host.specs.Count.{HasRisen}
+use Rattle.xf_host.specs.Writes.{Gains, GainsFront, WritesText}
+use Rattle.xf_host.proofs.WriteLemmas.{gains_nothing, gains-append, front-append, gains-front, writes_same}
 use Rattle.xf_host.specs.declared.sink.SinkFail.{SinkFail}
 
 -- a part of the text was written, and the rest is still to be written
@@ -169,3 +168,8 @@ form_text m = ap (λ x. (op_text no_names m.root ++ codes "\n") ++ x) (lines_app
 pub rest_of_module : (m : Module) (functions : Ops) → functions ≡ functions_of m
     → lines_text (functions_lines (functions_of m)) ++ codes "}\n" ≡ lines_text (functions_lines functions) ++ codes "}\n"
 rest_of_module m functions e = ap (λ x. lines_text (functions_lines x) ++ codes "}\n") (sym e)
+
+-- the head of a module was written in a line
+pub head_written : {T : Type 0} (r : Result T SinkFail) (old new : Option (List ℕ)) (names : Names) (t : Tree) (piece line : List ℕ) → names ≡ no_names
+    → piece ≡ line → line ≡ op_text names t ++ 10 ∷ [] → WritesText r piece old new → WritesText r (op_text no_names t ++ 10 ∷ []) old new
+head_written r old new names t piece line e p q w = writes_same r piece (op_text no_names t ++ 10 ∷ []) old new (p ∙ q ∙ ap (λ n. op_text n t ++ 10 ∷ []) e) w

@@ -1,4 +1,4 @@
-use Rattle.std.proofs.Common.{arith, sym, ap, ◌∙◌}
+use Rattle.std.proofs.Common.{arith, ap}
 use Rattle.std.proofs.lemmas.Grind.{common_steps}
 use Rattle.std.proofs.lemmas.Result.{err_from_is_err_and}
 use Rattle.xf_ir.specs.View.{regions_of}
@@ -7,7 +7,7 @@ use Rattle.xf_print.proofs.Writes.{first_fails, second_last, tree_text, rest_tex
 use Rattle.xf_print.proofs.printer.+print.Goals as goal
 
 pub print_ops-print_tree-requires : goal.print_ops-print_tree-requires
-print_ops-print_tree-requires g t c κs within = omega (arith, tree_below _ c.loop-op.op-index _ c.loop-op-test.true c.op-item.is)
+print_ops-print_tree-requires g t c κs within = (omega (arith, tree_below _ c.loop-op.op-index _ c.loop-op-test.true c.op-item.is), within)
 
 pub print_ops-returns-in_err-print_tree-clause-text : goal.print_ops-returns-in_err-print_tree-clause-text
 print_ops-returns-in_err-print_tree-clause-text g t c =
@@ -52,7 +52,7 @@ print_regions-loop-block-init g t c = record {
 }
 
 pub print_regions-print_else-requires : goal.print_regions-print_else-requires
-print_regions-print_else-requires g t c κs within = omega (arith, else_below c.args.regions.now c.loop-block.block-index _ c.loop-block-test.true c.block-item.is)
+print_regions-print_else-requires g t c κs within = (omega (arith, else_below c.args.regions.now c.loop-block.block-index _ c.loop-block-test.true c.block-item.is), within)
 
 pub print_regions-returns-in_err-print_else-clause-text : goal.print_regions-returns-in_err-print_else-clause-text
 print_regions-returns-in_err-print_else-clause-text g t c =
