@@ -17,3 +17,6 @@ mod values;
 mod words;
 
 pub use printer::print;
+
+#[cfg(test)]
+mod tests;
