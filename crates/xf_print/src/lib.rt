@@ -1,19 +1,22 @@
-//! Stand-in.
+//! The printed form of modules.
 #![tactic(auto)]
-ghost use Rattle.std.specs.Prelude.{◌≡◌};
-ghost use Rattle.xf_ir.specs.Valid.{IsValid};
-ghost use Rattle.xf_host.specs.Writes.{WritesText, FailsByCount};
-ghost use Rattle.xf_print.specs.Printed.{printed_form};
 
-use std::alloc::Global;
-use xf_host::sink::{Sink, SinkFail};
-use xf_ir::Module;
+mod arith_rows;
+mod attributes;
+mod dense;
+mod func_rows;
+mod index;
+mod linalg_rows;
+mod line;
+mod number;
+mod printer;
+mod row;
+mod scf_rows;
+mod tensor_rows;
+mod values;
+mod words;
 
-/// Stand-in.
-pub fn print<S: Sink>(alloc: Global, m: &Module, sink: &mut S) -> Result<(), SinkFail>
-    requires { IsValid m.now }
-    ensures text { WritesText result (printed_form m.now) (S.written sink.old) (S.written sink.new) }
-    ensures count { FailsByCount result (S.faults sink.old) (S.faults sink.new) }
-{
-    Err(SinkFail::NoMemory)
-}
+pub use printer::print;
+
+#[cfg(test)]
+mod tests;
