@@ -132,7 +132,7 @@ joined f g a b ts us p q front = record {
 one_token : (t : Plain) → Low t.bytes → ((after : Bool) (rest : List ℕ) → breaks rest ≡ true → Stays after t rest) → Lays false t.bytes (seen_plain t ∷ [])
 one_token t low s = record { low = low; lay = λ rest us ends r after. more_token after t rest us (s after rest ends) (r (is_tensor t.kind t.bytes)) }
 
-free_token : (t : Plain) → Low t.bytes → ((after : Bool) (rest : List ℕ) → Stays after t rest) → Lays true t.bytes (seen_plain t ∷ [])
+pub free_token : (t : Plain) → Low t.bytes → ((after : Bool) (rest : List ℕ) → Stays after t rest) → Lays true t.bytes (seen_plain t ∷ [])
 free_token t low s = record { low = low; lay = λ rest us ends r after. more_token after t rest us (s after rest) (r (is_tensor t.kind t.bytes)) }
 
 blank_low : (b : ℕ) → is_blank b ≡ true → is_low b ≡ true

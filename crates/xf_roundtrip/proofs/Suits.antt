@@ -87,6 +87,24 @@ bits_suit I32 bits y e = number_suits I32 (2 ^ 31) (2 ^ 32) (signed_value I32 bi
 bits_suit I64 bits y e = number_suits I64 (2 ^ 63) (2 ^ 64) (signed_value I64 bits) y (in_range bits (2 ^ 63) (2 ^ 64) (ltb-true bits (2 ^ 64) e) refl) (omega arith) (omega arith) (omega arith) (omega arith)
 bits_suit Index bits y e = number_suits Index (2 ^ 63) (2 ^ 64) (signed_value Index bits) y (in_range bits (2 ^ 63) (2 ^ 64) (ltb-true bits (2 ^ 64) e) refl) (omega arith) (omega arith) (omega arith) (omega arith)
 
+-- the digits of an integer are those of a number below 2 ^ 64
+abbrev pub IsShort : ℤ → Type 0
+IsShort (pos n) = n < 2 ^ 64
+IsShort (negsuc n) = suc n < 2 ^ 64
+
+range_short : (half full : ℕ) (z : ℤ) → InRange half full z → full ≤ 2 ^ 64 → half ≤ 2 ^ 63 → IsShort z
+range_short half full (pos n) h p q = omega arith
+range_short half full (negsuc n) h p q = omega arith
+
+pub signed_short : (w : Width) (bits : ℕ) → fits_bits w bits ≡ true → IsShort (signed_value w bits)
+unfolding signed_by
+signed_short I1 bits e = range_short (2 ^ 0) (2 ^ 1) (signed_value I1 bits) (in_range bits (2 ^ 0) (2 ^ 1) (ltb-true bits (2 ^ 1) e) refl) (omega arith) (omega arith)
+signed_short I8 bits e = range_short (2 ^ 7) (2 ^ 8) (signed_value I8 bits) (in_range bits (2 ^ 7) (2 ^ 8) (ltb-true bits (2 ^ 8) e) refl) (omega arith) (omega arith)
+signed_short I16 bits e = range_short (2 ^ 15) (2 ^ 16) (signed_value I16 bits) (in_range bits (2 ^ 15) (2 ^ 16) (ltb-true bits (2 ^ 16) e) refl) (omega arith) (omega arith)
+signed_short I32 bits e = range_short (2 ^ 31) (2 ^ 32) (signed_value I32 bits) (in_range bits (2 ^ 31) (2 ^ 32) (ltb-true bits (2 ^ 32) e) refl) (omega arith) (omega arith)
+signed_short I64 bits e = range_short (2 ^ 63) (2 ^ 64) (signed_value I64 bits) (in_range bits (2 ^ 63) (2 ^ 64) (ltb-true bits (2 ^ 64) e) refl) (omega arith) (omega arith)
+signed_short Index bits e = range_short (2 ^ 63) (2 ^ 64) (signed_value Index bits) (in_range bits (2 ^ 63) (2 ^ 64) (ltb-true bits (2 ^ 64) e) refl) (omega arith) (omega arith)
+
 -- ---- attributes
 
 value_suit : (v : AttrValue) (y : Seen) → value_fits v ≡ true → not (is_kind equals y) ≡ true → value_suits (attribute_value v) y ≡ true
@@ -173,7 +191,7 @@ function_results_suit (t ∷ (u ∷ ts)) y e = until_any (widths (t ∷ (u ∷ t
 -- ---- what stands behind a slot
 
 -- the dictionary, or what is behind it
-dictionary_first : (P : Seen → Bool) (ds : List Attr) (qs : List Seen) (y : Seen) → P (mark open_brace) ≡ true → P (first_seen qs y) ≡ true → P (first_seen (piece_written slot.Dictionary (dictionary_piece ds) ++ qs) y) ≡ true
+pub dictionary_first : (P : Seen → Bool) (ds : List Attr) (qs : List Seen) (y : Seen) → P (mark open_brace) ≡ true → P (first_seen qs y) ≡ true → P (first_seen (piece_written slot.Dictionary (dictionary_piece ds) ++ qs) y) ≡ true
 dictionary_first P [] qs y a b = b
 dictionary_first P (d ∷ ds) qs y a b = a
 
