@@ -1,0 +1,4 @@
+pub mod Laws
+pub mod SaidMeant
+pub mod SaidWell
+pub mod Saying

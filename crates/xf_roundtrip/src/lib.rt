@@ -1,0 +1,7 @@
+//! What a text of a payload says is what it means: the step from printed texts to the modules that
+//! they spell.
+#![tactic(auto)]
+
+mod law;
+
+pub use law::{texts_mean_what_they_say, tokens_mean_what_they_say};
