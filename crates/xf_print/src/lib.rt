@@ -1,0 +1,4 @@
+//! The printed form of modules.
+#![tactic(auto)]
+
+mod words;
