@@ -1,4 +1,6 @@
+pub mod Again
 pub mod Heads
 pub mod Laws
 pub mod Meaning
+pub mod Names
 pub mod Right

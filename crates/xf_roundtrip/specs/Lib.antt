@@ -1,4 +1,7 @@
 pub mod Laws
+pub mod Naming
+pub mod Renamed
 pub mod SaidMeant
+pub mod SaidPrinted
 pub mod SaidWell
 pub mod Saying
