@@ -1,4 +1,5 @@
 pub mod Again
+pub mod Entries
 pub mod Heads
 pub mod Laws
 pub mod Meaning
