@@ -105,13 +105,13 @@ all_fit t i [] = true
 all_fit t i (o ∷ os) = fits (stated_by t.row (shape t) i) o && all_fit t (i + 1) os
 
 -- a head says what its operation is
-pub record SaysIt (names : Names) (t : Said) (k : Kind) (ds : List Attr) (os : List ValueName) (ts args : List PayloadType) : Type 0 where
+pub record SaysIt (names : Names) (t : Said) (k : Kind) (ds : List Attr) (os : List ValueName) (ts args : List PayloadType) (named : Option (List ℕ)) : Type 0 where
   pub kind_is : kind_said t.row t ≡ k
   pub attrs : attrs_said t.entries ≡ ds
   pub results : result_types t ≡ ts
   pub arguments : argument_types t ≡ args
   pub once : entries_once (λ name. false) t.entries ≡ true
-  pub symbol : function_named t.row t.symbol ≡ None
+  pub symbol : function_named t.row t.symbol ≡ named
   pub count : (length os == operands_by t.row (shape t)) ≡ true
   pub fit : all_fit t 0 (map (type_of names) os) ≡ true
 
@@ -128,7 +128,7 @@ pub record LastYield (k : Kind) (ds : List Attr) (os : List ValueName) (ts : Lis
 pub record Shown (names : Names) (m : OpName) (k a : ℕ) (kd : Kind) (ds : List Attr) (os : List ValueName) (ts args : List PayloadType) : Type 0 where
   pub shown : is_empty_yield kd ds os ≡ false
   pub entry : HasEntry names m k a ts args
-  pub says : SaysIt names (head_by names k a kd ds os ts args) kd ds os ts args
+  pub says : SaysIt names (head_by names k a kd ds os ts args) kd ds os ts args None
   pub number : k < 2 ^ 64
   pub room : a + length args < 2 ^ 64
   pub small : length args ≤ 2 ^ 32
@@ -173,20 +173,20 @@ arguments_length : (a : ℕ) (ts : List PayloadType) → length (arguments_print
 arguments_length a [] = refl
 arguments_length a (t ∷ ts) = ap suc (arguments_length (suc a) ts)
 
-all_true : (a b : Bool) → a ≡ true → b ≡ true → (a && b) ≡ true
+pub all_true : (a b : Bool) → a ≡ true → b ≡ true → (a && b) ≡ true
 all_true a b p q = rw (p, q) refl
 
-head_is_well : (names : Names) (renamed : OpName → OpName) (m : OpName) (n k a : ℕ) (kd : Kind) (ds : List Attr) (os : List ValueName) (ts args : List PayloadType) (ss : List Seen) (scope : Scope)
-    → Shown names m k a kd ds os ts args → AllSeen ss os → Knows ss names renamed scope → Clear k a scope → head_well n (head_by names k a kd ds os ts args) scope ≡ true
-head_is_well names renamed m n k a kd ds os ts args ss scope s h w c =
+-- a head whose names are free, and that says what its operation is
+pub head_is_well : (names : Names) (renamed : OpName → OpName) (n k a : ℕ) (kd : Kind) (ds : List Attr) (os : List ValueName) (ts args : List PayloadType) (named : Option (List ℕ)) (ss : List Seen) (scope : Scope)
+    → SaysIt names (head_by names k a kd ds os ts args) kd ds os ts args named → k < 2 ^ 64 → a + length args < 2 ^ 64 → symbol_new scope named ≡ true → AllSeen ss os → Knows ss names renamed scope → Clear k a scope
+    → head_well n (head_by names k a kd ds os ts args) scope ≡ true
+head_is_well names renamed n k a kd ds os ts args named ss scope says lt room new h w c =
     let t : Said = head_by names k a kd ds os ts args in
-    let says = s.says in
     let us = uses_again names renamed ss scope os w h in
-    let symbol : symbol_new scope (function_named t.row t.symbol) ≡ true = ap (symbol_new scope) says.symbol in
-    let defines = results_new k a ts scope s.number c in
-    let arguments : arguments_new n 0 (argument_types t) t.args scope ≡ true = ap (λ xs. arguments_new n 0 xs (arguments_printed a args) scope) says.arguments ∙ arguments_are_new n 0 k a args args scope s.room c in
-    let names_are : names_once n t scope ≡ true =
-    all_true _ _ says.once (all_true _ _ (all_true _ _ symbol defines) arguments) in
+    let symbol : symbol_new scope (function_named t.row t.symbol) ≡ true = ap (symbol_new scope) says.symbol ∙ new in
+    let defines = results_new k a ts scope lt c in
+    let arguments : arguments_new n 0 (argument_types t) t.args scope ≡ true = ap (λ xs. arguments_new n 0 xs (arguments_printed a args) scope) says.arguments ∙ arguments_are_new n 0 k a args args scope room c in
+    let names_are : names_once n t scope ≡ true = all_true _ _ says.once (all_true _ _ (all_true _ _ symbol defines) arguments) in
     let count : (length t.uses == operands_by t.row (shape t)) ≡ true = ap (λ l. l == operands_by t.row (shape t)) (length-map os (use_printed names)) ∙ says.count in
     let fit : uses_fit scope t 0 t.uses ≡ true = uses_fit_by scope t 0 t.uses ∙ ap (all_fit t 0) us.types ∙ says.fit in
     let results : defines_fit t.defines (result_types t) ≡ true = defines_fit_by k ts (result_types t) says.results in
@@ -316,7 +316,7 @@ mutual
         let xs = says.results in
         let fs = says.symbol in
         let e_behind : behind_said n t scope ≡ scope_behind = λ i. with_defines n (xs i) (defines_printed k ts) (with_function n (fs i) scope) in
-        let head = head_is_well names renamed m n k a kd ds os ts first ss scope s.0 h.0 w c in
+        let head = head_is_well names renamed n k a kd ds os ts first None ss scope says s.0.number s.0.room refl h.0 w c in
         let more = number_more k ts in
         let c_in = clear_more k a' k' a' scope_in more (omega arith) (clear_arguments n 0 k a first first scope s.0.room c) in
         let w_in : (j : ℕ) → IsFirst j first → Knows (inside m j (length first) ∷ ss) names renamed scope_in =

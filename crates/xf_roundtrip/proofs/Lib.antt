@@ -1,5 +1,6 @@
 pub mod Again
 pub mod Entries
+pub mod Functions
 pub mod Heads
 pub mod Laws
 pub mod Meaning
