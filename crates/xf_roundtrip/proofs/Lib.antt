@@ -1,8 +1,10 @@
 pub mod Again
+pub mod Dictionaries
 pub mod Entries
 pub mod Functions
 pub mod Heads
 pub mod Laws
+pub mod Literals
 pub mod Meaning
 pub mod Names
 pub mod Right
