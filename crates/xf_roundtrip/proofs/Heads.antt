@@ -1,5 +1,5 @@
 -- What the tokens of a head mean is what they say in bytes.
-use Rattle.std.proofs.Common.{◌≡◌, ℕ, ◌+◌, Bool, true, false, cond, List, [], ◌∷◌, drop, Option, Some, None, refl, sym, ap, ◌∙◌, slice_get}
+use Rattle.std.proofs.Common.{◌≡◌, ℕ, ◌+◌, Bool, true, false, List, [], ◌∷◌, drop, Option, Some, None, refl, sym, ap, ◌∙◌, slice_get}
 use Rattle.std.specs.Prelude.{All, map, is_some, option_map}
 use Rattle.std.proofs.lemmas.List.Elements.{All-head, All-tail}
 use Rattle.xf_type.specs.declared.attribute.AttrValue.TheVariants as attr
@@ -228,12 +228,11 @@ with_results_are all n ts [] scope w = refl
 with_results_are all n ts (r ∷ rs) scope w = ap (λ name. with_name name (results_named n r.count ts) scope) (name_is all r.token (All-head (NameOf all) r rs w))
 
 -- the symbol that stands for a function
-pub SymbolNamed : List Token → Option ℕ → Option (List ℕ) → Type 0
+abbrev pub SymbolNamed : List Token → Option ℕ → Option (List ℕ) → Type 0
 SymbolNamed all None s = s ≡ None
 SymbolNamed all (Some at) s = s ≡ Some (text all at)
 
 pub function_is : (r : Row) (all : List Token) (s : Option ℕ) → SymbolOf all s → SymbolNamed all (function_symbol r s) (function_named r (option_map (text_at all) s))
-unfolding SymbolNamed
 function_is row.Function all None w = refl
 function_is row.Function all (Some at) w = ap Some (sym (symbol_is all at w))
 function_is row.Module all s w = refl
@@ -249,7 +248,6 @@ function_is row.If all s w = refl
 function_is row.Yield all s w = refl
 
 with_symbol_is : (all : List Token) (n : ℕ) (at : Option ℕ) (s : Option (List ℕ)) (scope : Scope) → SymbolNamed all at s → with_symbol all n at scope ≡ with_function n s scope
-unfolding SymbolNamed
 with_symbol_is all n None s scope e = ap (λ x. with_function n x scope) (sym e)
 with_symbol_is all n (Some at) s scope e = ap (λ x. with_function n x scope) (sym e)
 

@@ -1,5 +1,5 @@
 -- A text means what it says.
-use Rattle.std.proofs.Common.{◌≡◌, ℕ, ◌+◌, Bool, true, List, refl, sym, ap, ◌∙◌}
+use Rattle.std.proofs.Common.{◌≡◌, ◌+◌, List, [], sym, ap, ◌∙◌}
 use Rattle.std.specs.Prelude.{map}
 use Rattle.xf_lex.specs.declared.token.Token.{Token}
 use Rattle.xf_lex.proofs.LaidLemmas.{laid_again}
@@ -9,8 +9,8 @@ use Rattle.xf_read_base.specs.declared.parts.Parts.{Parts}
 use Rattle.xf_read_base.specs.Parts.{said}
 use Rattle.xf_read.specs.declared.tree.File.{File}
 use Rattle.xf_read.specs.Laws.{IsText}
-use Rattle.xf_read.specs.Meant.{meant, file_faults}
-use Rattle.xf_read.specs.Names.{op_name, bodies_count, head_faults, bodies_faults}
+use Rattle.xf_read.specs.Meant.{file_faults}
+use Rattle.xf_read.specs.Names.{op_name, head_faults, bodies_faults}
 use Rattle.xf_read.specs.Names.{inside as inside_tokens}
 use Rattle.xf_read.specs.Scopes.{no_names}
 use Rattle.xf_read.specs.Written.{file_said, bodies_said}
@@ -54,11 +54,11 @@ tokens_are_right all file text =
 pub texts_mean : TextsMeanWhatTheySay
 texts_mean ws ns stay utf8 written well =
     let l = laid_again ws [] stay utf8 in
-    let r = texts_read_again l.0 (seen_plains (map (λ w. w.token) ws)) ns (laid_stand l.0 (map (λ w. w.token) ws) l.1.1) written in
+    let r = texts_read_again l.0 (seen_plains (map (λ w. w.token) ws)) ns (laid_stand l.0 (map (λ w. w.token) ws) l.2) written in
     record {
       tokens = l.0;
       file = r.0;
-      lexes = l.1.0;
+      lexes = l.1;
       is_text = r.1.0;
       no_fault = (tokens_are_right l.0 r.0 r.1.0).1 (ap said_well r.1.1 ∙ well);
       means = tokens_mean l.0 r.0 r.1.0 ∙ ap said_meant r.1.1;

@@ -1,4 +1,17 @@
+pub mod Again
+pub mod Dictionaries
+pub mod Entries
+pub mod Functions
 pub mod Heads
+pub mod Lays
 pub mod Laws
+pub mod Lines
+pub mod Literals
 pub mod Meaning
+pub mod Names
+pub mod Pieces
 pub mod Right
+pub mod RowTexts
+pub mod Strings
+pub mod Suits
+pub mod Written

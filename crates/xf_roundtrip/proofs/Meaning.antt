@@ -1,22 +1,21 @@
 -- What the tokens of a text mean is what they say in bytes.
-use Rattle.std.proofs.Common.{◌≡◌, ℕ, ◌+◌, Bool, true, false, cond, List, refl, sym, ap, ◌∙◌, arith}
+use Rattle.std.proofs.Common.{◌≡◌, ℕ, ◌+◌, Bool, true, false, ◌&&◌, not, cond, List, refl, sym, ap, ◌∙◌, arith}
 use Rattle.xf_lex.specs.declared.token.Token.{Token}
 use Rattle.xf_read_base.specs.declared.parts.Parts.{Parts}
 use Rattle.xf_read_base.specs.Parts.{said}
 use Rattle.xf_ir.specs.Tree.{no_ops, op, region, cons}
 use Rattle.xf_read.specs.declared.tree.File.{File}
-use Rattle.xf_read.specs.Meant.{joined, yield_tree, nodes_meant, bodies_meant, tree_meant}
+use Rattle.xf_read.specs.Meant.{joined, yield_tree, nodes_meant, bodies_meant}
 use Rattle.xf_read.specs.Meant.{left_out as left_out_tokens}
 use Rattle.xf_read.specs.Names.{op_name, yield_count, nodes_count, bodies_count}
 use Rattle.xf_read.specs.Names.{inside as inside_tokens, behind as behind_tokens}
-use Rattle.xf_read.specs.Scopes.{Scope, no_names}
-use Rattle.xf_read.specs.Syntax.{ends_open, ends_in_yield, lacks_yield}
+use Rattle.xf_read.specs.Scopes.{Scope}
+use Rattle.xf_read.specs.Syntax.{ends_open, lacks_yield}
 use Rattle.xf_read.specs.Tree.{Nodes, no_nodes, node, Bodies, no_bodies, body}
-use Rattle.xf_read.specs.Written.{nodes_said, bodies_said, says_yield_last, operations, left_out, operations_inside}
+use Rattle.xf_read.specs.Written.{nodes_said, bodies_said, operations, left_out, operations_inside}
 use Rattle.xf_read.proofs.OfKind.{Inside, NodesOf, BodiesOf, FunctionsOf, RootOf, FileOf}
 use Rattle.xf_read.proofs.ReadAgain.{yield_last, left_is}
-use Rattle.xf_roundtrip.specs.Saying.{inside, behind}
-use Rattle.xf_roundtrip.specs.SaidMeant.{yield_said, ops_said, regions_said, tree_said}
+use Rattle.xf_roundtrip.specs.SaidMeant.{yield_said, ops_said, regions_said}
 use Rattle.xf_roundtrip.proofs.Heads.{operands_are, results_are, args_are, attrs_are, kind_is, inside_is, behind_is}
 
 -- ---- numbers of operations

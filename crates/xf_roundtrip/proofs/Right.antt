@@ -1,5 +1,5 @@
 -- No check of names or types finds a fault exactly where what the tokens say is right.
-use Rattle.std.proofs.Common.{◌≡◌, ℕ, ◌+◌, ◌==◌, min, Bool, true, false, ◌&&◌, not, cond, List, [], ◌∷◌, length, Option, Some, None, refl, sym, ap, ◌∙◌, slice_get}
+use Rattle.std.proofs.Common.{◌≡◌, ℕ, ◌+◌, ◌==◌, Bool, true, false, ◌&&◌, not, cond, List, [], ◌∷◌, length, Option, Some, None, refl, sym, ap, ◌∙◌, slice_get}
 use Rattle.std.specs.Prelude.{All, map, is_some, option_map}
 use Rattle.std.proofs.lemmas.List.{length-map}
 use Rattle.std.proofs.lemmas.List.Elements.{All-head, All-tail}
@@ -13,12 +13,12 @@ use Rattle.xf_ir.specs.Lists.{every}
 use Rattle.xf_read.specs.declared.faults.Faults.{Faults}
 use Rattle.xf_read.specs.Names.{earlier, no_faults, with_faults, yield_count, nodes_count, bodies_count, argument_named, function_symbol, undefined_in, visible_at, symbol_twice, results_twice, args_twice, also, entries_twice, names_twice, twice, operands_fit, results_fit, agrees, head_faults, nodes_faults, bodies_faults}
 use Rattle.xf_read.specs.Names.{inside as inside_tokens, behind as behind_tokens}
-use Rattle.xf_read.specs.Scopes.{text, Scope, with_name, means, type_used}
+use Rattle.xf_read.specs.Scopes.{text, Scope, with_name, means}
 use Rattle.xf_read.specs.Tree.{Nodes, no_nodes, node, Bodies, no_bodies, body}
-use Rattle.xf_read.specs.Types.{results_by, args_by, operands_by, stated_by, fits}
+use Rattle.xf_read.specs.Types.{results_by, args_by, fits}
 use Rattle.xf_read.specs.Written.{nodes_said, bodies_said}
-use Rattle.xf_read.proofs.OfKind.{IsOf, SymbolOf, EntryOf, NameOf, UseOf, Inside, NodesOf, FunctionsOf}
-use Rattle.xf_roundtrip.specs.Saying.{use_means, shape, result_types, argument_types, function_named, inside, behind}
+use Rattle.xf_read.proofs.OfKind.{EntryOf, NameOf, UseOf, Inside, NodesOf, FunctionsOf}
+use Rattle.xf_roundtrip.specs.Saying.{use_means, result_types, function_named}
 use Rattle.xf_roundtrip.specs.SaidWell.{entries_once, is_new, symbol_new, defines_new, arguments_new, names_once, uses_fit, defines_fit, types_agree, head_well, nodes_well, bodies_well}
 use Rattle.xf_roundtrip.proofs.Heads.{word_is, name_is, means_is, type_is, results_are, args_are, operands_by_are, stated_are, SymbolNamed, function_is, inside_is, behind_is}
 use Rattle.xf_roundtrip.proofs.Meaning.{bodies_counted, body_counted, open_bodies}
@@ -114,7 +114,7 @@ entries_free all names (e ∷ es) w =
     ∙ ap (λ name. not (names name) && entries_once (also name names) (map (entry_said all) es)) a
 
 symbol_free : (all : List Token) (scope : Scope) (at : Option ℕ) (s : Option (List ℕ)) → SymbolNamed all at s → free (symbol_twice all scope at) ≡ symbol_new scope s
-unfolding free SymbolNamed
+unfolding free
 symbol_free all scope None s e = ap (symbol_new scope) (sym e)
 symbol_free all scope (Some at) s e = visible_free all scope at (text all at) refl ∙ ap (symbol_new scope) (sym e)
 
@@ -170,7 +170,7 @@ agrees_is all p scope w =
 -- ---- all operations
 
 pub head_faultless : (all : List Token) (n first : ℕ) (p : Parts) (scope : Scope) → Inside all p → faultless (head_faults all n first p scope) ≡ head_well n (said all p) scope
-unfolding faultless
+unfolding free faultless
 head_faultless all n first p scope w =
     let a = uses_free all scope p.uses w.1.1.1.1.1 in
     let b = twice_free all n p scope w in
@@ -178,7 +178,6 @@ head_faultless all n first p scope w =
     λ i. a i && (b i && c i)
   where
     agree : (b : Bool) (at : ℕ) → free (cond b None (Some at)) ≡ b
-    unfolding free
     agree true at = refl
     agree false at = refl
 

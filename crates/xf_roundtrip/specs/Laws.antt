@@ -1,5 +1,5 @@
 -- A text means what it says.
-use Rattle.std.specs.Prelude.{◌≡◌, ◌↔◌, ℕ, List, [], map, false, true}
+use Rattle.std.specs.Prelude.{◌≡◌, ◌↔◌, List, [], map, false, true}
 use Rattle.std.specs.Str.{IsUtf8}
 use Rattle.xf_lex.specs.declared.token.Token.{Token}
 use Rattle.xf_lex.specs.Laid.{Piece, laid, AllStay}

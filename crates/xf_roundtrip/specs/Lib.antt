@@ -1,5 +1,9 @@
 pub mod Laws
+pub mod Layout
+pub mod Naming
 pub mod Printing
+pub mod Renamed
 pub mod SaidMeant
+pub mod SaidPrinted
 pub mod SaidWell
 pub mod Saying

@@ -1,5 +1,5 @@
 -- The module that a text means by what its heads say. Operations are named from 0 in preorder, and the module is 0.
-use Rattle.std.specs.Prelude.{ℕ, ◌+◌, List, [], ◌∷◌, map, Bool, not, ◌&&◌, if◌then◌else◌}
+use Rattle.std.specs.Prelude.{ℕ, ◌+◌, map, not, ◌&&◌, if◌then◌else◌}
 use Rattle.xf_read_base.specs.Laws.{nothing_said}
 use Rattle.xf_read_base.specs.Parts.{Said}
 use Rattle.xf_ir.specs.declared.op.Module.{Module}

@@ -2,7 +2,6 @@
 -- numbers that are stated are those of the values.
 use Rattle.std.specs.Prelude.{ℕ, ◌+◌, ◌==◌, ◌&&◌, List, [], ◌∷◌, length, Option, Some, None, Bool, true, false, not, is_some, slice_get}
 use Rattle.xf_type.specs.declared.payload_type.PayloadType.{PayloadType}
-use Rattle.xf_read_base.specs.declared.row.Row.{Row}
 use Rattle.xf_read_base.specs.Parts.{UseSaid, DefineSaid, EntrySaid, Said}
 use Rattle.xf_ir.specs.Lists.{every}
 use Rattle.xf_read.specs.Names.{argument_named, also}
