@@ -1,6 +1,8 @@
 pub mod Again
 pub mod Dictionaries
 pub mod Entries
+pub mod Fitted
+pub mod Fitting
 pub mod Functions
 pub mod Heads
 pub mod Lays
