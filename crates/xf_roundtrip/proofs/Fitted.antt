@@ -14,14 +14,16 @@ use Rattle.xf_ir.specs.declared.op.Module.{Module}
 use Rattle.xf_ir.specs.Kinds.{ends, ends_for, is_container, is_function, is_module, returned_types}
 use Rattle.xf_ir.specs.Lists.{Each, every, Once}
 use Rattle.xf_ir.specs.Places.{Seen, done, inside, place_of, results_of, args_of, below, sees, AllSeen}
-use Rattle.xf_ir.specs.Placed.{Typed, type_at, Holder, holder_of, Placed, place, placed, functions_of, block_of, root_holder}
+use Rattle.xf_ir.specs.Placed.{Typed, type_at, Holder, holder_of, Placed, place, placed, top, functions_of, block_of, root_holder}
 use Rattle.xf_ir.specs.Calls.{Signatures, signatures}
 use Rattle.xf_ir.specs.RuleAttributes.{kind_fits, attributes_fit, has_its_attributes}
 use Rattle.xf_ir.specs.RuleBlocks.{block_args, blocks_fit, has_its_regions, is_end, ends_its_blocks, stands_at_end, blocks_end}
 use Rattle.xf_ir.specs.RuleTypes.{has_its_types}
+use Rattle.xf_ir.specs.RuleTypes.{row_of as type_row}
+use Rattle.std.proofs.lemmas.List.{length-map}
 use Rattle.xf_ir.specs.Tree.{Ops, no_ops, op, Regions, no_regions, region, Tree}
 use Rattle.xf_ir.specs.Types.{same_types, have_types}
-use Rattle.xf_ir.specs.Valid.{OpsInner, RegionsInner, FunctionsAlone, OpsSee, RegionsSee, FunctionsSee, IsValid}
+use Rattle.xf_ir.specs.Valid.{OpsInner, RegionsInner, FunctionsAlone, BlocksAlone, OpsSee, RegionsSee, FunctionsSee, IsValid}
 use Rattle.xf_ir.specs.Walk.{ops_names, regions_names, tree_names}
 use Rattle.xf_ir.proofs.Lists.{once_left, once_right}
 use Rattle.xf_ir.proofs.Obeys.{OpsObey, RegionsObey, FunctionsObey, BlocksObey, blocks_obey}
@@ -103,14 +105,13 @@ rules_of sigs (x ∷ xs) a b c d e = (record { regions = a.0; blocks = b.0; type
 
 -- an operation that keeps the rules fits, where its entry and its operands are known
 op_fits : (names : Names) (sigs : Signatures) (h : Holder) (env : Typed) (n : OpName) (k : Kind) (ds : List Attr) (os : List ValueName) (ts : List PayloadType) (rs : Regions) (after rest : Ops)
-    → Rules sigs (place h env (record { name = n; kind = k; attrs = ds; operands = os; results = ts; regions = rs }) after) → is_end after ≡ is_end rest → Each (Known names) os → Each (λ (d : Attr). AreBytes d.value) ds → length os < 2 ^ 32 → length ts < 2 ^ 32
+    → Rules sigs (place h env (record { name = n; kind = k; attrs = ds; operands = os; results = ts; regions = rs }) after) → (not (ends k) || is_end rest) ≡ true → Each (Known names) os → Each (λ (d : Attr). AreBytes d.value) ds → length os < 2 ^ 32 → length ts < 2 ^ 32
     → number_of (names.entry n.0) < 2 ^ 32 → first_of (names.entry n.0) + length (first_args rs) < 2 ^ 32 → Fits names n k ds os ts rs rest
-op_fits names sigs h env n k ds os ts rs after rest r same values bytes so st number first =
+op_fits names sigs h env n k ds os ts rs after rest r last values bytes so st number first =
     let at = and_parts (kind_fits k) (attributes_fit ds) r.attributes in
     let c = and_parts (is_core k) _ r.core in
     let d = and_parts (all_scalar ts) _ c.1 in
     let e = and_parts (all_scalar (returned_types k)) (every all_scalar (block_args rs)) d.1 in
-    let b = and_parts (blocks_end k rs) _ r.blocks in
     record {
       core = c.0;
       kind_fit = at.0;
@@ -124,13 +125,16 @@ op_fits names sigs h env n k ds os ts rs after rest r same values bytes so st nu
       number = omega arith;
       first = omega arith;
       many = omega arith;
-      last = subst (λ x. (not (ends k) || x) ≡ true) same (last_of (not (ends k)) (is_end after) (ends_for h.kind k) b.1);
+      last = last;
     }
-  where
-    last_of : (a b c : Bool) → (a || (b && c)) ≡ true → (a || b) ≡ true
-    last_of true b c e = refl
-    last_of false true c e = refl
-    last_of false false c e = e
+
+last_of : (a b c : Bool) → (a || (b && c)) ≡ true → (a || b) ≡ true
+last_of true b c e = refl
+last_of false true c e = refl
+last_of false false c e = e
+
+last_right : (sigs : Signatures) (p : Placed) → Rules sigs p → (not (ends p.tree.kind) || is_end p.after) ≡ true
+last_right sigs p r = last_of (not (ends p.tree.kind)) (is_end p.after) (ends_for p.holder.kind p.tree.kind) (and_parts (blocks_end p.tree.kind p.tree.regions) _ r.blocks).1
 
 -- ---- operations
 
@@ -160,7 +164,7 @@ mutual
       let nk = number_is names n k a ts (first_args rs) x in
       let na = first_is names n k a ts (first_args rs) x in
       let few = st.1.0 in
-      let f = op_fits names sigs h env n kd ds os ts rs rest rest o.0 refl (all_known ss names os w s.0) st.1.1.0 st.0 (omega (arith, few)) (omega (arith, m0, m1, m2, nk)) (omega (arith, l1, l2, na)) in
+      let f = op_fits names sigs h env n kd ds os ts rs rest rest o.0 (last_right sigs _ o.0) (all_known ss names os w s.0) st.1.1.0 st.0 (omega (arith, few)) (omega (arith, m0, m1, m2, nk)) (omega (arith, l1, l2, na)) in
       let inner = λ (j c : ℕ) (le : c ≤ length (first_args rs)). (let z : Sees (inside n j c ∷ ss) names = record { by = inside_known names ss n j c k a ts (first_args rs) x (omega (arith, l1, l2)) f.args le w } in z) in
       let after : Sees (done n (length ts) ∷ ss) names = record { by = done_known names ss n k a ts (first_args rs) x (omega (arith, m0, m1, m2)) (omega (arith, few)) f.results w } in (
         i.0,
@@ -183,3 +187,111 @@ mutual
         ops_fit names sigs ops h _ (inside n i (length args) ∷ ss) k a o.0 s.0 inner.0 st.0 en.0 (omega (arith, m)) (omega (arith, l)) (w i (length args) nr.0),
         regions_fit names sigs rest n h env ss (suc i) count (ops_number k ops) (ops_argument a ops) o.1 s.1 inner.1 st.1 en.1 kl al nr.1 w,
       )
+
+-- ---- functions
+
+mutual
+  number_after : (names : Names) (ops : Ops) → (with_ops names ops).number ≡ ops_number names.number ops
+  number_after names no_ops = refl
+  number_after names (op n k ds os ts rs rest) =
+      number_after (with_regions (with_op n ts (first_args rs) names) rs) rest ∙ ap (λ i. ops_number i rest) (number_within (with_op n ts (first_args rs) names) rs)
+
+  number_within : (names : Names) (rs : Regions) → (with_regions names rs).number ≡ regions_number names.number rs
+  number_within names no_regions = refl
+  number_within names (region args ops rest) = number_within (with_ops names ops) rest ∙ ap (λ i. regions_number i rest) (number_after names ops)
+
+mutual
+  argument_after : (names : Names) (ops : Ops) → (with_ops names ops).argument ≡ ops_argument names.argument ops
+  argument_after names no_ops = refl
+  argument_after names (op n k ds os ts rs rest) =
+      argument_after (with_regions (with_op n ts (first_args rs) names) rs) rest ∙ ap (λ i. ops_argument i rest) (argument_within (with_op n ts (first_args rs) names) rs)
+
+  argument_within : (names : Names) (rs : Regions) → (with_regions names rs).argument ≡ regions_argument names.argument rs
+  argument_within names no_regions = refl
+  argument_within names (region args ops rest) = argument_within (with_ops names ops) rest ∙ ap (λ i. regions_argument i rest) (argument_after names ops)
+
+each_same : (f : OpName → Option Entry) (ns : List OpName) → Each (λ n. f n ≡ f n) ns
+each_same f [] = tt
+each_same f (n ∷ ns) = (refl, each_same f ns)
+
+none_by_length : {A : Type 0} (xs : List A) → length xs ≡ 0 → xs ≡ []
+none_by_length [] e = refl
+none_by_length (x ∷ xs) e = absurd (omega arith)
+
+-- the entries of one function
+function_entered : (n : OpName) (k : Kind) (ds : List Attr) (os : List ValueName) (ts : List PayloadType) (rs : Regions) (rest : Ops) → Once (ops_names (op n k ds os ts rs rest)) → Entered (with_ops no_names (op n k ds os ts rs no_ops)) 0 0 (op n k ds os ts rs no_ops)
+function_entered n k ds os ts rs rest once =
+    let f : Ops = op n k ds os ts rs no_ops in
+    let one : Once (n ∷ regions_names rs) = once_left (n ∷ regions_names rs) (ops_names rest) once in
+    let same : n ∷ regions_names rs ≡ n ∷ (regions_names rs ++ []) = ap (λ x. n ∷ x) (sym (append-nil (regions_names rs))) in
+    ops_entered f no_names (with_ops no_names f) (subst Once same one) (each_same (λ m. (with_ops no_names f).entry m.0) (ops_names f))
+
+pub functions_fit : (sigs : Signatures) (fs : Ops) (h : Holder) → FunctionsObey (Rules sigs) h fs → FunctionsSee fs → FunctionsAlone fs → FunctionsStored fs → Once (ops_names fs) → FunctionsFit fs
+functions_fit sigs no_ops h o s i st once = tt
+functions_fit sigs (op n (kind.Func symbol private results) ds os ts rs rest) h o s i st once =
+    let k = kind.Func symbol private results in
+    let f : Ops = op n k ds os ts rs no_ops in
+    let names : Names = with_ops no_names f in
+    let en = function_entered n k ds os ts rs rest once in
+    let x : HasEntry names n 0 0 ts (first_args rs) = en.0 in
+    let stored = st.0 in
+    let kl : ops_number 0 f < 2 ^ 32 = subst (λ i. i < 2 ^ 32) (number_after no_names f) st.1.0 in
+    let al : ops_argument 0 f < 2 ^ 32 = subst (λ i. i < 2 ^ 32) (argument_after no_names f) st.1.1.0 in
+    let l1 = regions_argument_more (0 + length (first_args rs)) rs in
+    let nk = number_is names n 0 0 ts (first_args rs) x in
+    let na = first_is names n 0 0 ts (first_args rs) x in
+    let few = stored.1.0 in
+    let types = and_parts (have_types (map (type_at []) os) []) (same_types ts []) (o.0).types in
+    let fit = op_fits names sigs h [] n k ds os ts rs rest no_ops o.0 refl (all_known [] names os (sees_nothing names) s.0) stored.1.1.0 stored.0 (omega (arith, few)) (omega (arith, nk)) (omega (arith, l1, na, al)) in
+    let inner = λ (j c : ℕ) (le : c ≤ length (first_args rs)). (let z : Sees (inside n j c ∷ []) names = record { by = inside_known names [] n j c 0 0 ts (first_args rs) x (omega (arith, l1, al)) fit.args le (sees_nothing names) } in z) in (
+      none_by_length ts (same_length _ ts [] types.1),
+      (
+        fit,
+        (
+          regions_fit names sigs rs n (holder_of k (map (type_at []) os) ts) [] [] 0 (length (first_args rs)) (next_number 0 ts) (0 + length (first_args rs)) o.1.0 s.1.0 i.1.0 stored.1.1.1.0 en.1.0 kl al
+          (narrow k (map (type_at []) os) ts rs refl (o.0).regions) inner,
+          functions_fit sigs rest h o.1.1 s.1.1 i.1.1 st.1.1.1 (once_right (n ∷ regions_names rs) (ops_names rest) once),
+        ),
+      ),
+    )
+functions_fit sigs (op n k ds os ts rs rest) h o s i st once = let f = i.0 in absurd cc
+
+-- ---- the module
+
+module_kind : (k : Kind) → is_module k ≡ true → (symbol : Option (List ℕ)) × (k ≡ kind.Module symbol)
+module_kind (kind.Module symbol) e = (symbol, refl)
+module_kind k e = absurd cc
+
+root_empty : (sigs : Signatures) (k : Kind) (symbol : Option (List ℕ)) (os : List (Option PayloadType)) (ts : List PayloadType) → k ≡ kind.Module symbol → type_row sigs [] k os ts ≡ true → (length os ≡ 0) × (ts ≡ [])
+root_empty sigs k symbol os ts e h =
+    let f = subst (λ x. type_row sigs [] x os ts ≡ true) e h in
+    let p = and_parts (have_types os []) (same_types ts []) f in
+    (have_length os [] p.0, none_by_length ts (same_length _ ts [] p.1))
+
+no_end_at_root : (k : Kind) (symbol : Option (List ℕ)) → k ≡ kind.Module symbol → (not (ends k) || true) ≡ true
+no_end_at_root k symbol e = ap (λ x. not (ends x) || true) e
+
+pub module_fits : (m : Module) → IsValid m → IsCore m → IsStored m → ModuleFits m
+module_fits m v core st =
+    let t = m.root in
+    let sigs = signatures m in
+    let h = root_holder t in
+    let rules = rules_of sigs (placed m) v.regions v.blocks v.types v.attributes core in
+    let k = module_kind t.kind v.functions.root in
+    let empty = root_empty sigs t.kind k.0 (map (type_at []) t.operands) t.results k.1 v.types.0 in
+    let one : t.regions ≡ region [] (block_of t.regions) no_regions = one_block t.kind v.functions.root (map (type_at []) t.operands) t.results t.regions v.regions.0 in
+    let obey = blocks_obey (Rules sigs) h t.regions rules.1 in
+    let functions = subst (λ rs. BlocksObey (Rules sigs) h rs) one obey in
+    let alone = subst BlocksAlone one v.functions.alone in
+    let once : Once (ops_names (block_of t.regions) ++ []) = subst (λ rs. Once (regions_names rs)) one v.names.once.1 in
+    let no_args : length (first_args t.regions) ≡ 0 = ap (λ rs. length (first_args rs)) one in
+    let no_operands = sym (length-map t.operands (type_at [])) ∙ empty.0 in
+    let no_results = ap length empty.1 in
+    record {
+      symbol = k.0;
+      kind_is = k.1;
+      no_results = empty.1;
+      root = op_fits no_names sigs top [] t.name t.kind t.attrs t.operands t.results t.regions no_ops no_ops rules.0 (no_end_at_root t.kind k.0 k.1) (all_known [] no_names t.operands (sees_nothing no_names) v.uses.root) st.attrs
+          (omega (arith, no_operands)) (omega (arith, no_results)) (omega arith) (omega (arith, no_args));
+      functions = functions_fit sigs (functions_of m) h functions.0 v.uses.functions alone.0 st.functions (once_left (ops_names (block_of t.regions)) [] once);
+    }
