@@ -172,7 +172,7 @@ mutual
           f,
           (
             regions_fit names sigs rs n (holder_of kd (map (type_at env) os) ts) env ss 0 (length (first_args rs)) k1 a1 o.1.0 s.1.0 i.1.0 st.1.1.1.0 en.1.0 (omega (arith, m2)) (omega (arith, l2))
-            (narrow kd (map (type_at env) os) ts rs f.core (o.0).regions) inner,
+                (narrow kd (map (type_at env) os) ts rs f.core (o.0).regions) inner,
             ops_fit names sigs rest h _ (done n (length ts) ∷ ss) (regions_number k1 rs) (regions_argument a1 rs) o.1.1 s.1.1 i.1.1 st.1.1.1.1 en.1.1 kl al after,
           ),
         ),
@@ -249,7 +249,7 @@ functions_fit sigs (op n (kind.Func symbol private results) ds os ts rs rest) h 
         fit,
         (
           regions_fit names sigs rs n (holder_of k (map (type_at []) os) ts) [] [] 0 (length (first_args rs)) (next_number 0 ts) (0 + length (first_args rs)) o.1.0 s.1.0 i.1.0 stored.1.1.1.0 en.1.0 kl al
-          (narrow k (map (type_at []) os) ts rs refl (o.0).regions) inner,
+              (narrow k (map (type_at []) os) ts rs refl (o.0).regions) inner,
           functions_fit sigs rest h o.1.1 s.1.1 i.1.1 st.1.1.1 (once_right (n ∷ regions_names rs) (ops_names rest) once),
         ),
       ),

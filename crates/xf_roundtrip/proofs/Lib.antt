@@ -12,6 +12,7 @@ pub mod Literals
 pub mod Meaning
 pub mod Names
 pub mod Pieces
+pub mod PrintedLaid
 pub mod Right
 pub mod RowTexts
 pub mod Strings

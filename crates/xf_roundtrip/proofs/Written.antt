@@ -192,7 +192,7 @@ node_written l names n k ds os ts rs rest said at core attrs begins suit inner m
                     subst (λ x. BodiesWritten x (at + length head) (regions_tokens names rs) (first_seen (tail_tokens k ds ++ rest) (mark close_brace)) (bodies_printed names rs)) r inner,
                     (
                       subst (λ x. TailWritten (has_tail x) (at + length head + length (regions_tokens names rs)) (tail_tokens k ds) (first_seen rest (mark close_brace)) h (tail_says k ds h)) r
-                      (tail_written k ds _ _ h core attrs begins.no_brace),
+                          (tail_written k ds _ _ h core attrs begins.no_brace),
                       more,
                     ),
                   ),
@@ -323,7 +323,7 @@ root_written n symbol ds os rs fs attrs values f =
                           head_writes level.File None row.Module ps 0 (mark open_brace) nothing_said suit,
                           (
                             subst (λ x. BodiesWritten x (0 + length head) body the_end (body_said (functions_printed fs) no_bodies_said)) r
-                            (refl, (body, ([], (sym (append-nil body), ((functions_tokens fs, (refl, functions_written fs _ f)), (refl, refl)))))),
+                                (refl, (body, ([], (sym (append-nil body), ((functions_tokens fs, (refl, functions_written fs _ f)), (refl, refl)))))),
                             (subst (λ x. TailWritten (has_tail x) (0 + length head + length body) [] the_end h h) r (refl, refl), refl),
                           ),
                         ),

@@ -33,7 +33,7 @@ use Rattle.xf_roundtrip.specs.Printing.{dictionary_piece, is_core, row_of, piece
 abbrev pub head_tokens : Names → Tree → List Seen
 head_tokens names t =
     head_written (results_of (number_of (names.entry t.name.0)) t.results) (row_of t.kind)
-        (pieces_of names (first_of (names.entry t.name.0)) (first_args t.regions) t.kind t.attrs t.operands t.results)
+    (pieces_of names (first_of (names.entry t.name.0)) (first_args t.regions) t.kind t.attrs t.operands t.results)
 
 -- the attributes behind the bodies
 abbrev pub tail_tokens : Kind → List Attr → List Seen

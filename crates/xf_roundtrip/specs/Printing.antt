@@ -237,7 +237,7 @@ abbrev pub op_says : Names → Tree → Said
 op_says names t =
     tail_says t.kind t.attrs
     (head_says (results_of (number_of (names.entry t.name.0)) t.results) (row_of t.kind)
-        (pieces_of names (first_of (names.entry t.name.0)) (first_args t.regions) t.kind t.attrs t.operands t.results) nothing_said)
+    (pieces_of names (first_of (names.entry t.name.0)) (first_args t.regions) t.kind t.attrs t.operands t.results) nothing_said)
 
 abbrev mutual
   -- a yield without operands and attributes is left out
@@ -256,7 +256,7 @@ abbrev pub functions_printed : Ops → SaidNodes
 functions_printed no_ops = no_nodes_said
 functions_printed (op n k ds os ts rs rest) =
     node_said (op_says (with_ops no_names (op n k ds os ts rs no_ops)) (record { name = n; kind = k; attrs = ds; operands = os; results = ts; regions = rs }))
-        (bodies_printed (with_ops no_names (op n k ds os ts rs no_ops)) rs) (functions_printed rest)
+    (bodies_printed (with_ops no_names (op n k ds os ts rs no_ops)) rs) (functions_printed rest)
 
 -- what the printed form of a module says
 abbrev pub module_printed : Module → SaidNodes

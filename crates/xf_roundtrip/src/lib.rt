@@ -3,5 +3,7 @@
 #![tactic(auto)]
 
 mod law;
+mod layout;
 
 pub use law::{texts_mean_what_they_say, tokens_mean_what_they_say};
+pub use layout::printed_form_is_laid;

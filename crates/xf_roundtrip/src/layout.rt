@@ -1,0 +1,8 @@
+//! What holds of the printed form of all modules.
+ghost use Rattle.xf_roundtrip.specs.PrintedLaws.{PrintedIsLaid};
+
+/// The printed form of a valid module of `builtin`, `func`, `arith` on scalars and `scf` is laid
+/// out of tokens that the grammar of payloads writes.
+pub fn printed_form_is_laid()
+    ensures { PrintedIsLaid }
+{}
