@@ -202,7 +202,7 @@ module_again renamed m so =
     let means_in : ops_said 1 scope ns ≡ ops_renamed renamed fs = ap (λ names. ops_said 1 names ns) e ∙ f.means in
     let fargs = ap first_args so.regions in
     let r : printed_said m ≡ node_said t (body_said (functions_printed (block_of m.root.regions)) no_bodies_said) no_nodes_said =
-    ap (λ xs. node_said (head_by no_numbers 0 0 m.root.kind m.root.attrs m.root.operands m.root.results xs) (body_said (functions_printed (block_of m.root.regions)) no_bodies_said) no_nodes_said) fargs in
+          ap (λ xs. node_said (head_by no_numbers 0 0 m.root.kind m.root.attrs m.root.operands m.root.results xs) (body_said (functions_printed (block_of m.root.regions)) no_bodies_said) no_nodes_said) fargs in
     let p : printed_said m ≡ node_said t bs no_nodes_said = r ∙ ap (λ rs. node_said t (body_said (functions_printed (block_of rs)) no_bodies_said) no_nodes_said) so.regions in
     let x0 = sym so.root in
     let x1 = says.kind_is in
