@@ -1,6 +1,7 @@
 pub mod Again
 pub mod Dictionaries
 pub mod Entries
+pub mod Fits
 pub mod Functions
 pub mod Heads
 pub mod Laws
@@ -8,3 +9,4 @@ pub mod Literals
 pub mod Meaning
 pub mod Names
 pub mod Right
+pub mod Says
