@@ -62,7 +62,7 @@ abbrev mutual
   regions_argument a no_regions = a
   regions_argument a (region args ops rest) = regions_argument (ops_argument a ops) rest
 
-number_more : (k : ℕ) (ts : List PayloadType) → k ≤ next_number k ts
+pub number_more : (k : ℕ) (ts : List PayloadType) → k ≤ next_number k ts
 number_more k [] = omega arith
 number_more k (t ∷ ts) = omega arith
 

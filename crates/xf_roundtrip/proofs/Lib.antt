@@ -8,5 +8,7 @@ pub mod Laws
 pub mod Literals
 pub mod Meaning
 pub mod Names
+pub mod Operations
 pub mod Right
 pub mod Says
+pub mod Yields

@@ -21,10 +21,11 @@ use Rattle.xf_ir.specs.Tree.{Regions, no_regions, region}
 use Rattle.xf_ir.specs.Types.{have_types, same_types}
 use Rattle.xf_read.specs.Types.{operands_by}
 use Rattle.xf_print.specs.Names.{Names, first_args, type_of}
+use Rattle.xf_roundtrip.specs.Printable.{HasBytes}
 use Rattle.xf_roundtrip.specs.Saying.{shape, kind_said, result_types, argument_types, function_named}
 use Rattle.xf_roundtrip.specs.SaidPrinted.{head_by, row_of, has_row, symbol_printed, known_types}
 use Rattle.xf_roundtrip.proofs.Again.{all_fit, SaysIt}
-use Rattle.xf_roundtrip.proofs.Dictionaries.{HasBytes, attrs_again, entries_differ}
+use Rattle.xf_roundtrip.proofs.Dictionaries.{attrs_again, entries_differ}
 use Rattle.xf_roundtrip.proofs.Fits.{types_are, lists_are, have_is, width_self, known_are, fit_all, count_is, loop_stated}
 use Rattle.xf_roundtrip.proofs.Literals.{literal_again, fits_is}
 

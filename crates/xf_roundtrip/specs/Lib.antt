@@ -1,5 +1,6 @@
 pub mod Laws
 pub mod Naming
+pub mod Printable
 pub mod Renamed
 pub mod SaidMeant
 pub mod SaidPrinted
