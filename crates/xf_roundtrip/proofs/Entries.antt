@@ -72,7 +72,7 @@ mutual
 -- ---- numbers
 
 mutual
-  number_after : (names : Names) (ops : Ops) → (with_ops names ops).number ≡ ops_number names.number ops
+  pub number_after : (names : Names) (ops : Ops) → (with_ops names ops).number ≡ ops_number names.number ops
   number_after names no_ops = refl
   number_after names (op n k ds os ts rs rest) =
       number_after (with_regions (with_op n ts (first_args rs) names) rs) rest ∙ ap (λ i. ops_number i rest) (number_within (with_op n ts (first_args rs) names) rs)
@@ -82,7 +82,7 @@ mutual
   number_within names (region args ops rest) = number_within (with_ops names ops) rest ∙ ap (λ i. regions_number i rest) (number_after names ops)
 
 mutual
-  argument_after : (names : Names) (ops : Ops) → (with_ops names ops).argument ≡ ops_argument names.argument ops
+  pub argument_after : (names : Names) (ops : Ops) → (with_ops names ops).argument ≡ ops_argument names.argument ops
   argument_after names no_ops = refl
   argument_after names (op n k ds os ts rs rest) =
       argument_after (with_regions (with_op n ts (first_args rs) names) rs) rest ∙ ap (λ i. ops_argument i rest) (argument_within (with_op n ts (first_args rs) names) rs)

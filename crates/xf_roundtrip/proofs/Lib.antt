@@ -9,6 +9,7 @@ pub mod Literals
 pub mod Meaning
 pub mod Names
 pub mod Operations
+pub mod Printed
 pub mod Right
 pub mod Says
 pub mod Yields

@@ -46,8 +46,8 @@ use Rattle.xf_roundtrip.proofs.Yields.{Good, keeps_it, stands_there, last_there,
 -- ---- types of visible values
 
 -- each visible value has the type that its printed name has
-record KnowsTypes (env : Typed) (names : Names) : Type 0 where
-  by : (v : ValueName) → sees (seen_of env) v ≡ true → type_of names v ≡ type_at env v
+pub record KnowsTypes (env : Typed) (names : Names) : Type 0 where
+  pub by : (v : ValueName) → sees (seen_of env) v ≡ true → type_of names v ≡ type_at env v
 
 same_op_name : (o m : OpName) → (o.0 == m.0) ≡ true → o ≡ m
 same_op_name o m e = let p = eqb-true o.0 m.0 e in λ i. record { 0 = p i }
@@ -98,7 +98,7 @@ knows_more_arguments env names m k a j ts args h w = record { by = at }
     at (Result o num) s = w.by (Result o num) s
     at (Free num) s = w.by (Free num) s
 
-types_known : (env : Typed) (names : Names) (os : List ValueName) → KnowsTypes env names → AllSeen (seen_of env) os → map (type_of names) os ≡ map (type_at env) os
+pub types_known : (env : Typed) (names : Names) (os : List ValueName) → KnowsTypes env names → AllSeen (seen_of env) os → map (type_of names) os ≡ map (type_at env) os
 types_known env names [] w h = refl
 types_known env names (v ∷ os) w h =
     let p = w.by v h.0 in
@@ -108,14 +108,14 @@ types_known env names (v ∷ os) w h =
 -- ---- blocks of an operation
 
 -- the arguments of each block, where only the first has any
-abbrev ArgsSo : ℕ → List PayloadType → Regions → Type 0
+abbrev pub ArgsSo : ℕ → List PayloadType → Regions → Type 0
 ArgsSo i first no_regions = Unit {0}
 ArgsSo i first (region args ops rest) = (args ≡ first) × (IsFirst i first × ArgsSo (suc i) first rest)
 
 -- an operation holds blocks of its kind, or none
-record Blocks (k : Kind) (rs : Regions) : Type 0 where
-  args : ArgsSo 0 (first_args rs) rs
-  holds : (holds_blocks k ≡ true) ⊎ (rs ≡ no_regions)
+pub record Blocks (k : Kind) (rs : Regions) : Type 0 where
+  pub args : ArgsSo 0 (first_args rs) rs
+  pub holds : (holds_blocks k ≡ true) ⊎ (rs ≡ no_regions)
 
 one_block : (rs : Regions) → is_one (block_args rs) ≡ true → ArgsSo 0 (first_args rs) rs
 one_block no_regions e = tt
@@ -145,7 +145,7 @@ no_block : (k : Kind) (rs : Regions) → is_empty (block_args rs) ≡ true → B
 no_block k no_regions e = record { args = tt; holds = inr refl }
 no_block k (region args ops rest) e = absurd cc
 
-blocks_are : (sigs : Signatures) (gives : List PayloadType) (k : Kind) (ds : List Attr) (types : List (Option PayloadType)) (ts : List PayloadType) (rs : Regions) → is_module k ≡ false → Keeps sigs gives k ds types ts rs → Blocks k rs
+pub blocks_are : (sigs : Signatures) (gives : List PayloadType) (k : Kind) (ds : List Attr) (types : List (Option PayloadType)) (ts : List PayloadType) (rs : Regions) → is_module k ≡ false → Keeps sigs gives k ds types ts rs → Blocks k rs
 blocks_are sigs gives (kind.Module symbol) ds types ts rs m w = absurd cc
 blocks_are sigs gives (kind.Func symbol private results) ds types ts rs m w = record { args = one_block rs w.regions; holds = inl refl }
 blocks_are sigs gives (kind.For width) ds types ts rs m w = record { args = one_listed rs (Scalar width ∷ ts) (lists_are (block_args rs) ((Scalar width ∷ ts) ∷ []) w.regions); holds = inl refl }
@@ -170,11 +170,11 @@ inner_symbol k e = refl
 
 -- ---- operations
 
-abbrev named_by : (OpName → ℕ) → OpName → OpName
+abbrev pub named_by : (OpName → ℕ) → OpName → OpName
 named_by g o = op_name (g o)
 
 mutual
-  ops_so : (ops : Ops) (sigs : Signatures) (h : Holder) (env : Typed) (names : Names) (g : OpName → ℕ) (n k a : ℕ) → OpsObey (Good sigs) h env ops → OpsSee (seen_of env) ops → KnowsTypes env names → Entered names k a ops → Counts g n (ops_names ops) → OpsInner ops
+  pub ops_so : (ops : Ops) (sigs : Signatures) (h : Holder) (env : Typed) (names : Names) (g : OpName → ℕ) (n k a : ℕ) → OpsObey (Good sigs) h env ops → OpsSee (seen_of env) ops → KnowsTypes env names → Entered names k a ops → Counts g n (ops_names ops) → OpsInner ops
       → ops_number k ops < 2 ^ 64 → ops_argument a ops ≤ 2 ^ 32 → OpsSo names (named_by g) n k a ops
   ops_so no_ops sigs h env names g n k a good see w e c inner lk la = tt
   ops_so (op m kd ds os ts rs rest) sigs h env names g n k a good see w e c inner lk la =
@@ -215,7 +215,7 @@ mutual
         ],
       )
 
-  regions_so : (rs : Regions) (sigs : Signatures) (kd : Kind) (types : List (Option PayloadType)) (ts : List PayloadType) (env : Typed) (names : Names) (g : OpName → ℕ) (m : OpName) (n k a k0 a0 i : ℕ) (first : List PayloadType) (ds : List Attr) (os : List ValueName)
+  pub regions_so : (rs : Regions) (sigs : Signatures) (kd : Kind) (types : List (Option PayloadType)) (ts : List PayloadType) (env : Typed) (names : Names) (g : OpName → ℕ) (m : OpName) (n k a k0 a0 i : ℕ) (first : List PayloadType) (ds : List Attr) (os : List ValueName)
       → (holds_blocks kd ≡ true) ⊎ (rs ≡ no_regions) → ArgsSo i first rs → blocks_end kd rs ≡ true → RegionsObey (Good sigs) (holder_of kd types ts) env m i rs → RegionsSee (seen_of env) m i rs → KnowsTypes env names → HasEntry names m k0 a0 ts first
       → RegionsEntered names k a rs → Counts g n (regions_names rs) → RegionsInner rs → regions_number k rs < 2 ^ 64 → regions_argument a rs ≤ 2 ^ 32 → RegionsSo names (named_by g) n k a i (head_by names k0 a0 kd ds os ts first) first rs
   regions_so no_regions sigs kd types ts env names g m n k a k0 a0 i first ds os holds args ends good see w entry e c inner lk la = tt

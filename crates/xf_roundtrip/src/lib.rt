@@ -4,4 +4,6 @@
 
 mod law;
 
-pub use law::{texts_mean_what_they_say, tokens_mean_what_they_say};
+pub use law::{
+    printed_modules_say_themselves, texts_mean_what_they_say, tokens_mean_what_they_say,
+};
