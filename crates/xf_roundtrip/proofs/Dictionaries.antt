@@ -1,7 +1,7 @@
 -- Attributes are said again by their entries.
 use Rattle.std.proofs.Common.{◌≡◌, ◌⊎◌, inl, inr, ℕ, ◌+◌, ◌*◌, ◌/◌, ◌%◌, ◌<◌, Bool, true, false, List, [], ◌∷◌, ◌++◌, refl, sym, ap, subst, ◌∙◌, arith, append_assoc, append-nil}
-use Rattle.std.proofs.Common.{Ordering, Less, Equal, Greater}
-use Rattle.std.specs.Prelude.{map, ◌&&◌, ◌||◌, not, ◌==◌, nat_lt}
+use Rattle.std.proofs.Common.{Equal, Greater}
+use Rattle.std.specs.Prelude.{map, ◌&&◌, ◌==◌}
 use Rattle.std.specs.Char.{digit_value}
 use Rattle.std.specs.List.{flat_map}
 use Rattle.std.specs.Cmp.{nat_cmp_is}

@@ -1,18 +1,17 @@
 -- What rules of types say as equalities, and operands that have the types that are stated.
 use Rattle.std.proofs.Common.{◌≡◌, ℕ, zero, suc, ◌+◌, ◌-◌, Bool, true, false, List, [], ◌∷◌, ◌++◌, length, Option, Some, None, refl, sym, ap, subst, ◌∙◌, arith, slice_get, append_assoc, length-append}
-use Rattle.std.specs.Prelude.{map, ◌&&◌, ◌==◌, nat_lt, if◌then◌else◌}
+use Rattle.std.specs.Prelude.{map, nat_lt, if◌then◌else◌}
 use Rattle.std.proofs.lemmas.Bool.{and_parts, eq-eqb, eqb-true}
 use Rattle.std.proofs.lemmas.Bool.Decides.{nat_tests}
 use Rattle.std.proofs.lemmas.List.{length-map}
 use Rattle.xf_type.specs.declared.payload_type.PayloadType.{PayloadType}
 use Rattle.xf_type.specs.declared.payload_type.PayloadType.TheVariants.{Scalar, Tensor}
-use Rattle.xf_type.specs.declared.payload_type.Shape.{Shape}
 use Rattle.xf_type.specs.declared.payload_type.Dim.{Dim}
 use Rattle.xf_type.specs.declared.payload_type.Dim.TheVariants.{Fixed, Dynamic}
 use Rattle.xf_type.specs.declared.payload_type.Width.{Width}
 use Rattle.xf_type.specs.declared.payload_type.Width.TheVariants.{I1, I8, I16, I32, I64, Index}
 use Rattle.xf_read_base.specs.Parts.{Said}
-use Rattle.xf_ir.specs.Types.{same_width, same_dim, same_items, same_shape, same_type, same_types, has_type, have_types}
+use Rattle.xf_ir.specs.Types.{same_width, same_dim, same_items, same_type, same_types, have_types}
 use Rattle.xf_read.specs.Types.{stated_by, fits}
 use Rattle.xf_read.specs.Types.{same_width as equal_width, same_dim as equal_dim, same_dims as equal_dims, same_type as equal_type}
 use Rattle.xf_roundtrip.specs.Saying.{shape}

@@ -1,43 +1,32 @@
 -- What the printed form of a module that is valid says is right, and means the module again, with names in preorder.
-use Rattle.std.proofs.Common.{◌≡◌, ◌⊎◌, inl, inr, ℕ, suc, ◌+◌, ◌^◌, ◌<◌, ◌≤◌, Bool, true, false, not, cond, List, [], ◌∷◌, ◌++◌, length, Option, Some, None, refl, sym, ap, subst, ◌∙◌, arith, slice_get}
+use Rattle.std.proofs.Common.{◌≡◌, ◌⊎◌, inl, inr, ℕ, suc, ◌+◌, ◌^◌, ◌<◌, ◌≤◌, Bool, true, false, cond, List, [], ◌∷◌, length, Option, Some, None, refl, sym, ap, subst, ◌∙◌, arith, slice_get}
 use Rattle.std.specs.Prelude.{◌&&◌, ◌||◌, ◌==◌, map, is_some, nat_lt, option_and_then}
 use Rattle.std.proofs.lemmas.Bool.{cases_Bool, and_parts, eqb-true, lt-ltb}
 use Rattle.xf_type.specs.declared.payload_type.PayloadType.{PayloadType}
 use Rattle.xf_type.specs.declared.payload_type.PayloadType.TheVariants.{Scalar}
-use Rattle.xf_read_base.specs.Parts.{Said}
 use Rattle.xf_ir.specs.declared.kind.Attr.{Attr}
 use Rattle.xf_ir.specs.declared.kind.Kind.{Kind}
 use Rattle.xf_ir.specs.declared.kind.Kind.TheVariants as kind
 use Rattle.xf_ir.specs.declared.name.OpName.{OpName}
 use Rattle.xf_ir.specs.declared.name.ValueName.{ValueName}
 use Rattle.xf_ir.specs.declared.name.ValueName.TheVariants.{Result, Arg, Free}
-use Rattle.xf_ir.specs.declared.op.Module.{Module}
-use Rattle.xf_ir.specs.Calls.{Signatures, signatures, has_its_callee}
-use Rattle.xf_ir.specs.Kinds.{is_container, is_module, is_function}
-use Rattle.xf_ir.specs.Lists.{Each, Once, is_empty}
-use Rattle.xf_ir.specs.Places.{Seen, done, inside, place_of, below, sees, AllSeen}
-use Rattle.xf_ir.specs.Placed.{Typed, type_or, type_at, Holder, holder_of, Placed, place, placed, Everywhere, top, root_holder, blocks_placed, functions_of}
-use Rattle.xf_ir.specs.RuleAttributes.{has_its_attributes}
-use Rattle.xf_ir.specs.RuleBlocks.{block_args, are_blocks, is_one, block_ends, blocks_end, blocks_fit, stands_at_end, has_its_regions, ends_its_blocks}
-use Rattle.xf_ir.specs.RuleTypes.{has_its_types}
-use Rattle.xf_ir.specs.Tree.{Ops, no_ops, op, Regions, no_regions, region, Tree}
-use Rattle.xf_ir.specs.Valid.{OpsInner, RegionsInner, FunctionsAlone, BlocksAlone, OpsSee, RegionsSee, FunctionsSee, block_of, symbols_before}
-use Rattle.xf_ir.specs.Walk.{ops_names, regions_names, tree_names}
-use Rattle.xf_ir.proofs.Lists.{each_map, once_left, once_right}
-use Rattle.xf_ir.proofs.Obeys.{OpsObey, RegionsObey, FunctionsObey, BlocksObey, blocks_obey}
+use Rattle.xf_ir.specs.Calls.{Signatures}
+use Rattle.xf_ir.specs.Kinds.{is_container, is_module}
+use Rattle.xf_ir.specs.Lists.{is_empty}
+use Rattle.xf_ir.specs.Places.{done, inside, place_of, below, sees, AllSeen}
+use Rattle.xf_ir.specs.Placed.{Typed, type_or, type_at, Holder, holder_of}
+use Rattle.xf_ir.specs.RuleBlocks.{block_args, are_blocks, is_one, block_ends, blocks_end, stands_at_end}
+use Rattle.xf_ir.specs.Tree.{Ops, no_ops, op, Regions, no_regions, region}
+use Rattle.xf_ir.specs.Valid.{OpsInner, RegionsInner, OpsSee, RegionsSee}
+use Rattle.xf_ir.specs.Walk.{ops_names, regions_names}
+use Rattle.xf_ir.proofs.Obeys.{OpsObey, RegionsObey}
 use Rattle.xf_ir.proofs.SeenTypes.{seen_of}
 use Rattle.xf_read.specs.Names.{op_name}
-use Rattle.xf_read.specs.Syntax.{ends_open}
-use Rattle.xf_read.specs.Written.{says_yield_last}
-use Rattle.xf_print.specs.Names.{Entry, Names, first_args, next_number, type_of, with_ops}
-use Rattle.xf_print.specs.Names.{no_names as no_numbers}
+use Rattle.xf_print.specs.Names.{Entry, Names, first_args, next_number, type_of}
 use Rattle.xf_print.specs.Printed.{is_empty_yield}
-use Rattle.xf_roundtrip.specs.Printable.{AllBytes, FunctionsNumber, IsPrintable}
-use Rattle.xf_roundtrip.specs.Renamed.{IsRenamed}
-use Rattle.xf_roundtrip.specs.SaidMeant.{said_meant}
-use Rattle.xf_roundtrip.specs.SaidPrinted.{head_by, has_row, row_of, results_printed, printed_said, ops_printed}
-use Rattle.xf_roundtrip.proofs.Again.{ops_count, regions_count, ops_number, regions_number, ops_argument, regions_argument, number_more, ops_number_more, regions_number_more, ops_argument_more, regions_argument_more, SaysIt, LastYield, Shown, ends_empty, OpsSo, RegionsSo}
-use Rattle.xf_roundtrip.proofs.Entries.{index_of, Counts, all_counted, counts_left, counts_right, ops_names_count, regions_names_count, Entered, RegionsEntered}
+use Rattle.xf_roundtrip.specs.SaidPrinted.{head_by}
+use Rattle.xf_roundtrip.proofs.Again.{ops_count, regions_count, ops_number, regions_number, ops_argument, regions_argument, number_more, ops_number_more, regions_number_more, ops_argument_more, regions_argument_more, SaysIt, OpsSo, RegionsSo}
+use Rattle.xf_roundtrip.proofs.Entries.{Counts, counts_left, counts_right, ops_names_count, regions_names_count, Entered, RegionsEntered}
 use Rattle.xf_roundtrip.proofs.Fits.{lists_are}
 use Rattle.xf_roundtrip.proofs.Names.{HasEntry, IsFirst}
 use Rattle.xf_roundtrip.proofs.Says.{Keeps, symbol_named, says_it}
@@ -67,6 +56,7 @@ place_result true num count i e = (refl, below_is num count i e)
     below_by : (c : Bool) (num i : ℕ) → cond c (Some num) None ≡ Some i → num ≡ i
     below_by true num i e = let p : num ≡ i = cc in p
     below_by false num i e = absurd cc
+
     below_is : (num count i : ℕ) → below num count ≡ Some i → num ≡ i
     below_is num count i e = below_by (nat_lt num count) num i e
 place_result false num count i e = absurd cc
@@ -78,8 +68,8 @@ knows_more_results env names m k a ts args h w = record { by = at }
     at (Result o num) s =
         value_type (place_of (done m (length ts)) (Result o num)) ts (type_of names (Result o num)) (type_at env (Result o num)) (sees (seen_of env) (Result o num))
         (λ i e. let p = place_result (o.0 == m.0) num (length ts) i e in
-          ap (λ (q : OpName). option_and_then (λ (x : Entry). slice_get x.results num) (names.entry q.0)) (same_op_name o m p.0)
-          ∙ (ap (option_and_then (λ (x : Entry). slice_get x.results num)) h.is ∙ (ap (λ xs. slice_get xs num) h.results ∙ ap (slice_get ts) p.1)))
+        ap (λ (q : OpName). option_and_then (λ (x : Entry). slice_get x.results num) (names.entry q.0)) (same_op_name o m p.0)
+        ∙ (ap (option_and_then (λ (x : Entry). slice_get x.results num)) h.is ∙ (ap (λ xs. slice_get xs num) h.results ∙ ap (slice_get ts) p.1)))
         (w.by (Result o num)) s
     at (Arg o r num) s = w.by (Arg o r num) s
     at (Free num) s = w.by (Free num) s
@@ -91,9 +81,9 @@ knows_more_arguments env names m k a j ts args h w = record { by = at }
     at (Arg o r num) s =
         value_type (place_of (inside m j (length args)) (Arg o r num)) args (type_of names (Arg o r num)) (type_at env (Arg o r num)) (sees (seen_of env) (Arg o r num))
         (λ i e. let p = place_result ((o.0 == m.0) && (r == j)) num (length args) i e in
-          let q = and_parts (o.0 == m.0) (r == j) p.0 in
-          ap (λ (q : OpName). option_and_then (λ (x : Entry). slice_get x.args num) (names.entry q.0)) (same_op_name o m q.0)
-          ∙ (ap (option_and_then (λ (x : Entry). slice_get x.args num)) h.is ∙ (ap (λ xs. slice_get xs num) h.arguments ∙ ap (slice_get args) p.1)))
+        let q = and_parts (o.0 == m.0) (r == j) p.0 in
+        ap (λ (q : OpName). option_and_then (λ (x : Entry). slice_get x.args num) (names.entry q.0)) (same_op_name o m q.0)
+        ∙ (ap (option_and_then (λ (x : Entry). slice_get x.args num)) h.is ∙ (ap (λ xs. slice_get xs num) h.arguments ∙ ap (slice_get args) p.1)))
         (w.by (Arg o r num)) s
     at (Result o num) s = w.by (Result o num) s
     at (Free num) s = w.by (Free num) s
@@ -203,7 +193,7 @@ mutual
       let z2 : suc n + length (regions_names rs) ≡ n + (1 + regions_count rs) = omega (arith, count) in
       let inside_so = regions_so rs sigs kd (map (type_at env) os) ts env names g m (n + 1) k' a' k a 0 first ds os blocks.holds blocks.args ends good.1.0 see.1.0 w e.0 e.1.0 (subst (λ i. Counts g i (regions_names rs)) z1 c_in) inner.1.0 (omega (arith, l3, lk)) (omega (arith, l5, la)) in
       let rest_so = ops_so rest sigs h ((done m (length ts), ts) ∷ env) names g (n + (1 + regions_count rs)) k'' a'' good.1.1 see.1.1 (knows_more_results env names m k a ts first e.0 w) e.1.1
-            (subst (λ i. Counts g i (ops_names rest)) z2 c_rest) inner.1.1 lk la in (
+      (subst (λ i. Counts g i (ops_names rest)) z2 c_rest) inner.1.1 lk la in (
         number,
         elim (cases_Bool (is_empty_yield kd ds os)) [
           | inl y ↦ inl (last_there sigs h kd ds os (map (type_at env) os) ts rs rest y keeps stands)
@@ -227,7 +217,7 @@ mutual
       let l1 = regions_number_more (ops_number k ops) rest in
       let l2 = regions_argument_more (ops_argument a ops) rest in
       let one = ops_so ops sigs (holder_of kd types ts) ((inside m i (length xs), xs) ∷ env) names g n k a good.0 see.0 (knows_more_arguments env names m k0 a0 i ts xs entry_xs w) e.0 (counts_left g n (ops_names ops) (regions_names rest) c) inner.0
-            (omega (arith, l1, lk)) (omega (arith, l2, la)) in
+      (omega (arith, l1, lk)) (omega (arith, l2, la)) in
       let count = ops_names_count ops in
       let z : n + length (ops_names ops) ≡ n + ops_count ops = omega (arith, count) in
       let c_rest = subst (λ j. Counts g j (regions_names rest)) z (counts_right g n (ops_names ops) (regions_names rest) c) in

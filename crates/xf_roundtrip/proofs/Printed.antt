@@ -1,9 +1,8 @@
 -- What the printed form of a valid module says means the module again, with names in preorder.
-use Rattle.std.proofs.Common.{◌≡◌, ◌⊎◌, inl, inr, ℕ, suc, ◌+◌, ◌^◌, ◌<◌, ◌≤◌, Bool, true, false, not, List, [], ◌∷◌, ◌++◌, length, Option, Some, None, refl, sym, ap, subst, ◌∙◌, arith, append-nil}
+use Rattle.std.proofs.Common.{◌≡◌, ℕ, suc, ◌+◌, ◌^◌, ◌<◌, ◌≤◌, Bool, true, false, not, List, [], ◌∷◌, ◌++◌, length, Option, Some, None, refl, sym, ap, subst, ◌∙◌, arith, append-nil}
 use Rattle.std.specs.Prelude.{◌&&◌, map}
 use Rattle.std.proofs.lemmas.Bool.{and_parts}
 use Rattle.xf_type.specs.declared.payload_type.PayloadType.{PayloadType}
-use Rattle.xf_ir.specs.declared.kind.Attr.{Attr}
 use Rattle.xf_ir.specs.declared.kind.Kind.{Kind}
 use Rattle.xf_ir.specs.declared.kind.Kind.TheVariants as kind
 use Rattle.xf_ir.specs.declared.name.OpName.{OpName}
@@ -12,33 +11,32 @@ use Rattle.xf_ir.specs.declared.op.Module.{Module}
 use Rattle.xf_ir.specs.Calls.{Signatures, signatures, has_its_callee}
 use Rattle.xf_ir.specs.Kinds.{is_module, is_function}
 use Rattle.xf_ir.specs.Lists.{Each, Once, TextsOnce, is_among}
-use Rattle.xf_ir.specs.Places.{AllSeen}
-use Rattle.xf_ir.specs.Placed.{Typed, type_at, Holder, holder_of, Placed, place, placed, top, root_holder, functions_of}
+use Rattle.xf_ir.specs.Placed.{type_at, Holder, Placed, placed, root_holder}
 use Rattle.xf_ir.specs.RuleAttributes.{has_its_attributes}
-use Rattle.xf_ir.specs.RuleBlocks.{block_args, blocks_end, stands_at_end, has_its_regions, ends_its_blocks}
+use Rattle.xf_ir.specs.RuleBlocks.{blocks_end, stands_at_end, has_its_regions, ends_its_blocks}
 use Rattle.xf_ir.specs.RuleTypes.{takes_gives, has_its_types}
 use Rattle.xf_ir.specs.RuleTypes.{row_of as type_row}
 use Rattle.xf_ir.specs.Tree.{Ops, no_ops, op, Regions, no_regions, region}
 use Rattle.xf_ir.specs.Types.{have_types, same_types}
-use Rattle.xf_ir.specs.Valid.{RegionsInner, FunctionsAlone, BlocksAlone, FunctionsSee, block_of, symbols_before, symbols_of, symbols_in}
+use Rattle.xf_ir.specs.Valid.{FunctionsAlone, BlocksAlone, FunctionsSee, block_of, symbols_before, symbols_of, symbols_in}
 use Rattle.xf_ir.specs.Walk.{ops_names, regions_names, tree_names}
 use Rattle.xf_ir.proofs.Lists.{not_left, once_left, once_right}
-use Rattle.xf_ir.proofs.Obeys.{RegionsObey, FunctionsObey, BlocksObey, blocks_obey}
+use Rattle.xf_ir.proofs.Obeys.{FunctionsObey, BlocksObey, blocks_obey}
 use Rattle.xf_ir.proofs.Root.{one_block}
 use Rattle.xf_read.specs.Names.{op_name}
 use Rattle.xf_read.specs.Syntax.{ends_open}
-use Rattle.xf_read.specs.Written.{SaidNodes, says_yield_last}
-use Rattle.xf_print.specs.Names.{Names, first_args, next_number, type_of, with_ops}
+use Rattle.xf_read.specs.Written.{says_yield_last}
+use Rattle.xf_print.specs.Names.{Names, first_args, next_number}
 use Rattle.xf_print.specs.Names.{no_names as no_numbers}
 use Rattle.xf_roundtrip.specs.Laws.{PrintedSaysTheModule}
 use Rattle.xf_roundtrip.specs.Printable.{AllBytes, FunctionsNumber, IsPrintable}
 use Rattle.xf_roundtrip.specs.SaidPrinted.{head_by, has_row, row_of, results_printed}
-use Rattle.xf_roundtrip.proofs.Again.{regions_count, ops_number, regions_number, ops_argument, regions_argument, regions_argument_more, SaysIt, RegionsSo}
+use Rattle.xf_roundtrip.proofs.Again.{regions_count, regions_number, regions_argument, regions_argument_more, SaysIt, RegionsSo}
 use Rattle.xf_roundtrip.proofs.Entries.{index_of, Counts, all_counted, counts_left, counts_right, regions_names_count, ops_entered, number_after, argument_after}
 use Rattle.xf_roundtrip.proofs.Fits.{types_are, have_is}
-use Rattle.xf_roundtrip.proofs.Functions.{numbers_of, FunctionSo, FunctionsSo, ModuleSo, module_again}
-use Rattle.xf_roundtrip.proofs.Operations.{KnowsTypes, types_known, Blocks, blocks_are, named_by, regions_so}
-use Rattle.xf_roundtrip.proofs.Says.{Keeps, symbol_named, says_it}
+use Rattle.xf_roundtrip.proofs.Functions.{numbers_of, FunctionsSo, ModuleSo, module_again}
+use Rattle.xf_roundtrip.proofs.Operations.{KnowsTypes, types_known, blocks_are, named_by, regions_so}
+use Rattle.xf_roundtrip.proofs.Says.{symbol_named, says_it}
 use Rattle.xf_roundtrip.proofs.Yields.{Good, keeps_it}
 
 -- ---- functions
@@ -108,7 +106,7 @@ functions_so (op m k ds os ts rs rest) sigs h g n good alone see once c numbers 
     let a0 : 0 + length first ≡ length first = omega arith in
     let t = head_by names 0 0 k ds os ts first in
     let so' : RegionsSo names (named_by g) (n + 1) 0 (length first) 0 t first rs =
-          subst (λ i. RegionsSo names (named_by g) (n + 1) 0 i 0 t first rs) a0 (subst (λ i. RegionsSo names (named_by g) (n + 1) i (0 + length first) 0 t first rs) k0 so) in (
+    subst (λ i. RegionsSo names (named_by g) (n + 1) 0 i 0 t first rs) a0 (subst (λ i. RegionsSo names (named_by g) (n + 1) i (0 + length first) 0 t first rs) k0 so) in (
       ap op_name c.0,
       (
         f.symbol,

@@ -1,7 +1,7 @@
 -- The printed head of an operation that keeps the rules says what the operation is.
-use Rattle.std.proofs.Common.{◌≡◌, ◌⊎◌, inl, inr, ℕ, ◌+◌, Bool, true, false, List, [], ◌∷◌, ◌++◌, length, drop, Option, Some, None, refl, sym, ap, subst, ◌∙◌, arith, slice_get}
+use Rattle.std.proofs.Common.{◌≡◌, ◌⊎◌, inl, inr, ℕ, ◌+◌, Bool, true, false, List, [], ◌∷◌, length, drop, Option, Some, None, refl, sym, ap, ◌∙◌, arith, slice_get}
 use Rattle.std.specs.Prelude.{map, ◌&&◌, ◌||◌, ◌==◌, option_map}
-use Rattle.std.proofs.lemmas.Bool.{cases_Bool, and_parts, eq-eqb}
+use Rattle.std.proofs.lemmas.Bool.{and_parts, eq-eqb}
 use Rattle.xf_type.specs.declared.payload_type.PayloadType.{PayloadType}
 use Rattle.xf_type.specs.declared.payload_type.PayloadType.TheVariants.{Scalar}
 use Rattle.xf_type.specs.declared.payload_type.Width.TheVariants.{I1}
@@ -11,7 +11,6 @@ use Rattle.xf_ir.specs.declared.kind.Kind.{Kind}
 use Rattle.xf_ir.specs.declared.kind.Kind.TheVariants as kind
 use Rattle.xf_ir.specs.declared.name.ValueName.{ValueName}
 use Rattle.xf_ir.specs.Calls.{Signature, Signatures, callee_agrees, agrees}
-use Rattle.xf_ir.specs.Kinds.{is_function}
 use Rattle.xf_ir.specs.Lists.{Each, is_empty}
 use Rattle.xf_ir.specs.RuleAttributes.{kind_fits, attributes_fit}
 use Rattle.xf_ir.specs.RuleBlocks.{block_args, are_blocks, blocks_fit}
@@ -23,7 +22,7 @@ use Rattle.xf_read.specs.Types.{operands_by}
 use Rattle.xf_print.specs.Names.{Names, first_args, type_of}
 use Rattle.xf_roundtrip.specs.Printable.{HasBytes}
 use Rattle.xf_roundtrip.specs.Saying.{shape, kind_said, result_types, argument_types, function_named}
-use Rattle.xf_roundtrip.specs.SaidPrinted.{head_by, row_of, has_row, symbol_printed, known_types}
+use Rattle.xf_roundtrip.specs.SaidPrinted.{head_by, has_row, known_types}
 use Rattle.xf_roundtrip.proofs.Again.{all_fit, SaysIt}
 use Rattle.xf_roundtrip.proofs.Dictionaries.{attrs_again, entries_differ}
 use Rattle.xf_roundtrip.proofs.Fits.{types_are, lists_are, have_is, width_self, known_are, fit_all, count_is, loop_stated}
