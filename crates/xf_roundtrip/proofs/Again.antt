@@ -1,36 +1,34 @@
 -- What the printed heads of operations say means these operations again, with names in preorder.
-use Rattle.std.proofs.Common.{◌≡◌, ◌⊎◌, inl, inr, ℕ, suc, ◌+◌, ◌^◌, ◌<◌, ◌≤◌, Bool, true, false, cond, not, List, [], ◌∷◌, length, Option, Some, None, refl, sym, ap, subst, ◌∙◌, arith}
+use Rattle.std.proofs.Common.{◌≡◌, ◌⊎◌, inl, inr, ℕ, suc, ◌+◌, ◌^◌, ◌<◌, ◌≤◌, Bool, true, false, cond, not, List, [], ◌∷◌, length, Option, None, refl, sym, ap, subst, ◌∙◌, arith}
 use Rattle.std.specs.Prelude.{◌&&◌, ◌||◌, ◌==◌, map}
 use Rattle.std.proofs.lemmas.Bool.{eq-eqb}
 use Rattle.std.proofs.lemmas.List.{length-map}
 use Rattle.xf_type.specs.declared.payload_type.PayloadType.{PayloadType}
-use Rattle.xf_read_base.specs.declared.row.Row.{Row}
-use Rattle.xf_read_base.specs.Parts.{UseSaid, DefineSaid, Said}
+use Rattle.xf_read_base.specs.Parts.{UseSaid, Said}
 use Rattle.xf_ir.specs.declared.kind.Attr.{Attr}
 use Rattle.xf_ir.specs.declared.kind.Kind.{Kind}
 use Rattle.xf_ir.specs.declared.kind.Kind.TheVariants as kind
 use Rattle.xf_ir.specs.declared.name.OpName.{OpName}
 use Rattle.xf_ir.specs.declared.name.ValueName.{ValueName}
-use Rattle.xf_ir.specs.Lists.{every}
 use Rattle.xf_ir.specs.Places.{Seen, done, inside, AllSeen}
 use Rattle.xf_ir.specs.Tree.{Ops, no_ops, op, Regions, no_regions, region, cons}
 use Rattle.xf_ir.specs.Valid.{OpsSee, RegionsSee}
-use Rattle.xf_roundtrip.specs.Renamed.{value_renamed, ops_renamed, regions_renamed}
+use Rattle.xf_roundtrip.specs.Renamed.{ops_renamed, regions_renamed}
 use Rattle.xf_read.specs.Meant.{joined, yield_tree}
 use Rattle.xf_read.specs.Names.{op_name}
 use Rattle.xf_read.specs.Scopes.{Scope}
 use Rattle.xf_read.specs.Syntax.{ends_open}
 use Rattle.xf_read.specs.Types.{operands_by, stated_by, fits}
-use Rattle.xf_read.specs.Written.{SaidNodes, no_nodes_said, node_said, SaidBodies, no_bodies_said, body_said, says_yield_last, operations, left_out, operations_inside}
+use Rattle.xf_read.specs.Written.{SaidNodes, node_said, SaidBodies, says_yield_last, operations, left_out, operations_inside}
 use Rattle.xf_print.specs.Names.{Names, first_args, next_number, number_of, first_of, type_of}
 use Rattle.xf_print.specs.Printed.{is_empty_yield}
-use Rattle.xf_roundtrip.specs.Saying.{use_means, use_value, use_type, shape, result_types, argument_types, attrs_said, kind_said, with_arguments, with_defines, with_function, function_named}
+use Rattle.xf_roundtrip.specs.Saying.{use_type, shape, result_types, argument_types, attrs_said, kind_said, with_arguments, with_defines, with_function, function_named}
 use Rattle.xf_roundtrip.specs.Saying.{inside as inside_said, behind as behind_said}
 use Rattle.xf_roundtrip.specs.SaidMeant.{yield_said, ops_said, regions_said}
-use Rattle.xf_roundtrip.specs.SaidWell.{entries_once, symbol_new, defines_new, arguments_new, names_once, uses_fit, defines_fit, types_agree, head_well, nodes_well, bodies_well}
+use Rattle.xf_roundtrip.specs.SaidWell.{entries_once, symbol_new, arguments_new, names_once, uses_fit, defines_fit, types_agree, head_well, nodes_well, bodies_well}
 use Rattle.xf_roundtrip.specs.Naming.{use_printed, defines_printed, arguments_printed}
-use Rattle.xf_roundtrip.specs.SaidPrinted.{head_by, head_printed, row_of, ops_printed, regions_printed}
-use Rattle.xf_roundtrip.proofs.Names.{Knows, Clear, clear_more, HasEntry, IsFirst, knows_results, clear_results, results_new, knows_arguments, clear_arguments, arguments_are_new, UsesAgain, uses_again}
+use Rattle.xf_roundtrip.specs.SaidPrinted.{head_by, ops_printed, regions_printed}
+use Rattle.xf_roundtrip.proofs.Names.{Knows, Clear, clear_more, HasEntry, IsFirst, knows_results, clear_results, results_new, knows_arguments, clear_arguments, arguments_are_new, uses_again}
 
 -- ---- how much operations take
 
@@ -62,7 +60,7 @@ abbrev mutual
   regions_argument a no_regions = a
   regions_argument a (region args ops rest) = regions_argument (ops_argument a ops) rest
 
-number_more : (k : ℕ) (ts : List PayloadType) → k ≤ next_number k ts
+pub number_more : (k : ℕ) (ts : List PayloadType) → k ≤ next_number k ts
 number_more k [] = omega arith
 number_more k (t ∷ ts) = omega arith
 

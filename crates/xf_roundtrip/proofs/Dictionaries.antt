@@ -1,7 +1,7 @@
 -- Attributes are said again by their entries.
 use Rattle.std.proofs.Common.{◌≡◌, ◌⊎◌, inl, inr, ℕ, ◌+◌, ◌*◌, ◌/◌, ◌%◌, ◌<◌, Bool, true, false, List, [], ◌∷◌, ◌++◌, refl, sym, ap, subst, ◌∙◌, arith, append_assoc, append-nil}
-use Rattle.std.proofs.Common.{Ordering, Less, Equal, Greater}
-use Rattle.std.specs.Prelude.{map, ◌&&◌, ◌||◌, not, ◌==◌, nat_lt}
+use Rattle.std.proofs.Common.{Equal, Greater}
+use Rattle.std.specs.Prelude.{map, ◌&&◌, ◌==◌}
 use Rattle.std.specs.Char.{digit_value}
 use Rattle.std.specs.List.{flat_map}
 use Rattle.std.specs.Cmp.{nat_cmp_is}
@@ -23,6 +23,7 @@ use Rattle.xf_ir.proofs.SortedAttributes.{not_itself}
 use Rattle.xf_read.specs.Names.{also}
 use Rattle.xf_read.specs.Values.{decoded, with_attr}
 use Rattle.xf_print.specs.Attributes.{hex_digit, is_plain, byte_text, string_text}
+use Rattle.xf_roundtrip.specs.Printable.{HasBytes}
 use Rattle.xf_roundtrip.specs.Saying.{attr_value, attr_said, with_said, attrs_said}
 use Rattle.xf_roundtrip.specs.SaidWell.{entries_once}
 use Rattle.xf_roundtrip.specs.SaidPrinted.{value_printed, entry_printed}
@@ -70,12 +71,6 @@ pub string_again : (bytes : List ℕ) → Each (λ b. b < 256) bytes → decoded
 string_again bytes e = decoded_bytes bytes e
 
 -- ---- values
-
--- the bytes of a string are bytes
-abbrev pub HasBytes : AttrValue → Type 0
-HasBytes attr.Unit = Unit {0}
-HasBytes (attr.Int width bits) = Unit {0}
-HasBytes (attr.Text bytes) = Each (λ b. b < 256) bytes
 
 value_again : (v : AttrValue) → value_fits v ≡ true → HasBytes v → attr_value (value_printed v) ≡ v
 value_again attr.Unit f b = refl

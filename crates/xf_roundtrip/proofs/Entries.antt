@@ -1,13 +1,12 @@
 -- Operations by their places in preorder, and the numbers that their names are printed with.
-use Rattle.std.proofs.Common.{◌≡◌, ℕ, suc, ◌+◌, Bool, true, false, List, [], ◌∷◌, ◌++◌, length, Some, refl, sym, ap, subst, ◌∙◌, arith, length-append}
+use Rattle.std.proofs.Common.{◌≡◌, ℕ, suc, ◌+◌, Bool, true, false, List, [], ◌∷◌, ◌++◌, length, Some, refl, ap, subst, ◌∙◌, arith, length-append}
 use Rattle.std.specs.Prelude.{◌==◌, ◌||◌, if◌then◌else◌}
 use Rattle.std.proofs.lemmas.Bool.{or_parts}
-use Rattle.xf_type.specs.declared.payload_type.PayloadType.{PayloadType}
 use Rattle.xf_ir.specs.declared.name.OpName.{OpName}
 use Rattle.xf_ir.specs.Lists.{Each, same_name, is_among, Once}
 use Rattle.xf_ir.specs.Tree.{Ops, no_ops, op, Regions, no_regions, region}
 use Rattle.xf_ir.specs.Walk.{ops_names, regions_names}
-use Rattle.xf_ir.proofs.Lists.{own_name, other_way, not_left, not_right, once_left, once_right, once_apart, each_left, each_right, each_map}
+use Rattle.xf_ir.proofs.Lists.{own_name, other_way, not_left, not_right, once_left, once_right, once_apart, each_left, each_right}
 use Rattle.xf_print.specs.Names.{Entry, Names, first_args, next_number, with_op, with_ops, with_regions}
 use Rattle.xf_roundtrip.proofs.Again.{ops_count, regions_count, ops_number, regions_number, ops_argument, regions_argument}
 use Rattle.xf_roundtrip.proofs.Names.{HasEntry}
@@ -72,7 +71,7 @@ mutual
 -- ---- numbers
 
 mutual
-  number_after : (names : Names) (ops : Ops) → (with_ops names ops).number ≡ ops_number names.number ops
+  pub number_after : (names : Names) (ops : Ops) → (with_ops names ops).number ≡ ops_number names.number ops
   number_after names no_ops = refl
   number_after names (op n k ds os ts rs rest) =
       number_after (with_regions (with_op n ts (first_args rs) names) rs) rest ∙ ap (λ i. ops_number i rest) (number_within (with_op n ts (first_args rs) names) rs)
@@ -82,7 +81,7 @@ mutual
   number_within names (region args ops rest) = number_within (with_ops names ops) rest ∙ ap (λ i. regions_number i rest) (number_after names ops)
 
 mutual
-  argument_after : (names : Names) (ops : Ops) → (with_ops names ops).argument ≡ ops_argument names.argument ops
+  pub argument_after : (names : Names) (ops : Ops) → (with_ops names ops).argument ≡ ops_argument names.argument ops
   argument_after names no_ops = refl
   argument_after names (op n k ds os ts rs rest) =
       argument_after (with_regions (with_op n ts (first_args rs) names) rs) rest ∙ ap (λ i. ops_argument i rest) (argument_within (with_op n ts (first_args rs) names) rs)
@@ -119,6 +118,7 @@ each_among P Q (x ∷ xs) f e =
     true_right : (a b : Bool) → b ≡ true → (a || b) ≡ true
     true_right true b e = refl
     true_right false b e = e
+
     among_more : (x m : OpName) (xs : List OpName) → is_among m xs ≡ true → is_among m (x ∷ xs) ≡ true
     among_more x m xs h = true_right (same_name x m) (is_among m xs) h
 
@@ -151,8 +151,8 @@ mutual
       let here : one.entry n.0 ≡ Some entry = rw own refl in
       let is : all.entry n.0 ≡ Some entry = e.0 ∙ (ops_absent n rest two (not_right n inner outer o.0) ∙ (regions_absent n rs one (not_left n inner outer o.0) ∙ here)) in
       let agree_in : Agree all two inner =
-            each_among (λ m. all.entry m.0 ≡ (with_ops two rest).entry m.0) (λ m. all.entry m.0 ≡ two.entry m.0) inner
-            (λ m a p. p ∙ ops_absent m rest two (once_apart m inner outer o.1 a)) (each_left (λ m. all.entry m.0 ≡ (with_ops two rest).entry m.0) inner outer e.1) in
+      each_among (λ m. all.entry m.0 ≡ (with_ops two rest).entry m.0) (λ m. all.entry m.0 ≡ two.entry m.0) inner
+      (λ m a p. p ∙ ops_absent m rest two (once_apart m inner outer o.1 a)) (each_left (λ m. all.entry m.0 ≡ (with_ops two rest).entry m.0) inner outer e.1) in
       let later = ops_entered rest two all (once_right inner outer o.1) (each_right (λ m. all.entry m.0 ≡ (with_ops two rest).entry m.0) inner outer e.1) in
       let k' = number_within one rs in
       let a' = argument_within one rs in (
@@ -167,8 +167,8 @@ mutual
       let inner = ops_names ops in
       let outer = regions_names rest in
       let agree_in : Agree all two inner =
-            each_among (λ m. all.entry m.0 ≡ (with_regions two rest).entry m.0) (λ m. all.entry m.0 ≡ two.entry m.0) inner
-            (λ m a p. p ∙ regions_absent m rest two (once_apart m inner outer o a)) (each_left (λ m. all.entry m.0 ≡ (with_regions two rest).entry m.0) inner outer e) in
+      each_among (λ m. all.entry m.0 ≡ (with_regions two rest).entry m.0) (λ m. all.entry m.0 ≡ two.entry m.0) inner
+      (λ m a p. p ∙ regions_absent m rest two (once_apart m inner outer o a)) (each_left (λ m. all.entry m.0 ≡ (with_regions two rest).entry m.0) inner outer e) in
       let later = regions_entered rest two all (once_right inner outer o) (each_right (λ m. all.entry m.0 ≡ (with_regions two rest).entry m.0) inner outer e) in
       let k' = number_after names ops in
       let a' = argument_after names ops in

@@ -1,5 +1,5 @@
 -- What the printed form of functions and of a module says means them again.
-use Rattle.std.proofs.Common.{◌≡◌, ℕ, suc, ◌+◌, ◌^◌, ◌<◌, ◌≤◌, Bool, true, false, cond, List, [], ◌∷◌, length, Option, Some, None, refl, sym, ap, subst, ◌∙◌, arith}
+use Rattle.std.proofs.Common.{◌≡◌, ℕ, ◌+◌, ◌^◌, ◌<◌, ◌≤◌, Bool, true, false, cond, List, [], ◌∷◌, length, Some, None, refl, sym, ap, subst, ◌∙◌, arith}
 use Rattle.std.specs.Prelude.{◌&&◌, map, not, is_some}
 use Rattle.std.specs.Str.{bytes_eq}
 use Rattle.std.proofs.lemmas.Bool.{eq-eqb, or_parts}
@@ -13,9 +13,8 @@ use Rattle.xf_ir.specs.declared.name.OpName.{OpName}
 use Rattle.xf_ir.specs.declared.name.ValueName.{ValueName}
 use Rattle.xf_ir.specs.declared.op.Module.{Module}
 use Rattle.xf_ir.specs.Lists.{same_bytes, is_text_among, TextsOnce}
-use Rattle.xf_ir.specs.Places.{Seen, inside, AllSeen}
-use Rattle.xf_ir.specs.Tree.{Ops, no_ops, op, Regions, no_regions, region, cons, Tree}
-use Rattle.xf_ir.specs.Placed.{functions_of}
+use Rattle.xf_ir.specs.Places.{inside, AllSeen}
+use Rattle.xf_ir.specs.Tree.{Ops, no_ops, op, Regions, no_regions, region, cons}
 use Rattle.xf_ir.specs.Valid.{block_of, FunctionsSee, symbols_of, symbols_before}
 use Rattle.xf_read.specs.Meant.{joined, yield_tree}
 use Rattle.xf_read.specs.Names.{op_name, results_named}
@@ -25,13 +24,13 @@ use Rattle.xf_read.specs.Written.{SaidNodes, no_nodes_said, node_said, SaidBodie
 use Rattle.xf_print.specs.Names.{Names, first_args, with_ops, number_of, first_of}
 use Rattle.xf_print.specs.Names.{no_names as no_numbers}
 use Rattle.xf_roundtrip.specs.Renamed.{value_renamed, ops_renamed, regions_renamed, tree_renamed}
-use Rattle.xf_roundtrip.specs.Saying.{use_value, with_arguments, with_function, with_defines, function_named, argument_types, result_types}
+use Rattle.xf_roundtrip.specs.Saying.{use_value, with_arguments, with_function, with_defines, function_named, result_types}
 use Rattle.xf_roundtrip.specs.Saying.{inside as inside_said, behind as behind_said}
 use Rattle.xf_roundtrip.specs.SaidMeant.{ops_said, regions_said, said_meant}
-use Rattle.xf_roundtrip.specs.SaidWell.{symbol_new, head_well, nodes_well, bodies_well, said_well}
+use Rattle.xf_roundtrip.specs.SaidWell.{symbol_new, nodes_well, bodies_well, said_well}
 use Rattle.xf_roundtrip.specs.Naming.{use_printed, defines_printed, arguments_printed}
-use Rattle.xf_roundtrip.specs.SaidPrinted.{head_by, head_printed, regions_printed, functions_printed, printed_said}
-use Rattle.xf_roundtrip.proofs.Again.{ops_count, regions_count, SaysIt, RegionsSo, all_true, head_is_well, regions_counted, RegionsAgain, regions_again}
+use Rattle.xf_roundtrip.specs.SaidPrinted.{head_by, regions_printed, functions_printed, printed_said}
+use Rattle.xf_roundtrip.proofs.Again.{regions_count, SaysIt, RegionsSo, all_true, head_is_well, regions_counted, regions_again}
 use Rattle.xf_roundtrip.proofs.Names.{Knows, Clear, clear_more, HasEntry, IsFirst, knows_arguments, clear_arguments}
 
 -- what a function names its values by
@@ -202,7 +201,7 @@ module_again renamed m so =
     let means_in : ops_said 1 scope ns ≡ ops_renamed renamed fs = ap (λ names. ops_said 1 names ns) e ∙ f.means in
     let fargs = ap first_args so.regions in
     let r : printed_said m ≡ node_said t (body_said (functions_printed (block_of m.root.regions)) no_bodies_said) no_nodes_said =
-          ap (λ xs. node_said (head_by no_numbers 0 0 m.root.kind m.root.attrs m.root.operands m.root.results xs) (body_said (functions_printed (block_of m.root.regions)) no_bodies_said) no_nodes_said) fargs in
+    ap (λ xs. node_said (head_by no_numbers 0 0 m.root.kind m.root.attrs m.root.operands m.root.results xs) (body_said (functions_printed (block_of m.root.regions)) no_bodies_said) no_nodes_said) fargs in
     let p : printed_said m ≡ node_said t bs no_nodes_said = r ∙ ap (λ rs. node_said t (body_said (functions_printed (block_of rs)) no_bodies_said) no_nodes_said) so.regions in
     let x0 = sym so.root in
     let x1 = says.kind_is in

@@ -3,21 +3,20 @@ use Rattle.std.proofs.Common.{◌≡◌, ◌≢◌, ◌⊎◌, inl, inr, ℕ, ze
 use Rattle.std.specs.Prelude.{◌&&◌, ◌||◌, ◌==◌, is_some, nat_lt, option_and_then, map, not}
 use Rattle.std.specs.Fmt.{decimal}
 use Rattle.std.specs.Str.{bytes_eq}
-use Rattle.std.proofs.lemmas.Bool.{eqb-true, eq-eqb, ltb-true, lt-ltb}
+use Rattle.std.proofs.lemmas.Bool.{eqb-true, ltb-true, lt-ltb}
 use Rattle.std.proofs.lemmas.Bool.Decides.{nat_tests}
 use Rattle.std.proofs.lemmas.Fmt.{decimal_injective}
 use Rattle.std.proofs.lemmas.Slice.Eq.{bytes_eq-Decides}
 use Rattle.xf_type.specs.declared.payload_type.PayloadType.{PayloadType}
 use Rattle.xf_lex.specs.Bytes.{is_digit}
 use Rattle.xf_lex.proofs.Stays.{Digits, decimal_digits}
-use Rattle.xf_read_base.specs.Parts.{UseSaid, DefineSaid}
+use Rattle.xf_read_base.specs.Parts.{UseSaid}
 use Rattle.xf_ir.specs.declared.name.OpName.{OpName}
 use Rattle.xf_ir.specs.declared.name.ValueName.{ValueName}
 use Rattle.xf_ir.specs.declared.name.ValueName.TheVariants.{Result, Arg, Free}
 use Rattle.xf_ir.specs.Lists.{every}
-use Rattle.xf_ir.specs.Places.{Seen, done, inside, place_of, results_of, args_of, below, sees, AllSeen}
+use Rattle.xf_ir.specs.Places.{Seen, done, inside, results_of, args_of, below, sees, AllSeen}
 use Rattle.xf_roundtrip.specs.Renamed.{value_renamed}
-use Rattle.xf_read.specs.declared.scope.Definer.TheVariants.{Results, Argument}
 use Rattle.xf_read.specs.declared.scope.Named.{Named}
 use Rattle.xf_read.specs.Names.{op_name, argument_number, argument_named, results_named}
 use Rattle.xf_read.specs.Scopes.{Scope, with_name, has_value, has_use, value_in, type_in, value_of}

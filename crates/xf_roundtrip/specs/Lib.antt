@@ -1,6 +1,7 @@
 pub mod Laws
 pub mod Layout
 pub mod Naming
+pub mod Printable
 pub mod PrintedLaws
 pub mod Printing
 pub mod Renamed

@@ -1,5 +1,5 @@
 -- What the printed heads of a module say, of the operations of builtin, func, arith and scf.
-use Rattle.std.specs.Prelude.{ℕ, suc, List, [], ◌∷◌, ◌++◌, length, map, Option, Some, None, Bool, true, false, not, ◌==◌, option_map, if◌then◌else◌, ℤ, pos, negsuc}
+use Rattle.std.specs.Prelude.{ℕ, suc, List, [], ◌∷◌, map, Option, Some, None, Bool, true, false, not, ◌==◌, option_map, if◌then◌else◌, ℤ, pos, negsuc}
 use Rattle.std.specs.Fmt.{decimal}
 use Rattle.xf_type.specs.declared.attribute.AttrValue.{AttrValue}
 use Rattle.xf_type.specs.declared.attribute.AttrValue.TheVariants as attr
