@@ -33,7 +33,7 @@ use Rattle.xf_roundtrip.specs.Printing.{is_core, all_scalar, is_core_op, IsCore}
 use Rattle.xf_roundtrip.specs.Layout.{Known, IsScalar, AreBytes, AttrFits, counted, has_regions, Fits, OpsFit, RegionsFit, FunctionsFit, ModuleFits, OpsStored, RegionsStored, FunctionsStored, IsStored}
 use Rattle.xf_roundtrip.proofs.Again.{ops_number, regions_number, ops_argument, regions_argument, ops_number_more, regions_number_more, ops_argument_more, regions_argument_more}
 use Rattle.xf_roundtrip.proofs.Entries.{Entered, RegionsEntered, ops_entered}
-use Rattle.xf_roundtrip.proofs.Fitting.{all_are_scalar, first_scalar, scalar_at, counts, regions_right, Narrow, narrow, attrs_right, same_length, have_length}
+use Rattle.xf_roundtrip.proofs.Fitting.{args_right, carried_right, all_are_scalar, first_scalar, scalar_at, counts, regions_right, Narrow, narrow, attrs_right, same_length, have_length}
 use Rattle.xf_roundtrip.proofs.Names.{HasEntry}
 
 -- ---- visible values
@@ -58,7 +58,7 @@ seen_or false num count rest h = inr h
 seen_or true num count rest h = elim (below_or (nat_lt num count) num count rest refl h) [ inl l ↦ inl (refl, l) | inr r ↦ inr r ]
 
 -- a result is known by the entry of its operation
-result_known : (names : Names) (n o : OpName) (k a num : ℕ) (ts args : List PayloadType) → HasEntry names n k a ts args → k < 2 ^ 64 → length ts < 2 ^ 64 → Each IsScalar ts → (o.0 == n.0) ≡ true → num < length ts → Known names (Result o num)
+result_known : (names : Names) (n o : OpName) (k a num : ℕ) (ts args : List PayloadType) → HasEntry names n k a ts args → k < 2 ^ 64 → length ts < 2 ^ 32 → Each IsScalar ts → (o.0 == n.0) ≡ true → num < length ts → Known names (Result o num)
 result_known names n o k a num ts args h kl short s e lt =
     let p = eqb-true o.0 n.0 e in
     let w = scalar_at ts num s lt in
@@ -72,7 +72,7 @@ argument_known names n o k a r num ts args h room s e lt =
     let same = h.first in
     (h.entry, (w.0, (ap names.entry p ∙ h.is, (ap (λ xs. slice_get xs num) h.arguments ∙ w.1, omega arith))))
 
-done_known : (names : Names) (ss : List Seen) (n : OpName) (k a : ℕ) (ts args : List PayloadType) → HasEntry names n k a ts args → k < 2 ^ 64 → length ts < 2 ^ 64 → Each IsScalar ts → Sees ss names
+done_known : (names : Names) (ss : List Seen) (n : OpName) (k a : ℕ) (ts args : List PayloadType) → HasEntry names n k a ts args → k < 2 ^ 64 → length ts < 2 ^ 32 → Each IsScalar ts → Sees ss names
     → (v : ValueName) → sees (done n (length ts) ∷ ss) v ≡ true → Known names v
 done_known names ss n k a ts args h kl short s w (Result o num) e =
     elim (seen_or (o.0 == n.0) num (length ts) (sees ss (Result o num)) e) [ inl p ↦ result_known names n o k a num ts args h kl short s p.0 p.1 | inr r ↦ w.by (Result o num) r ]
@@ -119,6 +119,8 @@ op_fits names sigs h env n k ds os ts rs after rest r last values bytes so st nu
       values = values;
       count = counts sigs h.gives k env os ts r.types;
       regions = regions_right k (map (type_at env) os) ts rs c.0 r.regions;
+      arguments = args_right k (map (type_at env) os) ts rs c.0 r.regions;
+      carried = carried_right sigs h.gives k env os ts r.types;
       results = all_are_scalar ts d.0;
       args = first_scalar rs e.1;
       returned = all_are_scalar (returned_types k) e.0;

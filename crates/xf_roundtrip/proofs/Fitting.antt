@@ -1,6 +1,6 @@
 -- The operations of a valid module of the core kinds are what their lines need.
 use Rattle.std.proofs.Common.{◌≡◌, ◌⊎◌, inl, inr, ℕ, zero, suc, ◌+◌, ◌-◌, ◌^◌, ◌<◌, ◌≤◌, Bool, true, false, List, [], ◌∷◌, ◌++◌, length, Option, Some, None, refl, sym, ap, subst, ◌∙◌, arith, slice_get, append-nil}
-use Rattle.std.specs.Prelude.{◌&&◌, ◌||◌, ◌==◌, map, not, is_some, nat_lt, if◌then◌else◌}
+use Rattle.std.specs.Prelude.{◌&&◌, ◌||◌, ◌==◌, map, drop, not, is_some, nat_lt, if◌then◌else◌}
 use Rattle.std.proofs.lemmas.Bool.{and_parts, eqb-true, ltb-true}
 use Rattle.std.proofs.lemmas.Bool.Decides.{nat_tests}
 use Rattle.std.proofs.lemmas.List.{length-map}
@@ -29,7 +29,8 @@ use Rattle.xf_ir.specs.Types.{same_items, same_type, same_types, have_types, has
 use Rattle.xf_ir.specs.Words.{is_word}
 use Rattle.xf_print.specs.Names.{Entry, Names, no_names, with_ops, first_args, next_number, number_of, first_of}
 use Rattle.xf_roundtrip.specs.Printing.{is_core, all_scalar, is_core_op}
-use Rattle.xf_roundtrip.specs.Layout.{Known, IsScalar, AreBytes, AttrFits, counted, has_regions, Fits, OpsFit, RegionsFit, FunctionsFit, ModuleFits, OpsStored, RegionsStored}
+use Rattle.xf_roundtrip.specs.Layout.{Known, IsScalar, AreBytes, AttrFits, ArgsRight, CarriedRight, counted, has_regions, Fits, OpsFit, RegionsFit, FunctionsFit, ModuleFits, OpsStored, RegionsStored}
+use Rattle.xf_roundtrip.proofs.Fits.{lists_are}
 use Rattle.xf_roundtrip.proofs.Names.{HasEntry}
 
 -- ---- types
@@ -203,3 +204,44 @@ attrs_right (d ∷ ds) e b =
     let q = and_parts (is_word d.name) (value_fits d.value) p.0 in
     let r = and_parts _ (attributes_fit ds) p.1 in
     (record { name = q.0; value = q.1; bytes = b.0 }, attrs_right ds r.1 b.1)
+
+-- ---- arguments and carried values
+
+first_of_blocks : (rs : Regions) (args : List PayloadType) (more : List (List PayloadType)) → block_args rs ≡ args ∷ more → first_args rs ≡ args
+first_of_blocks no_regions args more e = absurd cc
+first_of_blocks (region args' ops rest) args more e = cc
+
+no_block : (rs : Regions) → is_empty (block_args rs) ≡ true → first_args rs ≡ []
+no_block no_regions e = refl
+no_block (region args ops rest) e = absurd cc
+
+pub args_right : (k : Kind) (os : List (Option PayloadType)) (ts : List PayloadType) (rs : Regions) → is_core k ≡ true → blocks_fit k os ts (block_args rs) ≡ true → ArgsRight k ts (first_args rs)
+args_right (kind.Module symbol) os ts rs c e = first_of_blocks rs [] [] (lists_are (block_args rs) ([] ∷ []) e)
+args_right (kind.Func symbol private results) os ts rs c e = tt
+args_right (kind.For width) os ts rs c e = first_of_blocks rs (Scalar width ∷ ts) [] (lists_are (block_args rs) ((Scalar width ∷ ts) ∷ []) e)
+args_right kind.If os ts rs c e =
+    elim (or_cases (is_empty ts && are_blocks (block_args rs) ([] ∷ [])) (are_blocks (block_args rs) ([] ∷ ([] ∷ []))) e) [
+      | inl a ↦ first_of_blocks rs [] [] (lists_are (block_args rs) ([] ∷ []) (and_parts (is_empty ts) _ a).1)
+      | inr b ↦ first_of_blocks rs [] ([] ∷ []) (lists_are (block_args rs) ([] ∷ ([] ∷ [])) b)
+    ]
+args_right (kind.Generic maps iterators) os ts rs c e = absurd cc
+args_right kind.Return os ts rs c e = no_block rs e
+args_right (kind.Call callee) os ts rs c e = no_block rs e
+args_right (kind.Constant width bits) os ts rs c e = no_block rs e
+args_right (kind.Binary which width) os ts rs c e = no_block rs e
+args_right (kind.Compare which width) os ts rs c e = no_block rs e
+args_right (kind.Select width) os ts rs c e = no_block rs e
+args_right (kind.Convert which from to) os ts rs c e = no_block rs e
+args_right kind.Yield os ts rs c e = no_block rs e
+args_right k os ts rs c e = absurd cc
+
+three_less : (os : List ValueName) (n : ℕ) → length os ≡ 3 + n → length (drop 3 os) ≡ n
+three_less [] n e = absurd (omega arith)
+three_less (a ∷ []) n e = absurd (omega arith)
+three_less (a ∷ (b ∷ [])) n e = absurd (omega arith)
+three_less (a ∷ (b ∷ (c ∷ os))) n e = omega arith
+
+pub carried_right : (sigs : Signatures) (gives : List PayloadType) (k : Kind) (env : Typed) (os : List ValueName) (ts : List PayloadType) → type_row sigs gives k (map (type_at env) os) ts ≡ true → CarriedRight k os ts
+carried_right sigs gives (kind.For width) env os ts e =
+    let n = values_length env os _ (have_length (map (type_at env) os) (Scalar width ∷ (Scalar width ∷ (Scalar width ∷ ts))) e) in three_less os (length ts) (omega arith)
+carried_right sigs gives k env os ts e = tt

@@ -230,7 +230,8 @@ pub use_lays : (names : Names) (v : ValueName) → Known names v → Lays false 
 use_lays names (Result o num) k =
     let e = k.0 in
     let is = k.1.1.0 in
-    rw is (before (a_number e.number k.1.1.1.1.0) (part_lays e.results num k.1.1.1.1.1) (part_ends e.results num))
+    let lt = k.1.1.1.1.1 in
+    rw is (before (a_number e.number k.1.1.1.1.0) (part_lays e.results num (omega arith)) (part_ends e.results num))
 use_lays names (Arg o r num) k = let is = k.1.1.0 in rw is (an_argument (k.0.first + num) k.1.1.1.1)
 use_lays names (Free num) k = absurd k
 

@@ -140,7 +140,7 @@ part_suits (t ∷ []) num y lt e = e
 part_suits (t ∷ (u ∷ ts)) num y lt e = starts (decimal num) (decimal_digits num lt)
 
 use_suit : (names : Names) (v : ValueName) (y : Seen) → Known names v → not (is_index y) ≡ true → use_suits (use_of names v) y ≡ true
-use_suit names (Result o num) y k e = let is = k.1.1.0 in rw is (part_suits k.0.results num y k.1.1.1.1.1 e)
+use_suit names (Result o num) y k e = let is = k.1.1.0 in let lt = k.1.1.1.1.1 in rw is (part_suits k.0.results num y (omega arith) e)
 use_suit names (Arg o r num) y k e = let is = k.1.1.0 in rw is e
 use_suit names (Free num) y k e = absurd k
 

@@ -1,5 +1,5 @@
 -- The tokens of the printed form, what its operations need, and texts that are laid out of tokens.
-use Rattle.std.specs.Prelude.{◌≡◌, ℕ, suc, ◌+◌, ◌-◌, ◌^◌, ◌<◌, List, [], ◌∷◌, ◌++◌, length, map, codes, Option, Some, None, Bool, true, false, not, ◌||◌, if◌then◌else◌, slice_get}
+use Rattle.std.specs.Prelude.{◌≡◌, ℕ, suc, ◌+◌, ◌-◌, ◌^◌, ◌<◌, List, [], ◌∷◌, ◌++◌, length, drop, map, codes, Option, Some, None, Bool, true, false, not, ◌||◌, if◌then◌else◌, slice_get}
 use Rattle.xf_type.specs.declared.attribute.AttrValue.{AttrValue}
 use Rattle.xf_type.specs.declared.attribute.AttrValue.TheVariants.{Unit as unit_attr, Int, Text}
 use Rattle.xf_type.specs.declared.payload_type.PayloadType.{PayloadType}
@@ -72,7 +72,7 @@ module_tokens m = head_tokens no_names m.root ++ mark open_brace ∷ (functions_
 
 -- a value that has a name and a scalar type, which is at a place with a number of 64 bits
 abbrev pub Known : Names → ValueName → Type 0
-Known names (Result o num) = (e : Entry) × ((w : Width) × ((names.entry o.0 ≡ Some e) × ((slice_get e.results num ≡ Some (Scalar w)) × ((e.number < 2 ^ 64) × (num < 2 ^ 64)))))
+Known names (Result o num) = (e : Entry) × ((w : Width) × ((names.entry o.0 ≡ Some e) × ((slice_get e.results num ≡ Some (Scalar w)) × ((e.number < 2 ^ 64) × (num < 2 ^ 32)))))
 Known names (Arg o r num) = (e : Entry) × ((w : Width) × ((names.entry o.0 ≡ Some e) × ((slice_get e.args num ≡ Some (Scalar w)) × (e.first + num < 2 ^ 64))))
 Known names (Free num) = ⊥
 
@@ -120,6 +120,17 @@ has_regions kind.If rs = false
 has_regions k no_regions = true
 has_regions k rs = false
 
+-- the arguments of the first block: of a loop its number and what it carries
+abbrev pub ArgsRight : Kind → List PayloadType → List PayloadType → Type 0
+ArgsRight (kind.Func symbol private results) ts args = Unit {0}
+ArgsRight (kind.For width) ts args = args ≡ Scalar width ∷ ts
+ArgsRight k ts args = args ≡ []
+
+-- a loop carries as many values as it has results
+abbrev pub CarriedRight : Kind → List ValueName → List PayloadType → Type 0
+CarriedRight (kind.For width) os ts = length (drop 3 os) ≡ length ts
+CarriedRight k os ts = Unit {0}
+
 -- the line of an operation before others is made of tokens of the grammar
 pub record Fits (names : Names) (n : OpName) (k : Kind) (ds : List Attr) (os : List ValueName) (ts : List PayloadType) (rs : Regions) (rest : Ops) : Type 0 where
   pub core : is_core k ≡ true
@@ -128,12 +139,14 @@ pub record Fits (names : Names) (n : OpName) (k : Kind) (ds : List Attr) (os : L
   pub values : Each (Known names) os
   pub count : counted k os ≡ true
   pub regions : has_regions k rs ≡ true
+  pub arguments : ArgsRight k ts (first_args rs)
+  pub carried : CarriedRight k os ts
   pub results : Each IsScalar ts
   pub args : Each IsScalar (first_args rs)
   pub returned : Each IsScalar (returned_types k)
   pub number : number_of (names.entry n.0) < 2 ^ 64
   pub first : first_of (names.entry n.0) + suc (length (first_args rs) + length os) < 2 ^ 64
-  pub many : length ts < 2 ^ 64
+  pub many : length ts < 2 ^ 32
   pub last : (not (ends k) || is_end rest) ≡ true
 
 abbrev mutual
