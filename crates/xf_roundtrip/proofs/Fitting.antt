@@ -93,7 +93,14 @@ count_more w (a ∷ []) e = absurd (omega arith)
 count_more w (a ∷ (b ∷ [])) e = absurd (omega arith)
 count_more w (a ∷ (b ∷ (c ∷ os))) e = refl
 
+count_none : (k : Kind) (os : List ValueName) → length os ≡ 0 → counted k [] ≡ true → counted k os ≡ true
+count_none k [] e f = f
+count_none k (a ∷ os) e f = absurd (omega arith)
+
 pub counts : (sigs : Signatures) (gives : List PayloadType) (k : Kind) (env : Typed) (os : List ValueName) (ts : List PayloadType) → type_row sigs gives k (map (type_at env) os) ts ≡ true → counted k os ≡ true
+counts sigs gives (kind.Module symbol) env os ts e = count_none (kind.Module symbol) os (values_length env os 0 (takes_length (map (type_at env) os) ts [] [] e)) refl
+counts sigs gives (kind.Func symbol private results) env os ts e = count_none (kind.Func symbol private results) os (values_length env os 0 (takes_length (map (type_at env) os) ts [] [] e)) refl
+counts sigs gives (kind.Constant width bits) env os ts e = count_none (kind.Constant width bits) os (values_length env os 0 (takes_length (map (type_at env) os) ts [] (Scalar width ∷ []) e)) refl
 counts sigs gives (kind.Binary which width) env os ts e = count_two (kind.Binary which width) os (values_length env os 2 (takes_length (map (type_at env) os) ts (Scalar width ∷ (Scalar width ∷ [])) (Scalar width ∷ []) e)) (λ a b. refl)
 counts sigs gives (kind.Compare which width) env os ts e = count_two (kind.Compare which width) os (values_length env os 2 (takes_length (map (type_at env) os) ts (Scalar width ∷ (Scalar width ∷ [])) (Scalar I1 ∷ []) e)) (λ a b. refl)
 counts sigs gives (kind.Select width) env os ts e = count_three (kind.Select width) os (values_length env os 3 (takes_length (map (type_at env) os) ts (Scalar I1 ∷ (Scalar width ∷ (Scalar width ∷ []))) (Scalar width ∷ []) e)) (λ a b c. refl)

@@ -18,6 +18,7 @@ pub mod Printed
 pub mod PrintedLaid
 pub mod Right
 pub mod RowTexts
+pub mod SaidHeads
 pub mod SaidPieces
 pub mod Says
 pub mod Strings

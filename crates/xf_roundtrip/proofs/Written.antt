@@ -36,7 +36,7 @@ use Rattle.xf_read.specs.Written.{SaidNodes, no_nodes_said, node_said, SaidBodie
 use Rattle.xf_print.specs.Names.{Names, no_names, with_ops, first_args, number_of, first_of}
 use Rattle.xf_print.specs.Printed.{is_empty_yield}
 use Rattle.xf_roundtrip.specs.Printing.{attribute_of, dictionary_piece, is_core, row_of, pieces_of, results_of, tail_says, op_says, ops_printed, bodies_printed, functions_printed, module_printed}
-use Rattle.xf_roundtrip.specs.Layout.{Known, head_tokens, tail_tokens, else_tokens, ops_tokens, regions_tokens, functions_tokens, module_tokens, AttrFits, has_regions, Fits, OpsFit, RegionsFit, FunctionsFit, ModuleFits}
+use Rattle.xf_roundtrip.specs.Layout.{Known, head_tokens, tail_tokens, else_tokens, ops_tokens, regions_tokens, functions_tokens, module_tokens, AttrFits, counted, has_regions, Fits, OpsFit, RegionsFit, FunctionsFit, ModuleFits}
 use Rattle.xf_roundtrip.proofs.Suits.{dictionary_suits, dictionary_first, Follows, pieces_suit, body_suits, head_row}
 
 -- ---- the first token of operations
@@ -272,7 +272,7 @@ function_written : (names : Names) (n : OpName) (symbol : List ℕ) (private : B
     → NodesWritten level.Functions at (head_tokens names t ++ (regions_tokens names rs ++ rest)) (mark close_brace) (node_said (op_says names t) (bodies_printed names rs) said)
 function_written names n symbol private results ds os rs rest said at f inner begins more =
     let k = kind.Func symbol private results in
-    let suit = pieces_suit names (first_of (names.entry n.0)) (first_args rs) k ds os [] _ refl f.attrs f.values refl (function_follows names symbol private results rs rest f.regions) in
+    let suit = pieces_suit names (first_of (names.entry n.0)) (first_args rs) k ds os [] _ refl f.attrs f.values f.count (function_follows names symbol private results rs rest f.regions) in
     node_written level.Functions names n k ds os [] rs rest said at refl f.attrs begins suit (bodies_written names k rs _ _ refl refl f.regions inner refl) more
 
 pub functions_written : (fs : Ops) (at : ℕ) → FunctionsFit fs → NodesWritten level.Functions at (functions_tokens fs) (mark close_brace) (functions_printed fs)
@@ -289,16 +289,16 @@ functions_written (op n k ds os ts rs rest) at f = absurd f
 -- ---- the module
 
 -- the root, where its kind is that of a module
-root_written : (n : OpName) (symbol : Option (List ℕ)) (ds : List Attr) (os : List ValueName) (rs : Regions) (fs : Ops) → Each AttrFits ds → Each (Known no_names) os → FunctionsFit fs
+root_written : (n : OpName) (symbol : Option (List ℕ)) (ds : List Attr) (os : List ValueName) (rs : Regions) (fs : Ops) → Each AttrFits ds → Each (Known no_names) os → counted (kind.Module symbol) os ≡ true → FunctionsFit fs
     → let t : Tree = record { name = n; kind = kind.Module symbol; attrs = ds; operands = os; results = []; regions = rs } in
     ModuleWritten (head_tokens no_names t ++ mark open_brace ∷ (functions_tokens fs ++ mark close_brace ∷ [])) (node_said (op_says no_names t) (body_said (functions_printed fs) no_bodies_said) no_nodes_said)
-root_written n symbol ds os rs fs attrs values f =
+root_written n symbol ds os rs fs attrs values count f =
     let k = kind.Module symbol in
     let ps = pieces_of no_names 0 (first_args rs) k ds os [] in
     let h = head_says None row.Module ps nothing_said in
     let head = head_written None row.Module ps in
     let body = mark open_brace ∷ (functions_tokens fs ++ mark close_brace ∷ []) in
-    let suit = pieces_suit no_names 0 (first_args rs) k ds os [] (mark open_brace) refl attrs values refl refl in
+    let suit = pieces_suit no_names 0 (first_args rs) k ds os [] (mark open_brace) refl attrs values count refl in
     let r = sym (head_row None row.Module ps nothing_said) in (
       refl,
       (
@@ -339,21 +339,21 @@ root_written n symbol ds os rs fs attrs values f =
     )
 
 -- of any kind and results that are those
-module_tree_written : (n : OpName) (k : Kind) (symbol : Option (List ℕ)) (ds : List Attr) (os : List ValueName) (ts : List PayloadType) (rs : Regions) (fs : Ops) → k ≡ kind.Module symbol → ts ≡ [] → Each AttrFits ds → Each (Known no_names) os → FunctionsFit fs
+module_tree_written : (n : OpName) (k : Kind) (symbol : Option (List ℕ)) (ds : List Attr) (os : List ValueName) (ts : List PayloadType) (rs : Regions) (fs : Ops) → k ≡ kind.Module symbol → ts ≡ [] → Each AttrFits ds → Each (Known no_names) os → counted k os ≡ true → FunctionsFit fs
     → let t : Tree = record { name = n; kind = k; attrs = ds; operands = os; results = ts; regions = rs } in
     ModuleWritten (head_tokens no_names t ++ mark open_brace ∷ (functions_tokens fs ++ mark close_brace ∷ [])) (node_said (op_says no_names t) (body_said (functions_printed fs) no_bodies_said) no_nodes_said)
-module_tree_written n k symbol ds os ts rs fs e z attrs values f =
+module_tree_written n k symbol ds os ts rs fs e z attrs values count f =
     let W : Kind → List PayloadType → Type 0 = λ j us.
     ModuleWritten (head_tokens no_names (record { name = n; kind = j; attrs = ds; operands = os; results = us; regions = rs }) ++ mark open_brace ∷ (functions_tokens fs ++ mark close_brace ∷ []))
     (node_said (op_says no_names (record { name = n; kind = j; attrs = ds; operands = os; results = us; regions = rs })) (body_said (functions_printed fs) no_bodies_said) no_nodes_said) in
-    subst (λ j. W j ts) (sym e) (subst (W (kind.Module symbol)) (sym z) (root_written n symbol ds os rs fs attrs values f))
+    subst (λ j. W j ts) (sym e) (subst (W (kind.Module symbol)) (sym z) (root_written n symbol ds os rs fs attrs values (subst (λ j. counted j os ≡ true) e count) f))
 
 -- the tokens of a module are written, as what its printed form says
 pub module_written : (m : Module) → ModuleFits m → NestsWell 0 (module_printed m) → operations (module_printed m) ≤ most_operations → IsWritten (module_tokens m) (module_printed m)
 module_written m f nest few =
     let t = m.root in
     record {
-      tokens = inl (module_tree_written t.name t.kind f.symbol t.attrs t.operands t.results t.regions (functions_of m) f.kind_is f.no_results f.root.attrs f.root.values f.functions);
+      tokens = inl (module_tree_written t.name t.kind f.symbol t.attrs t.operands t.results t.regions (functions_of m) f.kind_is f.no_results f.root.attrs f.root.values f.root.count f.functions);
       nesting = nest;
       number = few;
     }

@@ -92,6 +92,12 @@ pub record AttrFits (d : Attr) : Type 0 where
 
 -- so many operands as the kind has in print
 abbrev pub counted : Kind → List ValueName → Bool
+counted (kind.Module symbol) [] = true
+counted (kind.Module symbol) os = false
+counted (kind.Func symbol private results) [] = true
+counted (kind.Func symbol private results) os = false
+counted (kind.Constant width bits) [] = true
+counted (kind.Constant width bits) os = false
 counted (kind.Binary which width) (a ∷ b ∷ []) = true
 counted (kind.Binary which width) os = false
 counted (kind.Compare which width) (a ∷ b ∷ []) = true
