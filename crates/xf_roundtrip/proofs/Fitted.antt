@@ -30,7 +30,8 @@ use Rattle.xf_ir.proofs.Obeys.{OpsObey, RegionsObey, FunctionsObey, BlocksObey, 
 use Rattle.xf_ir.proofs.Root.{one_block}
 use Rattle.xf_print.specs.Names.{Entry, Names, no_names, with_op, with_ops, with_regions, first_args, next_number, number_of, first_of}
 use Rattle.xf_roundtrip.specs.Printing.{is_core, all_scalar, is_core_op, IsCore}
-use Rattle.xf_roundtrip.specs.Layout.{Known, IsScalar, AreBytes, AttrFits, counted, has_regions, Fits, OpsFit, RegionsFit, FunctionsFit, ModuleFits, OpsStored, RegionsStored, FunctionsStored, IsStored}
+use Rattle.xf_roundtrip.specs.Printable.{HasBytes}
+use Rattle.xf_roundtrip.specs.Layout.{Known, IsScalar, AttrFits, counted, has_regions, Fits, OpsFit, RegionsFit, FunctionsFit, ModuleFits, OpsStored, RegionsStored, FunctionsStored, IsStored}
 use Rattle.xf_roundtrip.proofs.Again.{ops_number, regions_number, ops_argument, regions_argument, ops_number_more, regions_number_more, ops_argument_more, regions_argument_more}
 use Rattle.xf_roundtrip.proofs.Entries.{Entered, RegionsEntered, ops_entered}
 use Rattle.xf_roundtrip.proofs.Fitting.{args_right, carried_right, all_are_scalar, first_scalar, scalar_at, counts, regions_right, Narrow, narrow, attrs_right, same_length, have_length}
@@ -105,7 +106,7 @@ rules_of sigs (x ∷ xs) a b c d e = (record { regions = a.0; blocks = b.0; type
 
 -- an operation that keeps the rules fits, where its entry and its operands are known
 op_fits : (names : Names) (sigs : Signatures) (h : Holder) (env : Typed) (n : OpName) (k : Kind) (ds : List Attr) (os : List ValueName) (ts : List PayloadType) (rs : Regions) (after rest : Ops)
-    → Rules sigs (place h env (record { name = n; kind = k; attrs = ds; operands = os; results = ts; regions = rs }) after) → (not (ends k) || is_end rest) ≡ true → Each (Known names) os → Each (λ (d : Attr). AreBytes d.value) ds → length os < 2 ^ 32 → length ts < 2 ^ 32
+    → Rules sigs (place h env (record { name = n; kind = k; attrs = ds; operands = os; results = ts; regions = rs }) after) → (not (ends k) || is_end rest) ≡ true → Each (Known names) os → Each (λ (d : Attr). HasBytes d.value) ds → length os < 2 ^ 32 → length ts < 2 ^ 32
     → number_of (names.entry n.0) < 2 ^ 32 → first_of (names.entry n.0) + length (first_args rs) < 2 ^ 32 → Fits names n k ds os ts rs rest
 op_fits names sigs h env n k ds os ts rs after rest r last values bytes so st number first =
     let at = and_parts (kind_fits k) (attributes_fit ds) r.attributes in

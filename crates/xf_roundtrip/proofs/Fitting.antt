@@ -29,7 +29,8 @@ use Rattle.xf_ir.specs.Types.{same_items, same_type, same_types, have_types, has
 use Rattle.xf_ir.specs.Words.{is_word}
 use Rattle.xf_print.specs.Names.{Entry, Names, no_names, with_ops, first_args, next_number, number_of, first_of}
 use Rattle.xf_roundtrip.specs.Printing.{is_core, all_scalar, is_core_op}
-use Rattle.xf_roundtrip.specs.Layout.{Known, IsScalar, AreBytes, AttrFits, ArgsRight, CarriedRight, counted, has_regions, Fits, OpsFit, RegionsFit, FunctionsFit, ModuleFits, OpsStored, RegionsStored}
+use Rattle.xf_roundtrip.specs.Printable.{HasBytes}
+use Rattle.xf_roundtrip.specs.Layout.{Known, IsScalar, AttrFits, ArgsRight, CarriedRight, counted, has_regions, Fits, OpsFit, RegionsFit, FunctionsFit, ModuleFits, OpsStored, RegionsStored}
 use Rattle.xf_roundtrip.proofs.Fits.{lists_are}
 use Rattle.xf_roundtrip.proofs.Names.{HasEntry}
 
@@ -204,7 +205,7 @@ narrow k os ts rs c e = absurd cc
 
 -- ---- attributes
 
-pub attrs_right : (ds : List Attr) → attributes_fit ds ≡ true → Each (λ (d : Attr). AreBytes d.value) ds → Each AttrFits ds
+pub attrs_right : (ds : List Attr) → attributes_fit ds ≡ true → Each (λ (d : Attr). HasBytes d.value) ds → Each AttrFits ds
 attrs_right [] e b = tt
 attrs_right (d ∷ ds) e b =
     let p = and_parts (is_word d.name && value_fits d.value) _ e in

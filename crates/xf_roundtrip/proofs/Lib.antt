@@ -21,6 +21,7 @@ pub mod RowTexts
 pub mod SaidHeads
 pub mod SaidPieces
 pub mod Says
+pub mod Spelt
 pub mod Strings
 pub mod Suits
 pub mod Written

@@ -36,7 +36,8 @@ use Rattle.xf_print.specs.Attributes.{hex_digit, is_plain, byte_text, string_tex
 use Rattle.xf_print.specs.Names.{Entry, Names, argument_text, result_part, name_text, type_of, value_type}
 use Rattle.xf_print.specs.Rows.{attributes_text}
 use Rattle.xf_roundtrip.specs.Printing.{part_digits, use_of, operand_width, width_or, has_minus, digits_of, is_true, literal_piece, number_said, attribute_value, attribute_of, dictionary_piece, results_piece, widths}
-use Rattle.xf_roundtrip.specs.Layout.{Known, IsScalar, AreBytes, AttrFits}
+use Rattle.xf_roundtrip.specs.Printable.{HasBytes}
+use Rattle.xf_roundtrip.specs.Layout.{Known, IsScalar, AttrFits}
 use Rattle.xf_roundtrip.proofs.Strings.{string_lays}
 use Rattle.xf_roundtrip.proofs.Suits.{IsShort, signed_short}
 use Rattle.xf_roundtrip.proofs.Lays.{both_true, and_left, and_right, breaks, is_low, Low, pass_append, Lays, free_token, known_blanks, nothing, before, front, freed, looser, IsWord, a_word, known_word, a_symbol, an_integer, a_negative, a_number, a_hash, an_argument, open_lays, close_lays, comma_lays, colon_lays, equals_lays, open_brace_lays, close_brace_lays, arrow_lays, space_lays}
@@ -175,7 +176,7 @@ number_said_lays I32 bits e = front space_lays (front equals_lays (front space_l
 number_said_lays I64 bits e = front space_lays (front equals_lays (front space_lays (literal_lays I64 bits e)))
 number_said_lays Index bits e = front space_lays (front equals_lays (front space_lays (literal_lays Index bits e)))
 
-value_lays : (v : AttrValue) → value_fits v ≡ true → AreBytes v → Lays false (value_text v) (value_written (attribute_value v))
+value_lays : (v : AttrValue) → value_fits v ≡ true → HasBytes v → Lays false (value_text v) (value_written (attribute_value v))
 value_lays unit_attr e b = nothing
 value_lays (Int width bits) e b = number_said_lays width bits e
 value_lays (Text bytes) e b = looser (front space_lays (front equals_lays (front space_lays (string_lays bytes b))))

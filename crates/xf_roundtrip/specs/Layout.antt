@@ -1,7 +1,5 @@
 -- The tokens of the printed form, what its operations need, and texts that are laid out of tokens.
 use Rattle.std.specs.Prelude.{◌≡◌, ℕ, suc, ◌+◌, ◌-◌, ◌^◌, ◌<◌, List, [], ◌∷◌, ◌++◌, length, drop, map, codes, Option, Some, None, Bool, true, false, not, ◌||◌, if◌then◌else◌, slice_get}
-use Rattle.xf_type.specs.declared.attribute.AttrValue.{AttrValue}
-use Rattle.xf_type.specs.declared.attribute.AttrValue.TheVariants.{Unit as unit_attr, Int, Text}
 use Rattle.xf_type.specs.declared.payload_type.PayloadType.{PayloadType}
 use Rattle.xf_type.specs.declared.payload_type.PayloadType.TheVariants.{Scalar}
 use Rattle.xf_type.specs.declared.payload_type.Width.{Width}
@@ -26,6 +24,7 @@ use Rattle.xf_ir.specs.Tree.{Ops, no_ops, op, Regions, no_regions, region, Tree}
 use Rattle.xf_ir.specs.Words.{is_word}
 use Rattle.xf_print.specs.Names.{Entry, Names, no_names, with_ops, first_args, number_of, first_of}
 use Rattle.xf_print.specs.Printed.{is_empty_yield}
+use Rattle.xf_roundtrip.specs.Printable.{HasBytes}
 use Rattle.xf_roundtrip.specs.Printing.{dictionary_piece, is_core, row_of, pieces_of, results_of}
 
 -- ---- tokens
@@ -79,16 +78,11 @@ Known names (Free num) = ⊥
 abbrev pub IsScalar : PayloadType → Type 0
 IsScalar t = (w : Width) × (t ≡ Scalar w)
 
-abbrev pub AreBytes : AttrValue → Type 0
-AreBytes unit_attr = Unit {0}
-AreBytes (Int width bits) = Unit {0}
-AreBytes (Text bytes) = Each (λ b. b < 256) bytes
-
 -- a word and a value of its width
 pub record AttrFits (d : Attr) : Type 0 where
   pub name : is_word d.name ≡ true
   pub value : value_fits d.value ≡ true
-  pub bytes : AreBytes d.value
+  pub bytes : HasBytes d.value
 
 -- so many operands as the kind has in print
 abbrev pub counted : Kind → List ValueName → Bool
@@ -197,7 +191,7 @@ pub record Reads (after_tensor : Bool) (text : List ℕ) (ts : List Seen) : Type
 abbrev mutual
   pub OpsStored : Ops → Type 0
   OpsStored no_ops = Unit {0}
-  OpsStored (op n k ds os ts rs rest) = (length os < 2 ^ 32) × ((length ts < 2 ^ 32 - 1) × (Each (λ (d : Attr). AreBytes d.value) ds × (RegionsStored rs × OpsStored rest)))
+  OpsStored (op n k ds os ts rs rest) = (length os < 2 ^ 32) × ((length ts < 2 ^ 32 - 1) × (Each (λ (d : Attr). HasBytes d.value) ds × (RegionsStored rs × OpsStored rest)))
 
   pub RegionsStored : Regions → Type 0
   RegionsStored no_regions = Unit {0}
@@ -212,5 +206,5 @@ FunctionsStored (op n k ds os ts rs rest) =
 
 -- a module as it is stored
 pub record IsStored (m : Module) : Type 0 where
-  pub attrs : Each (λ (d : Attr). AreBytes d.value) m.root.attrs
+  pub attrs : Each (λ (d : Attr). HasBytes d.value) m.root.attrs
   pub functions : FunctionsStored (functions_of m)

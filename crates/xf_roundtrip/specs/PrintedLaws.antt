@@ -7,9 +7,11 @@ use Rattle.xf_ir.specs.declared.op.Module.{Module}
 use Rattle.xf_ir.specs.Valid.{IsValid}
 use Rattle.xf_print.specs.Printed.{printed_form}
 use Rattle.xf_read.specs.Syntax.{most_operations}
+use Rattle.xf_read.specs.Spells.{Spells}
 use Rattle.xf_read.specs.Written.{SaidNodes, operations, NestsWell, IsWritten}
 use Rattle.xf_roundtrip.specs.Layout.{IsStored}
 use Rattle.xf_roundtrip.specs.Printing.{IsCore, module_printed}
+use Rattle.xf_roundtrip.specs.Renamed.{IsRenamed}
 
 -- no more regions are open and no more operations stand there than a text may have
 abbrev pub IsWithin : SaidNodes → Type 0
@@ -22,3 +24,7 @@ IsLaid text ns = (ws : List Piece) × ((tail : List ℕ) × ((laid ws tail ≡ t
 -- the printed form of a valid module of builtin, func, arith on scalars and scf is laid out, and says what `module_printed` tells
 abbrev pub PrintedIsLaid : Type 0
 PrintedIsLaid = (m : Module) → IsValid m → IsCore m → IsStored m → IsWithin (module_printed m) → IsLaid (printed_form m) (module_printed m)
+
+-- and it spells the module again, up to the names of operations
+abbrev pub PrintedIsSpelt : Type 0
+PrintedIsSpelt = (m : Module) → IsValid m → IsCore m → IsStored m → IsWithin (module_printed m) → (again : Module) × (Spells (printed_form m) again × IsRenamed m again)
