@@ -11,5 +11,6 @@ pub mod Names
 pub mod Operations
 pub mod Printed
 pub mod Right
+pub mod SamePieces
 pub mod Says
 pub mod Yields

@@ -1,6 +1,7 @@
 pub mod Laws
 pub mod Naming
 pub mod Printable
+pub mod Printing
 pub mod Renamed
 pub mod SaidMeant
 pub mod SaidPrinted
