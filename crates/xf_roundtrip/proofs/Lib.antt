@@ -11,6 +11,7 @@ pub mod Names
 pub mod Operations
 pub mod Printed
 pub mod Right
+pub mod SameHeads
 pub mod SamePieces
 pub mod Says
 pub mod Yields
