@@ -22,6 +22,7 @@ use Rattle.xf_ir.specs.Lists.{Each}
 use Rattle.xf_ir.specs.Types.{element_of}
 use Rattle.xf_print.specs.Names.{Entry, Names, argument_text}
 use Rattle.xf_roundtrip.specs.Naming.{number_name, use_printed, use_or, part_said, result_use, argument_use, defines_printed, arguments_printed}
+use Rattle.xf_roundtrip.specs.Plain.{IsScalar}
 use Rattle.xf_roundtrip.specs.SaidPrinted.{signed_said, value_printed, integer_printed, entry_printed}
 use Rattle.xf_roundtrip.specs.Printing.{use_of, use_or_none, part_digits, has_minus, digits_of, number_said, attribute_value, attribute_of, dictionary_piece, params_from, pairs_from, results_of, widths}
 use Rattle.xf_roundtrip.proofs.Literals.{decimal_number}
@@ -129,10 +130,6 @@ uses_said names (v ∷ os) t h =
     ∙ (ap (λ u. set_uses t ((t.uses ++ u ∷ []) ++ map (use_printed names) os)) (use_is names v h.0) ∙ ap (set_uses t) (append_assoc t.uses (use_printed names v ∷ []) (map (use_printed names) os)))
 
 -- ---- types
-
-abbrev pub IsScalar : PayloadType → Type 0
-IsScalar (Scalar w) = Unit {0}
-IsScalar (Tensor s) = ⊥
 
 pub scalar_is : (t : PayloadType) → IsScalar t → Scalar (element_of t) ≡ t
 scalar_is (Scalar w) h = refl
