@@ -45,11 +45,11 @@ symbol_named _ = None
 
 -- ---- blocks
 
-no_blocks : (rs : Regions) → is_empty (block_args rs) ≡ true → first_args rs ≡ []
+pub no_blocks : (rs : Regions) → is_empty (block_args rs) ≡ true → first_args rs ≡ []
 no_blocks no_regions e = refl
 no_blocks (region args ops rest) e = absurd cc
 
-first_block : (rs : Regions) (args : List PayloadType) (more : List (List PayloadType)) → block_args rs ≡ args ∷ more → first_args rs ≡ args
+pub first_block : (rs : Regions) (args : List PayloadType) (more : List (List PayloadType)) → block_args rs ≡ args ∷ more → first_args rs ≡ args
 first_block no_regions args more e = absurd cc
 first_block (region args' ops rest) args more e = let p : args' ≡ args = cc in p
 
@@ -57,7 +57,7 @@ either_true : (a b : Bool) → (a || b) ≡ true → (a ≡ true) ⊎ (b ≡ tru
 either_true true b e = inl refl
 either_true false b e = inr e
 
-chosen_blocks : (ts : List PayloadType) (rs : Regions) → ((is_empty ts && are_blocks (block_args rs) ([] ∷ [])) || are_blocks (block_args rs) ([] ∷ ([] ∷ []))) ≡ true → first_args rs ≡ []
+pub chosen_blocks : (ts : List PayloadType) (rs : Regions) → ((is_empty ts && are_blocks (block_args rs) ([] ∷ [])) || are_blocks (block_args rs) ([] ∷ ([] ∷ []))) ≡ true → first_args rs ≡ []
 chosen_blocks ts rs e = elim (either_true (is_empty ts && are_blocks (block_args rs) ([] ∷ [])) (are_blocks (block_args rs) ([] ∷ ([] ∷ []))) e) [
   | inl p ↦ first_block rs [] [] (lists_are (block_args rs) ([] ∷ []) (and_parts (is_empty ts) (are_blocks (block_args rs) ([] ∷ [])) p).1)
   | inr q ↦ first_block rs [] ([] ∷ []) (lists_are (block_args rs) ([] ∷ ([] ∷ [])) q)
@@ -70,14 +70,14 @@ pub record Gives (types : List (Option PayloadType)) (ts wanted given : List Pay
   pub operands : types ≡ map Some wanted
   pub results : ts ≡ given
 
-gives_it : (wanted given : List PayloadType) (types : List (Option PayloadType)) (ts : List PayloadType) → takes_gives wanted given types ts ≡ true → Gives types ts wanted given
+pub gives_it : (wanted given : List PayloadType) (types : List (Option PayloadType)) (ts : List PayloadType) → takes_gives wanted given types ts ≡ true → Gives types ts wanted given
 gives_it wanted given types ts e = let p = and_parts (have_types types wanted) (same_types ts given) e in record { operands = have_is types wanted p.0; results = types_are ts given p.1 }
 
 module_symbol : (s : Option (List ℕ)) → option_map (drop 1) (option_map (λ (b : List ℕ). 64 ∷ b) s) ≡ s
 module_symbol None = refl
 module_symbol (Some b) = refl
 
-called : (s : Option Signature) (types : List (Option PayloadType)) (ts : List PayloadType) → agrees s types ts ≡ true → (wanted : List PayloadType) × (types ≡ map Some wanted)
+pub called : (s : Option Signature) (types : List (Option PayloadType)) (ts : List PayloadType) → agrees s types ts ≡ true → (wanted : List PayloadType) × (types ≡ map Some wanted)
 called None types ts e = absurd cc
 called (Some s) types ts e = let p = and_parts (have_types types s.takes) (same_types ts s.gives) e in (s.takes, have_is types s.takes p.0)
 
