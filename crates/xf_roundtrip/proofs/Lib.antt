@@ -8,6 +8,7 @@ pub mod Functions
 pub mod Heads
 pub mod Laws
 pub mod Lays
+pub mod Limits
 pub mod Lines
 pub mod Literals
 pub mod Meaning
@@ -20,6 +21,7 @@ pub mod Right
 pub mod RowTexts
 pub mod SaidHeads
 pub mod SaidPieces
+pub mod SaidSame
 pub mod Says
 pub mod Spelt
 pub mod Strings

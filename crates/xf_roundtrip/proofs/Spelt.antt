@@ -1,131 +1,16 @@
 -- The printed form of a valid module spells it again, up to the names of operations.
-use Rattle.std.proofs.Common.{◌≡◌, ℕ, suc, ◌+◌, ◌^◌, ◌<◌, Bool, true, false, List, [], ◌∷◌, length, Option, Some, None, refl, sym, ap, subst, ◌∙◌, arith}
-use Rattle.std.specs.Prelude.{map, if◌then◌else◌}
-use Rattle.std.proofs.lemmas.Bool.{and_parts}
-use Rattle.xf_type.specs.declared.payload_type.PayloadType.{PayloadType}
-use Rattle.xf_read_base.specs.Parts.{Said}
-use Rattle.xf_ir.specs.declared.name.OpName.{OpName}
-use Rattle.xf_ir.specs.declared.name.ValueName.{ValueName}
-use Rattle.xf_ir.specs.declared.kind.Attr.{Attr}
-use Rattle.xf_ir.specs.declared.kind.Kind.{Kind}
-use Rattle.xf_ir.specs.declared.kind.Kind.TheVariants as kind
-use Rattle.xf_ir.specs.declared.op.Module.{Module}
-use Rattle.xf_ir.specs.Lists.{Each}
-use Rattle.xf_ir.specs.Placed.{Typed, type_at, Holder, Placed, placed, root_holder, block_of, functions_of}
-use Rattle.xf_ir.specs.Tree.{Ops, no_ops, op, Regions, no_regions, region, Tree}
-use Rattle.xf_ir.specs.Valid.{IsValid}
-use Rattle.xf_ir.proofs.Lists.{each_map}
-use Rattle.xf_ir.proofs.Obeys.{OpsObey, RegionsObey, FunctionsObey, BlocksObey, each_blocks}
-use Rattle.xf_ir.proofs.Root.{one_block}
+use Rattle.std.proofs.Common.{◌≡◌, true, sym, ap, subst, ◌∙◌}
 use Rattle.xf_read.specs.Spells.{Spells}
-use Rattle.xf_read.specs.Written.{SaidNodes, no_nodes_said, node_said, SaidBodies, no_bodies_said, body_said}
-use Rattle.xf_print.specs.Names.{Names, no_names, with_ops, first_args, number_of, first_of}
-use Rattle.xf_print.specs.Printed.{is_empty_yield, printed_form}
-use Rattle.xf_roundtrip.specs.Printable.{HasBytes, AllBytes, FunctionsNumber, IsPrintable}
-use Rattle.xf_roundtrip.specs.Printing.{is_core, is_core_op, op_says, IsCore, module_printed}
-use Rattle.xf_roundtrip.specs.Printing.{ops_printed as ops_by_pieces, bodies_printed as bodies_by_pieces, functions_printed as functions_by_pieces}
 use Rattle.xf_roundtrip.specs.PrintedLaws.{PrintedIsSpelt}
+use Rattle.xf_roundtrip.specs.Printing.{module_printed}
 use Rattle.xf_roundtrip.specs.Renamed.{IsRenamed}
 use Rattle.xf_roundtrip.specs.SaidMeant.{said_meant}
-use Rattle.xf_roundtrip.specs.SaidPrinted.{has_row, head_printed, ops_printed, regions_printed, functions_printed, printed_said}
 use Rattle.xf_roundtrip.specs.SaidWell.{said_well}
-use Rattle.xf_roundtrip.specs.Layout.{Fits, OpsFit, RegionsFit, FunctionsFit, ModuleFits, OpsStored, RegionsStored, FunctionsStored, IsStored}
 use Rattle.xf_roundtrip.proofs.Fitted.{module_fits}
 use Rattle.xf_roundtrip.proofs.Laws.{texts_mean}
 use Rattle.xf_roundtrip.proofs.Printed.{printed_says}
 use Rattle.xf_roundtrip.proofs.PrintedLaid.{printed_is_laid}
-use Rattle.xf_roundtrip.proofs.SaidHeads.{Parts, head_same}
-
--- ---- what is said by pieces
-
-op_same : (names : Names) (n : OpName) (k : Kind) (ds : List Attr) (os : List ValueName) (ts : List PayloadType) (rs : Regions) (rest : Ops) → Fits names n k ds os ts rs rest
-    → let t : Tree = record { name = n; kind = k; attrs = ds; operands = os; results = ts; regions = rs } in op_says names t ≡ head_printed names t
-op_same names n k ds os ts rs rest f =
-    head_same names (number_of (names.entry n.0)) (first_of (names.entry n.0)) (first_args rs) k ds os ts f.core f.many
-    (record { count = f.count; values = f.values; results = f.results; args_scalar = f.args; returned = f.returned; arguments = f.arguments; carried = f.carried })
-
-mutual
-  ops_same : (names : Names) (ops : Ops) → OpsFit names ops → ops_by_pieces names ops ≡ ops_printed names ops
-  ops_same names no_ops f = refl
-  ops_same names (op n k ds os ts rs rest) f =
-      let h = op_same names n k ds os ts rs rest f.1.0 in
-      let bs = bodies_same names rs f.1.1.0 in
-      let more = ops_same names rest f.1.1.1 in
-      λ i. if is_empty_yield k ds os then more i else node_said (h i) (bs i) (more i)
-
-  bodies_same : (names : Names) (rs : Regions) → RegionsFit names rs → bodies_by_pieces names rs ≡ regions_printed names rs
-  bodies_same names no_regions f = refl
-  bodies_same names (region args ops rest) f =
-      let inner = ops_same names ops f.0 in
-      let more = bodies_same names rest f.1 in
-      λ i. body_said (inner i) (more i)
-
-functions_same : (fs : Ops) → FunctionsFit fs → functions_by_pieces fs ≡ functions_printed fs
-functions_same no_ops f = refl
-functions_same (op n (kind.Func symbol private results) ds os ts rs rest) f =
-    let k = kind.Func symbol private results in
-    let names : Names = with_ops no_names (op n k ds os ts rs no_ops) in
-    let h = op_same names n k ds os ts rs no_ops f.1.0 in
-    let bs = bodies_same names rs f.1.1.0 in
-    let more = functions_same rest f.1.1.1 in
-    λ i. node_said (h i) (bs i) (more i)
-functions_same (op n k ds os ts rs rest) f = absurd f
-
-pub module_same : (m : Module) → ModuleFits m → module_printed m ≡ printed_said m
-module_same m f =
-    let t = m.root in
-    let h = op_same no_names t.name t.kind t.attrs t.operands t.results t.regions no_ops f.root in
-    let fs = functions_same (functions_of m) f.functions in
-    λ i. node_said (h i) (body_said (fs i) no_bodies_said) no_nodes_said
-
--- ---- what is asked of a module
-
-mutual
-  ops_bytes : (h : Holder) (env : Typed) (ops : Ops) → OpsStored ops → OpsObey AllBytes h env ops
-  ops_bytes h env no_ops s = tt
-  ops_bytes h env (op n k ds os ts rs rest) s = (s.1.1.0, (regions_bytes _ env n 0 rs s.1.1.1.0, ops_bytes h _ rest s.1.1.1.1))
-
-  regions_bytes : (h : Holder) (env : Typed) (n : OpName) (i : ℕ) (rs : Regions) → RegionsStored rs → RegionsObey AllBytes h env n i rs
-  regions_bytes h env n i no_regions s = tt
-  regions_bytes h env n i (region args ops rest) s = (ops_bytes h _ ops s.0, regions_bytes h env n (suc i) rest s.1)
-
-functions_bytes : (h : Holder) (fs : Ops) → FunctionsStored fs → FunctionsObey AllBytes h fs
-functions_bytes h no_ops s = tt
-functions_bytes h (op n k ds os ts rs rest) s = (s.0.1.1.0, (regions_bytes _ [] n 0 rs s.0.1.1.1.0, functions_bytes h rest s.1.1.1))
-
-functions_number : (fs : Ops) → FunctionsStored fs → FunctionsNumber fs
-functions_number no_ops s = tt
-functions_number (op n k ds os ts rs rest) s = let a = s.1.0 in let b = s.1.1.0 in (omega arith, (omega arith, functions_number rest s.1.1.1))
-
-row_of_core : (k : Kind) → is_core k ≡ true → has_row k ≡ true
-row_of_core (kind.Module symbol) e = refl
-row_of_core (kind.Func symbol private results) e = refl
-row_of_core kind.Return e = refl
-row_of_core (kind.Call callee) e = refl
-row_of_core (kind.Constant width bits) e = refl
-row_of_core (kind.Binary which width) e = refl
-row_of_core (kind.Compare which width) e = refl
-row_of_core (kind.Select width) e = refl
-row_of_core (kind.Convert which from to) e = refl
-row_of_core (kind.For width) e = refl
-row_of_core kind.If e = refl
-row_of_core kind.Yield e = refl
-row_of_core k e = absurd cc
-
-pub printable : (m : Module) → IsValid m → IsCore m → IsStored m → IsPrintable m
-printable m v core st =
-    let t = m.root in
-    let h = root_holder t in
-    let one : t.regions ≡ region [] (block_of t.regions) no_regions = one_block t.kind v.functions.root (map (type_at []) t.operands) t.results t.regions v.regions.0 in
-    let blocks : BlocksObey AllBytes h t.regions = subst (λ rs. BlocksObey AllBytes h rs) (sym one) (functions_bytes h (block_of t.regions) st.functions, tt) in
-    record {
-      valid = v;
-      rows = each_map (λ (p : Placed). is_core_op p.tree ≡ true) (λ (p : Placed). has_row p.tree.kind ≡ true) (placed m) (λ p e. row_of_core p.tree.kind (and_parts (is_core p.tree.kind) _ e).0) core;
-      bytes = (st.attrs, each_blocks AllBytes h t.regions blocks);
-      numbers = functions_number (functions_of m) st.functions;
-    }
-
--- ---- the law
+use Rattle.xf_roundtrip.proofs.SaidSame.{module_same, printable}
 
 pub printed_is_spelt : PrintedIsSpelt
 printed_is_spelt m v core st within =
