@@ -30,10 +30,11 @@ use Rattle.xf_ir.proofs.Obeys.{OpsObey, RegionsObey, FunctionsObey, BlocksObey, 
 use Rattle.xf_ir.proofs.Root.{one_block}
 use Rattle.xf_print.specs.Names.{Entry, Names, no_names, with_op, with_ops, with_regions, first_args, next_number, number_of, first_of}
 use Rattle.xf_roundtrip.specs.Printing.{is_core, all_scalar, is_core_op, IsCore}
-use Rattle.xf_roundtrip.specs.Printable.{HasBytes}
-use Rattle.xf_roundtrip.specs.Layout.{Known, IsScalar, AttrFits, counted, has_regions, Fits, OpsFit, RegionsFit, FunctionsFit, ModuleFits, OpsStored, RegionsStored, FunctionsStored, IsStored}
+use Rattle.xf_roundtrip.specs.Printable.{AllBytes, FunctionsNumber}
+use Rattle.xf_roundtrip.proofs.Needs.{Known, IsScalar, AttrFits, counted, has_regions, Fits, OpsFit, RegionsFit, FunctionsFit, ModuleFits}
+use Rattle.xf_roundtrip.specs.Stored.{IsStored}
 use Rattle.xf_roundtrip.proofs.Again.{ops_number, regions_number, ops_argument, regions_argument, ops_number_more, regions_number_more, ops_argument_more, regions_argument_more}
-use Rattle.xf_roundtrip.proofs.Entries.{Entered, RegionsEntered, ops_entered}
+use Rattle.xf_roundtrip.proofs.Entries.{Entered, RegionsEntered, ops_entered, number_after, argument_after}
 use Rattle.xf_roundtrip.proofs.Fitting.{args_right, carried_right, all_are_scalar, first_scalar, scalar_at, counts, regions_right, Narrow, narrow, attrs_right, same_length, have_length}
 use Rattle.xf_roundtrip.proofs.Names.{HasEntry}
 
@@ -99,16 +100,18 @@ pub record Rules (sigs : Signatures) (p : Placed) : Type 0 where
   pub types : has_its_types sigs p ≡ true
   pub attributes : has_its_attributes p ≡ true
   pub core : is_core_op p.tree ≡ true
+  pub few : length p.tree.results < 2 ^ 32
+  pub bytes : AllBytes p
 
-rules_of : (sigs : Signatures) (xs : List Placed) → Each (λ p. has_its_regions p ≡ true) xs → Each (λ p. ends_its_blocks p ≡ true) xs → Each (λ p. has_its_types sigs p ≡ true) xs → Each (λ p. has_its_attributes p ≡ true) xs → Each (λ (p : Placed). is_core_op p.tree ≡ true) xs → Each (Rules sigs) xs
-rules_of sigs [] a b c d e = tt
-rules_of sigs (x ∷ xs) a b c d e = (record { regions = a.0; blocks = b.0; types = c.0; attributes = d.0; core = e.0 }, rules_of sigs xs a.1 b.1 c.1 d.1 e.1)
+rules_of : (sigs : Signatures) (xs : List Placed) → Each (λ p. has_its_regions p ≡ true) xs → Each (λ p. ends_its_blocks p ≡ true) xs → Each (λ p. has_its_types sigs p ≡ true) xs → Each (λ p. has_its_attributes p ≡ true) xs → Each (λ (p : Placed). is_core_op p.tree ≡ true) xs → Each (λ (p : Placed). length p.tree.results < 2 ^ 32) xs → Each AllBytes xs → Each (Rules sigs) xs
+rules_of sigs [] a b c d e f g = tt
+rules_of sigs (x ∷ xs) a b c d e f g = (record { regions = a.0; blocks = b.0; types = c.0; attributes = d.0; core = e.0; few = f.0; bytes = g.0 }, rules_of sigs xs a.1 b.1 c.1 d.1 e.1 f.1 g.1)
 
 -- an operation that keeps the rules fits, where its entry and its operands are known
 op_fits : (names : Names) (sigs : Signatures) (h : Holder) (env : Typed) (n : OpName) (k : Kind) (ds : List Attr) (os : List ValueName) (ts : List PayloadType) (rs : Regions) (after rest : Ops)
-    → Rules sigs (place h env (record { name = n; kind = k; attrs = ds; operands = os; results = ts; regions = rs }) after) → (not (ends k) || is_end rest) ≡ true → Each (Known names) os → Each (λ (d : Attr). HasBytes d.value) ds → length os < 2 ^ 32 → length ts < 2 ^ 32
-    → number_of (names.entry n.0) < 2 ^ 32 → first_of (names.entry n.0) + length (first_args rs) < 2 ^ 32 → Fits names n k ds os ts rs rest
-op_fits names sigs h env n k ds os ts rs after rest r last values bytes so st number first =
+    → Rules sigs (place h env (record { name = n; kind = k; attrs = ds; operands = os; results = ts; regions = rs }) after) → (not (ends k) || is_end rest) ≡ true → Each (Known names) os
+    → number_of (names.entry n.0) < 2 ^ 64 → first_of (names.entry n.0) + length (first_args rs) ≤ 2 ^ 32 → Fits names n k ds os ts rs rest
+op_fits names sigs h env n k ds os ts rs after rest r last values number first =
     let at = and_parts (kind_fits k) (attributes_fit ds) r.attributes in
     let c = and_parts (is_core k) _ r.core in
     let d = and_parts (all_scalar ts) _ c.1 in
@@ -116,7 +119,7 @@ op_fits names sigs h env n k ds os ts rs after rest r last values bytes so st nu
     record {
       core = c.0;
       kind_fit = at.0;
-      attrs = attrs_right ds at.1 bytes;
+      attrs = attrs_right ds at.1 r.bytes;
       values = values;
       count = counts sigs h.gives k env os ts r.types;
       regions = regions_right k (map (type_at env) os) ts rs c.0 r.regions;
@@ -125,9 +128,9 @@ op_fits names sigs h env n k ds os ts rs after rest r last values bytes so st nu
       results = all_are_scalar ts d.0;
       args = first_scalar rs e.1;
       returned = all_are_scalar (returned_types k) e.0;
-      number = omega arith;
-      first = omega arith;
-      many = omega arith;
+      number = number;
+      first = first;
+      many = r.few;
       last = last;
     }
 
@@ -152,10 +155,10 @@ next_more k [] = omega arith
 next_more k (t ∷ ts) = omega arith
 
 mutual
-  pub ops_fit : (names : Names) (sigs : Signatures) (ops : Ops) (h : Holder) (env : Typed) (ss : List Seen) (k a : ℕ) → OpsObey (Rules sigs) h env ops → OpsSee ss ops → OpsInner ops → OpsStored ops → Entered names k a ops
-      → ops_number k ops < 2 ^ 32 → ops_argument a ops < 2 ^ 32 → Sees ss names → OpsFit names ops
-  ops_fit names sigs no_ops h env ss k a o s i st en kl al w = tt
-  ops_fit names sigs (op n kd ds os ts rs rest) h env ss k a o s i st en kl al w =
+  pub ops_fit : (names : Names) (sigs : Signatures) (ops : Ops) (h : Holder) (env : Typed) (ss : List Seen) (k a : ℕ) → OpsObey (Rules sigs) h env ops → OpsSee ss ops → OpsInner ops → Entered names k a ops
+      → ops_number k ops < 2 ^ 64 → ops_argument a ops ≤ 2 ^ 32 → Sees ss names → OpsFit names ops
+  ops_fit names sigs no_ops h env ss k a o s i en kl al w = tt
+  ops_fit names sigs (op n kd ds os ts rs rest) h env ss k a o s i en kl al w =
       let x : HasEntry names n k a ts (first_args rs) = en.0 in
       let k1 = next_number k ts in
       let a1 = a + length (first_args rs) in
@@ -166,52 +169,32 @@ mutual
       let l2 = ops_argument_more (regions_argument a1 rs) rest in
       let nk = number_is names n k a ts (first_args rs) x in
       let na = first_is names n k a ts (first_args rs) x in
-      let few = st.1.0 in
-      let f = op_fits names sigs h env n kd ds os ts rs rest rest o.0 (last_right sigs _ o.0) (all_known ss names os w s.0) st.1.1.0 st.0 (omega (arith, few)) (omega (arith, m0, m1, m2, nk)) (omega (arith, l1, l2, na)) in
+      let few = (o.0).few in
+      let f = op_fits names sigs h env n kd ds os ts rs rest rest o.0 (last_right sigs _ o.0) (all_known ss names os w s.0) (omega (arith, m0, m1, m2, nk)) (omega (arith, l1, l2, na)) in
       let inner = λ (j c : ℕ) (le : c ≤ length (first_args rs)). (let z : Sees (inside n j c ∷ ss) names = record { by = inside_known names ss n j c k a ts (first_args rs) x (omega (arith, l1, l2)) f.args le w } in z) in
       let after : Sees (done n (length ts) ∷ ss) names = record { by = done_known names ss n k a ts (first_args rs) x (omega (arith, m0, m1, m2)) (omega (arith, few)) f.results w } in (
         i.0,
         (
           f,
           (
-            regions_fit names sigs rs n (holder_of kd (map (type_at env) os) ts) env ss 0 (length (first_args rs)) k1 a1 o.1.0 s.1.0 i.1.0 st.1.1.1.0 en.1.0 (omega (arith, m2)) (omega (arith, l2))
+            regions_fit names sigs rs n (holder_of kd (map (type_at env) os) ts) env ss 0 (length (first_args rs)) k1 a1 o.1.0 s.1.0 i.1.0 en.1.0 (omega (arith, m2)) (omega (arith, l2))
                 (narrow kd (map (type_at env) os) ts rs f.core (o.0).regions) inner,
-            ops_fit names sigs rest h _ (done n (length ts) ∷ ss) (regions_number k1 rs) (regions_argument a1 rs) o.1.1 s.1.1 i.1.1 st.1.1.1.1 en.1.1 kl al after,
+            ops_fit names sigs rest h _ (done n (length ts) ∷ ss) (regions_number k1 rs) (regions_argument a1 rs) o.1.1 s.1.1 i.1.1 en.1.1 kl al after,
           ),
         ),
       )
 
-  pub regions_fit : (names : Names) (sigs : Signatures) (rs : Regions) (n : OpName) (h : Holder) (env : Typed) (ss : List Seen) (i count k a : ℕ) → RegionsObey (Rules sigs) h env n i rs → RegionsSee ss n i rs → RegionsInner rs → RegionsStored rs → RegionsEntered names k a rs
-      → regions_number k rs < 2 ^ 32 → regions_argument a rs < 2 ^ 32 → Narrow count rs → ((j c : ℕ) → c ≤ count → Sees (inside n j c ∷ ss) names) → RegionsFit names rs
-  regions_fit names sigs no_regions n h env ss i count k a o s inner st en kl al nr w = tt
-  regions_fit names sigs (region args ops rest) n h env ss i count k a o s inner st en kl al nr w =
+  pub regions_fit : (names : Names) (sigs : Signatures) (rs : Regions) (n : OpName) (h : Holder) (env : Typed) (ss : List Seen) (i count k a : ℕ) → RegionsObey (Rules sigs) h env n i rs → RegionsSee ss n i rs → RegionsInner rs → RegionsEntered names k a rs
+      → regions_number k rs < 2 ^ 64 → regions_argument a rs ≤ 2 ^ 32 → Narrow count rs → ((j c : ℕ) → c ≤ count → Sees (inside n j c ∷ ss) names) → RegionsFit names rs
+  regions_fit names sigs no_regions n h env ss i count k a o s inner en kl al nr w = tt
+  regions_fit names sigs (region args ops rest) n h env ss i count k a o s inner en kl al nr w =
       let m = regions_number_more (ops_number k ops) rest in
       let l = regions_argument_more (ops_argument a ops) rest in (
-        ops_fit names sigs ops h _ (inside n i (length args) ∷ ss) k a o.0 s.0 inner.0 st.0 en.0 (omega (arith, m)) (omega (arith, l)) (w i (length args) nr.0),
-        regions_fit names sigs rest n h env ss (suc i) count (ops_number k ops) (ops_argument a ops) o.1 s.1 inner.1 st.1 en.1 kl al nr.1 w,
+        ops_fit names sigs ops h _ (inside n i (length args) ∷ ss) k a o.0 s.0 inner.0 en.0 (omega (arith, m)) (omega (arith, l)) (w i (length args) nr.0),
+        regions_fit names sigs rest n h env ss (suc i) count (ops_number k ops) (ops_argument a ops) o.1 s.1 inner.1 en.1 kl al nr.1 w,
       )
 
 -- ---- functions
-
-mutual
-  number_after : (names : Names) (ops : Ops) → (with_ops names ops).number ≡ ops_number names.number ops
-  number_after names no_ops = refl
-  number_after names (op n k ds os ts rs rest) =
-      number_after (with_regions (with_op n ts (first_args rs) names) rs) rest ∙ ap (λ i. ops_number i rest) (number_within (with_op n ts (first_args rs) names) rs)
-
-  number_within : (names : Names) (rs : Regions) → (with_regions names rs).number ≡ regions_number names.number rs
-  number_within names no_regions = refl
-  number_within names (region args ops rest) = number_within (with_ops names ops) rest ∙ ap (λ i. regions_number i rest) (number_after names ops)
-
-mutual
-  argument_after : (names : Names) (ops : Ops) → (with_ops names ops).argument ≡ ops_argument names.argument ops
-  argument_after names no_ops = refl
-  argument_after names (op n k ds os ts rs rest) =
-      argument_after (with_regions (with_op n ts (first_args rs) names) rs) rest ∙ ap (λ i. ops_argument i rest) (argument_within (with_op n ts (first_args rs) names) rs)
-
-  argument_within : (names : Names) (rs : Regions) → (with_regions names rs).argument ≡ regions_argument names.argument rs
-  argument_within names no_regions = refl
-  argument_within names (region args ops rest) = argument_within (with_ops names ops) rest ∙ ap (λ i. regions_argument i rest) (argument_after names ops)
 
 each_same : (f : OpName → Option Entry) (ns : List OpName) → Each (λ n. f n ≡ f n) ns
 each_same f [] = tt
@@ -229,7 +212,7 @@ function_entered n k ds os ts rs rest once =
     let same : n ∷ regions_names rs ≡ n ∷ (regions_names rs ++ []) = ap (λ x. n ∷ x) (sym (append-nil (regions_names rs))) in
     ops_entered f no_names (with_ops no_names f) (subst Once same one) (each_same (λ m. (with_ops no_names f).entry m.0) (ops_names f))
 
-pub functions_fit : (sigs : Signatures) (fs : Ops) (h : Holder) → FunctionsObey (Rules sigs) h fs → FunctionsSee fs → FunctionsAlone fs → FunctionsStored fs → Once (ops_names fs) → FunctionsFit fs
+pub functions_fit : (sigs : Signatures) (fs : Ops) (h : Holder) → FunctionsObey (Rules sigs) h fs → FunctionsSee fs → FunctionsAlone fs → FunctionsNumber fs → Once (ops_names fs) → FunctionsFit fs
 functions_fit sigs no_ops h o s i st once = tt
 functions_fit sigs (op n (kind.Func symbol private results) ds os ts rs rest) h o s i st once =
     let k = kind.Func symbol private results in
@@ -237,23 +220,21 @@ functions_fit sigs (op n (kind.Func symbol private results) ds os ts rs rest) h 
     let names : Names = with_ops no_names f in
     let en = function_entered n k ds os ts rs rest once in
     let x : HasEntry names n 0 0 ts (first_args rs) = en.0 in
-    let stored = st.0 in
-    let kl : ops_number 0 f < 2 ^ 32 = subst (λ i. i < 2 ^ 32) (number_after no_names f) st.1.0 in
-    let al : ops_argument 0 f < 2 ^ 32 = subst (λ i. i < 2 ^ 32) (argument_after no_names f) st.1.1.0 in
+    let kl : ops_number 0 f < 2 ^ 64 = subst (λ i. i < 2 ^ 64) (number_after no_names f) st.0 in
+    let al : ops_argument 0 f ≤ 2 ^ 32 = subst (λ i. i ≤ 2 ^ 32) (argument_after no_names f) st.1.0 in
     let l1 = regions_argument_more (0 + length (first_args rs)) rs in
     let nk = number_is names n 0 0 ts (first_args rs) x in
     let na = first_is names n 0 0 ts (first_args rs) x in
-    let few = stored.1.0 in
     let types = and_parts (have_types (map (type_at []) os) []) (same_types ts []) (o.0).types in
-    let fit = op_fits names sigs h [] n k ds os ts rs rest no_ops o.0 refl (all_known [] names os (sees_nothing names) s.0) stored.1.1.0 stored.0 (omega (arith, few)) (omega (arith, nk)) (omega (arith, l1, na, al)) in
+    let fit = op_fits names sigs h [] n k ds os ts rs rest no_ops o.0 refl (all_known [] names os (sees_nothing names) s.0) (omega (arith, nk)) (omega (arith, l1, na, al)) in
     let inner = λ (j c : ℕ) (le : c ≤ length (first_args rs)). (let z : Sees (inside n j c ∷ []) names = record { by = inside_known names [] n j c 0 0 ts (first_args rs) x (omega (arith, l1, al)) fit.args le (sees_nothing names) } in z) in (
       none_by_length ts (same_length _ ts [] types.1),
       (
         fit,
         (
-          regions_fit names sigs rs n (holder_of k (map (type_at []) os) ts) [] [] 0 (length (first_args rs)) (next_number 0 ts) (0 + length (first_args rs)) o.1.0 s.1.0 i.1.0 stored.1.1.1.0 en.1.0 kl al
+          regions_fit names sigs rs n (holder_of k (map (type_at []) os) ts) [] [] 0 (length (first_args rs)) (next_number 0 ts) (0 + length (first_args rs)) o.1.0 s.1.0 i.1.0 en.1.0 kl al
               (narrow k (map (type_at []) os) ts rs refl (o.0).regions) inner,
-          functions_fit sigs rest h o.1.1 s.1.1 i.1.1 st.1.1.1 (once_right (n ∷ regions_names rs) (ops_names rest) once),
+          functions_fit sigs rest h o.1.1 s.1.1 i.1.1 st.1.1 (once_right (n ∷ regions_names rs) (ops_names rest) once),
         ),
       ),
     )
@@ -279,7 +260,7 @@ module_fits m v core st =
     let t = m.root in
     let sigs = signatures m in
     let h = root_holder t in
-    let rules = rules_of sigs (placed m) v.regions v.blocks v.types v.attributes core in
+    let rules = rules_of sigs (placed m) v.regions v.blocks v.types v.attributes core st.results st.bytes in
     let k = module_kind t.kind v.functions.root in
     let empty = root_empty sigs t.kind k.0 (map (type_at []) t.operands) t.results k.1 v.types.0 in
     let one : t.regions ≡ region [] (block_of t.regions) no_regions = one_block t.kind v.functions.root (map (type_at []) t.operands) t.results t.regions v.regions.0 in
@@ -288,13 +269,11 @@ module_fits m v core st =
     let alone = subst BlocksAlone one v.functions.alone in
     let once : Once (ops_names (block_of t.regions) ++ []) = subst (λ rs. Once (regions_names rs)) one v.names.once.1 in
     let no_args : length (first_args t.regions) ≡ 0 = ap (λ rs. length (first_args rs)) one in
-    let no_operands = sym (length-map t.operands (type_at [])) ∙ empty.0 in
-    let no_results = ap length empty.1 in
     record {
       symbol = k.0;
       kind_is = k.1;
       no_results = empty.1;
-      root = op_fits no_names sigs top [] t.name t.kind t.attrs t.operands t.results t.regions no_ops no_ops rules.0 (no_end_at_root t.kind k.0 k.1) (all_known [] no_names t.operands (sees_nothing no_names) v.uses.root) st.attrs
-          (omega (arith, no_operands)) (omega (arith, no_results)) (omega arith) (omega (arith, no_args));
-      functions = functions_fit sigs (functions_of m) h functions.0 v.uses.functions alone.0 st.functions (once_left (ops_names (block_of t.regions)) [] once);
+      root = op_fits no_names sigs top [] t.name t.kind t.attrs t.operands t.results t.regions no_ops no_ops rules.0 (no_end_at_root t.kind k.0 k.1) (all_known [] no_names t.operands (sees_nothing no_names) v.uses.root)
+          (omega arith) (omega (arith, no_args));
+      functions = functions_fit sigs (functions_of m) h functions.0 v.uses.functions alone.0 st.numbers (once_left (ops_names (block_of t.regions)) [] once);
     }

@@ -30,7 +30,8 @@ use Rattle.xf_ir.specs.Words.{is_word}
 use Rattle.xf_print.specs.Names.{Entry, Names, no_names, with_ops, first_args, next_number, number_of, first_of}
 use Rattle.xf_roundtrip.specs.Printing.{is_core, all_scalar, is_core_op}
 use Rattle.xf_roundtrip.specs.Printable.{HasBytes}
-use Rattle.xf_roundtrip.specs.Layout.{Known, IsScalar, AttrFits, ArgsRight, CarriedRight, counted, has_regions, Fits, OpsFit, RegionsFit, FunctionsFit, ModuleFits, OpsStored, RegionsStored}
+use Rattle.xf_roundtrip.proofs.Needs.{Known, IsScalar, AttrFits, ArgsRight, CarriedRight, counted, has_regions, Fits, OpsFit, RegionsFit, FunctionsFit, ModuleFits}
+use Rattle.xf_roundtrip.specs.Stored.{IsStored}
 use Rattle.xf_roundtrip.proofs.Fits.{lists_are}
 use Rattle.xf_roundtrip.proofs.Names.{HasEntry}
 

@@ -18,7 +18,7 @@ use Rattle.xf_lex.specs.Laid.{Plain, Piece, AllBlank, laid, Stays, AllStay}
 use Rattle.xf_lex.proofs.Stays.{AllPass, Stops, run_all, Digits, decimal_digits}
 use Rattle.xf_grammar.specs.Tokens.{Seen, sees}
 use Rattle.xf_grammar.specs.Laid.{seen_plain, seen_plains}
-use Rattle.xf_roundtrip.specs.Layout.{Reads}
+use Rattle.xf_roundtrip.proofs.Needs.{Reads}
 
 -- ---- truth values
 

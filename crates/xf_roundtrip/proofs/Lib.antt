@@ -13,6 +13,7 @@ pub mod Lines
 pub mod Literals
 pub mod Meaning
 pub mod Names
+pub mod Needs
 pub mod Operations
 pub mod Pieces
 pub mod Printed

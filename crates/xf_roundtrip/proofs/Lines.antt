@@ -22,7 +22,7 @@ use Rattle.xf_print.specs.Attributes.{attrs_text}
 use Rattle.xf_print.specs.Names.{Names, no_names, with_ops, first_args, number_of, first_of}
 use Rattle.xf_print.specs.Printed.{line_at, is_empty_yield, op_text, body_head, head_lines, end_lines, between_lines, ops_lines, regions_lines, functions_lines, printed_lines, printed_form}
 use Rattle.xf_roundtrip.specs.Printing.{dictionary_piece, is_core, row_of, pieces_of, results_of}
-use Rattle.xf_roundtrip.specs.Layout.{head_tokens, tail_tokens, ops_tokens, regions_tokens, functions_tokens, module_tokens, AttrFits, has_regions, Fits, OpsFit, RegionsFit, FunctionsFit, ModuleFits, Reads}
+use Rattle.xf_roundtrip.proofs.Needs.{head_tokens, tail_tokens, ops_tokens, regions_tokens, functions_tokens, module_tokens, AttrFits, has_regions, Fits, OpsFit, RegionsFit, FunctionsFit, ModuleFits, Reads}
 use Rattle.xf_roundtrip.proofs.Lays.{breaks, Low, Lays, known_blanks, known_word, before, front, whole, open_brace_lays, close_brace_lays, space_lays}
 use Rattle.xf_roundtrip.proofs.Pieces.{empty, attrs_lay}
 use Rattle.xf_roundtrip.proofs.RowTexts.{row_then, row_then_is, opens, results_lay, Given, row_lays}
@@ -55,7 +55,7 @@ one_line {f} {text} {ts} level p = subst (λ x. LinesLay (line_at level text ∷
 -- ---- the line of an operation
 
 given_of : (names : Names) (n : OpName) (k : Kind) (ds : List Attr) (os : List ValueName) (ts : List PayloadType) (rs : Regions) (rest : Ops) → Fits names n k ds os ts rs rest → Given names (first_of (names.entry n.0)) (first_args rs) k ds os ts
-given_of names n k ds os ts rs rest f = record { kind_fit = f.kind_fit; attrs = f.attrs; values = f.values; results = f.results; args_scalar = f.args; returned = f.returned; room = f.first }
+given_of names n k ds os ts rs rest f = record { kind_fit = f.kind_fit; attrs = f.attrs; values = f.values; results = f.results; args_scalar = f.args; returned = f.returned; arguments = f.arguments; carried = f.carried; room = f.first }
 
 -- an operation before its bodies
 op_lays : (names : Names) (n : OpName) (k : Kind) (ds : List Attr) (os : List ValueName) (ts : List PayloadType) (rs : Regions) (rest : Ops) → Fits names n k ds os ts rs rest

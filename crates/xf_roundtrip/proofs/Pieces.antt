@@ -37,7 +37,7 @@ use Rattle.xf_print.specs.Names.{Entry, Names, argument_text, result_part, name_
 use Rattle.xf_print.specs.Rows.{attributes_text}
 use Rattle.xf_roundtrip.specs.Printing.{part_digits, use_of, operand_width, width_or, has_minus, digits_of, is_true, literal_piece, number_said, attribute_value, attribute_of, dictionary_piece, results_piece, widths}
 use Rattle.xf_roundtrip.specs.Printable.{HasBytes}
-use Rattle.xf_roundtrip.specs.Layout.{Known, IsScalar, AttrFits}
+use Rattle.xf_roundtrip.proofs.Needs.{Known, IsScalar, AttrFits}
 use Rattle.xf_roundtrip.proofs.Strings.{string_lays}
 use Rattle.xf_roundtrip.proofs.Suits.{IsShort, signed_short}
 use Rattle.xf_roundtrip.proofs.Lays.{both_true, and_left, and_right, breaks, is_low, Low, pass_append, Lays, free_token, known_blanks, nothing, before, front, freed, looser, IsWord, a_word, known_word, a_symbol, an_integer, a_negative, a_number, a_hash, an_argument, open_lays, close_lays, comma_lays, colon_lays, equals_lays, open_brace_lays, close_brace_lays, arrow_lays, space_lays}

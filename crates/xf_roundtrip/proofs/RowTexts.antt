@@ -32,7 +32,7 @@ use Rattle.xf_print.specs.Attributes.{attrs_text}
 use Rattle.xf_print.specs.Names.{Names, argument_text, name_text, values_text, value_type, value_types, results_text, param_texts, carried_texts}
 use Rattle.xf_print.specs.Rows.{given_text, symbol_text, attributes_text, private_text, returned_text, carried_text, bound_text, chosen_text, row_text}
 use Rattle.xf_roundtrip.specs.Printing.{use_of, operand_width, module_symbol, function_symbol, params_from, pairs_from, results_piece, function_results, given_piece, carried_piece, loop_width, chosen_piece, dictionary_piece, is_core, row_of, pieces_of, results_of, widths, symbol_bytes}
-use Rattle.xf_roundtrip.specs.Layout.{Known, IsScalar, AttrFits, counted}
+use Rattle.xf_roundtrip.proofs.Needs.{Known, IsScalar, AttrFits, ArgsRight, CarriedRight, counted}
 use Rattle.xf_roundtrip.proofs.Lays.{breaks, Lays, known_word, nothing, before, front, looser, a_symbol, an_integer, a_number, an_argument, open_lays, close_lays, comma_lays, colon_lays, equals_lays, open_brace_lays, arrow_lays, space_lays}
 use Rattle.xf_roundtrip.proofs.Pieces.{empty, EachLays, list_then, Ends, list_lays, list_is, in_parens, word_true, width_lays, stated_lays, scalar_lays, types_lay, results_tokens, arrow_types_lay, literal_lays, attrs_lay, attributes_lay, attrs_end, attributes_end, use_lays, uses_lay, value_types_lay}
 
@@ -218,13 +218,9 @@ pub record Given (names : Names) (first : ℕ) (args : List PayloadType) (k : Ki
   pub results : Each IsScalar ts
   pub args_scalar : Each IsScalar args
   pub returned : Each IsScalar (returned_types k)
-  pub room : first + suc (length args + length os) < 2 ^ 64
-
-three_behind : {A : Type 0} (xs : List A) → length (drop 3 xs) ≤ length xs
-three_behind [] = omega arith
-three_behind (x ∷ []) = omega arith
-three_behind (x ∷ (y ∷ [])) = omega arith
-three_behind (x ∷ (y ∷ (z ∷ xs))) = omega arith
+  pub arguments : ArgsRight k ts args
+  pub carried : CarriedRight k os ts
+  pub room : first + length args ≤ 2 ^ 32
 
 return_row : (names : Names) (ds : List Attr) (os : List ValueName) (head : List ℕ) → Each AttrFits ds → Each (Known names) os → Lays false head (word head ∷ [])
     → Lays false (head ++ (attrs_text ds ++ given_text names os)) (word head ∷ row_then (slot.Dictionary ∷ slot.Operands ∷ []) (dictionary_piece ds ∷ given_piece names os ∷ []) [])
@@ -240,7 +236,7 @@ row_lays names first args (kind.Func symbol private results) ds os ts c n h =
     let ends = attributes_end false ds (codes " {") (λ rest e. refl) in
     let behind = before (returned_lays results h.returned) (front (attributes_lay ds h.attrs) brace_lays) ends in
     let room = h.room in
-    let inner = in_parens param_written (params_from first args) (param_texts first args) (params_lay first args (omega arith) h.args_scalar) behind in
+    let inner = in_parens param_written (params_from first args) (param_texts first args) (params_lay first args (omega (arith, room)) h.args_scalar) behind in
     before (known_word (codes "func.func") refl) (front space_lays (name_before private symbol h.kind_fit (front open_lays inner) (λ rest e. refl))) (λ rest e. refl)
 row_lays names first args kind.Return ds os ts c n h = return_row names ds os (codes "func.return") h.attrs h.values (known_word (codes "func.return") refl)
 row_lays names first args (kind.Call callee) ds os ts c n h =
@@ -269,12 +265,14 @@ row_lays names first args (kind.Convert which from to) ds (a ∷ []) ts c n h =
 row_lays names first args (kind.Convert which from to) ds os ts c n h = absurd cc
 row_lays names first args (kind.For width) ds (a ∷ b ∷ d ∷ os) ts c n h =
     let room = h.room in
+    let all : length args ≡ suc (length ts) = ap length h.arguments in
+    let carried_all = h.carried in
     let ends = bound_ends (is_index width) width in
-    let carried = front (carried_lays names first (a ∷ b ∷ d ∷ os) ts (omega arith) h.values.1.1.1 h.results) (before (bound_lays (is_index width) width) brace_lays (λ rest e. refl)) in
+    let carried = front (carried_lays names first (a ∷ b ∷ d ∷ os) ts (omega (arith, room, all, carried_all)) h.values.1.1.1 h.results) (before (bound_lays (is_index width) width) brace_lays (λ rest e. refl)) in
     let step = before (use_lays names d h.values.1.1.0) carried (carried_ends false names first (a ∷ b ∷ d ∷ os) ts (bound_text width ++ codes " {") ends) in
     let to = before (use_lays names b h.values.1.0) (front space_lays (before (known_word (codes "step") refl) (front space_lays step) (λ rest e. refl))) (λ rest e. refl) in
     let from = before (use_lays names a h.values.0) (front space_lays (before (known_word (codes "to") refl) (front space_lays to) (λ rest e. refl))) (λ rest e. refl) in
-    before (known_word (codes "scf.for") refl) (front space_lays (before (an_argument first (omega arith)) (front space_lays (front equals_lays (front space_lays from))) (λ rest e. refl))) (λ rest e. refl)
+    before (known_word (codes "scf.for") refl) (front space_lays (before (an_argument first (omega (arith, room))) (front space_lays (front equals_lays (front space_lays from))) (λ rest e. refl))) (λ rest e. refl)
 row_lays names first args (kind.For width) ds os ts c n h = absurd cc
 row_lays names first args kind.If ds (a ∷ []) ts c n h =
     before (known_word (codes "scf.if") refl)

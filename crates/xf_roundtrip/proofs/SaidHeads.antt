@@ -24,7 +24,7 @@ use Rattle.xf_print.specs.Names.{Names, argument_text, type_of}
 use Rattle.xf_roundtrip.specs.Naming.{use_printed, defines_printed, arguments_printed}
 use Rattle.xf_roundtrip.specs.Printing.{use_of, operand_width, has_minus, digits_of, literal_piece, attribute_of, dictionary_piece, symbol_bytes, module_symbol, function_symbol, params_from, pairs_from, results_piece, function_results, given_piece, carried_piece, loop_width, chosen_piece, widths, is_core, row_of, pieces_of, results_of, tail_says}
 use Rattle.xf_roundtrip.specs.SaidPrinted.{signed_said, literal_printed, entry_printed, known_types, head_by}
-use Rattle.xf_roundtrip.specs.Layout.{Known, IsScalar, ArgsRight, CarriedRight, counted}
+use Rattle.xf_roundtrip.proofs.Needs.{Known, IsScalar, ArgsRight, CarriedRight, counted}
 use Rattle.xf_roundtrip.proofs.SaidPieces.{use_said', use_is, uses_are, widths_are, results_are, given_is, params_are, pairs_are, entries_are, dictionary_is, attributes_is, defines_are}
 
 -- ---- pieces

@@ -27,7 +27,7 @@ use Rattle.xf_print.specs.Names.{Entry, Names, argument_text, type_of}
 use Rattle.xf_roundtrip.specs.Naming.{part_said, use_printed, defines_printed, arguments_printed}
 use Rattle.xf_roundtrip.specs.Printing.{part_digits, use_of, operand_width, has_minus, digits_of, number_said, attribute_value, attribute_of, dictionary_piece, params_from, pairs_from, given_piece, results_of, widths}
 use Rattle.xf_roundtrip.specs.SaidPrinted.{signed_said, integer_printed, value_printed, entry_printed, known_types}
-use Rattle.xf_roundtrip.specs.Layout.{Known, IsScalar}
+use Rattle.xf_roundtrip.proofs.Needs.{Known, IsScalar}
 
 -- ---- numbers
 

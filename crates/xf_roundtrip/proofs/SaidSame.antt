@@ -24,7 +24,8 @@ use Rattle.xf_roundtrip.specs.Printable.{HasBytes, AllBytes, FunctionsNumber, Is
 use Rattle.xf_roundtrip.specs.Printing.{is_core, is_core_op, op_says, IsCore, module_printed}
 use Rattle.xf_roundtrip.specs.Printing.{ops_printed as ops_by_pieces, bodies_printed as bodies_by_pieces, functions_printed as functions_by_pieces}
 use Rattle.xf_roundtrip.specs.SaidPrinted.{has_row, head_printed, ops_printed, regions_printed, functions_printed, printed_said}
-use Rattle.xf_roundtrip.specs.Layout.{Fits, OpsFit, RegionsFit, FunctionsFit, ModuleFits, OpsStored, RegionsStored, FunctionsStored, IsStored}
+use Rattle.xf_roundtrip.proofs.Needs.{Fits, OpsFit, RegionsFit, FunctionsFit, ModuleFits}
+use Rattle.xf_roundtrip.specs.Stored.{IsStored}
 use Rattle.xf_roundtrip.proofs.SaidHeads.{Parts, head_same}
 
 -- ---- what is said by pieces
@@ -71,23 +72,6 @@ module_same m f =
 
 -- ---- what is asked of a module
 
-mutual
-  ops_bytes : (h : Holder) (env : Typed) (ops : Ops) → OpsStored ops → OpsObey AllBytes h env ops
-  ops_bytes h env no_ops s = tt
-  ops_bytes h env (op n k ds os ts rs rest) s = (s.1.1.0, (regions_bytes _ env n 0 rs s.1.1.1.0, ops_bytes h _ rest s.1.1.1.1))
-
-  regions_bytes : (h : Holder) (env : Typed) (n : OpName) (i : ℕ) (rs : Regions) → RegionsStored rs → RegionsObey AllBytes h env n i rs
-  regions_bytes h env n i no_regions s = tt
-  regions_bytes h env n i (region args ops rest) s = (ops_bytes h _ ops s.0, regions_bytes h env n (suc i) rest s.1)
-
-functions_bytes : (h : Holder) (fs : Ops) → FunctionsStored fs → FunctionsObey AllBytes h fs
-functions_bytes h no_ops s = tt
-functions_bytes h (op n k ds os ts rs rest) s = (s.0.1.1.0, (regions_bytes _ [] n 0 rs s.0.1.1.1.0, functions_bytes h rest s.1.1.1))
-
-functions_number : (fs : Ops) → FunctionsStored fs → FunctionsNumber fs
-functions_number no_ops s = tt
-functions_number (op n k ds os ts rs rest) s = let a = s.1.0 in let b = s.1.1.0 in (omega arith, (omega arith, functions_number rest s.1.1.1))
-
 row_of_core : (k : Kind) → is_core k ≡ true → has_row k ≡ true
 row_of_core (kind.Module symbol) e = refl
 row_of_core (kind.Func symbol private results) e = refl
@@ -105,13 +89,9 @@ row_of_core k e = absurd cc
 
 pub printable : (m : Module) → IsValid m → IsCore m → IsStored m → IsPrintable m
 printable m v core st =
-    let t = m.root in
-    let h = root_holder t in
-    let one : t.regions ≡ region [] (block_of t.regions) no_regions = one_block t.kind v.functions.root (map (type_at []) t.operands) t.results t.regions v.regions.0 in
-    let blocks : BlocksObey AllBytes h t.regions = subst (λ rs. BlocksObey AllBytes h rs) (sym one) (functions_bytes h (block_of t.regions) st.functions, tt) in
     record {
       valid = v;
       rows = each_map (λ (p : Placed). is_core_op p.tree ≡ true) (λ (p : Placed). has_row p.tree.kind ≡ true) (placed m) (λ p e. row_of_core p.tree.kind (and_parts (is_core p.tree.kind) _ e).0) core;
-      bytes = (st.attrs, each_blocks AllBytes h t.regions blocks);
-      numbers = functions_number (functions_of m) st.functions;
+      bytes = st.bytes;
+      numbers = st.numbers;
     }

@@ -36,7 +36,7 @@ use Rattle.xf_ir.specs.Lists.{Each}
 use Rattle.xf_ir.specs.RuleAttributes.{is_index as is_index_width, fits_bits, value_fits}
 use Rattle.xf_print.specs.Names.{Entry, Names}
 use Rattle.xf_roundtrip.specs.Printing.{part_digits, use_or_none, use_of, width_or, operand_width, has_minus, digits_of, literal_piece, number_said, attribute_value, attribute_of, dictionary_piece, module_symbol, function_symbol, params_from, pairs_from, results_piece, function_results, given_piece, carried_piece, loop_width, chosen_piece, is_core, row_of, pieces_of, results_of, widths}
-use Rattle.xf_roundtrip.specs.Layout.{Known, AttrFits, counted}
+use Rattle.xf_roundtrip.proofs.Needs.{Known, AttrFits, counted}
 use Rattle.xf_roundtrip.proofs.Lays.{both_true}
 
 -- ---- numbers

@@ -1,5 +1,4 @@
 pub mod Laws
-pub mod Layout
 pub mod Naming
 pub mod Printable
 pub mod PrintedLaws
@@ -9,3 +8,4 @@ pub mod SaidMeant
 pub mod SaidPrinted
 pub mod SaidWell
 pub mod Saying
+pub mod Stored

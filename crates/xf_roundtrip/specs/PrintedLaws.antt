@@ -11,7 +11,7 @@ use Rattle.xf_print.specs.Printed.{printed_form}
 use Rattle.xf_read.specs.Syntax.{most_open, most_operations}
 use Rattle.xf_read.specs.Spells.{Spells}
 use Rattle.xf_read.specs.Written.{SaidNodes, IsWritten}
-use Rattle.xf_roundtrip.specs.Layout.{IsStored}
+use Rattle.xf_roundtrip.specs.Stored.{IsStored}
 use Rattle.xf_roundtrip.specs.Printing.{IsCore, module_printed}
 use Rattle.xf_roundtrip.specs.Renamed.{IsRenamed}
 

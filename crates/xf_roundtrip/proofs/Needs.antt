@@ -1,5 +1,5 @@
 -- The tokens of the printed form, what its operations need, and texts that are laid out of tokens.
-use Rattle.std.specs.Prelude.{◌≡◌, ℕ, suc, ◌+◌, ◌-◌, ◌^◌, ◌<◌, List, [], ◌∷◌, ◌++◌, length, drop, map, codes, Option, Some, None, Bool, true, false, not, ◌||◌, if◌then◌else◌, slice_get}
+use Rattle.std.specs.Prelude.{◌≡◌, ℕ, suc, ◌+◌, ◌^◌, ◌<◌, ◌≤◌, List, [], ◌∷◌, ◌++◌, length, drop, map, codes, Option, Some, None, Bool, true, false, not, ◌||◌, if◌then◌else◌, slice_get}
 use Rattle.xf_type.specs.declared.payload_type.PayloadType.{PayloadType}
 use Rattle.xf_type.specs.declared.payload_type.PayloadType.TheVariants.{Scalar}
 use Rattle.xf_type.specs.declared.payload_type.Width.{Width}
@@ -145,7 +145,7 @@ pub record Fits (names : Names) (n : OpName) (k : Kind) (ds : List Attr) (os : L
   pub args : Each IsScalar (first_args rs)
   pub returned : Each IsScalar (returned_types k)
   pub number : number_of (names.entry n.0) < 2 ^ 64
-  pub first : first_of (names.entry n.0) + suc (length (first_args rs) + length os) < 2 ^ 64
+  pub first : first_of (names.entry n.0) + length (first_args rs) ≤ 2 ^ 32
   pub many : length ts < 2 ^ 32
   pub last : (not (ends k) || is_end rest) ≡ true
 
@@ -184,27 +184,3 @@ pub record Reads (after_tensor : Bool) (text : List ℕ) (ts : List Seen) : Type
   pub text_is : laid pieces tail ≡ text
   pub tokens_are : seen_plains (map (λ w. w.token) pieces) ≡ ts
   pub stay : AllStay after_tensor pieces tail
-
--- ---- limits
-
--- lists of operands and results are those of a machine, and strings are made of bytes
-abbrev mutual
-  pub OpsStored : Ops → Type 0
-  OpsStored no_ops = Unit {0}
-  OpsStored (op n k ds os ts rs rest) = (length os < 2 ^ 32) × ((length ts < 2 ^ 32 - 1) × (Each (λ (d : Attr). HasBytes d.value) ds × (RegionsStored rs × OpsStored rest)))
-
-  pub RegionsStored : Regions → Type 0
-  RegionsStored no_regions = Unit {0}
-  RegionsStored (region args ops rest) = OpsStored ops × RegionsStored rest
-
--- so are the lists of functions, each of which names its values by numbers of 32 bits
-abbrev pub FunctionsStored : Ops → Type 0
-FunctionsStored no_ops = Unit {0}
-FunctionsStored (op n k ds os ts rs rest) =
-    OpsStored (op n k ds os ts rs no_ops)
-    × (((with_ops no_names (op n k ds os ts rs no_ops)).number < 2 ^ 32) × (((with_ops no_names (op n k ds os ts rs no_ops)).argument < 2 ^ 32) × FunctionsStored rest))
-
--- a module as it is stored
-pub record IsStored (m : Module) : Type 0 where
-  pub attrs : Each (λ (d : Attr). HasBytes d.value) m.root.attrs
-  pub functions : FunctionsStored (functions_of m)
