@@ -1,9 +1,8 @@
 -- The lines of a valid module of the core kinds are made of tokens.
-use Rattle.std.proofs.Common.{◌≡◌, ◌⊎◌, inl, inr, ℕ, zero, suc, ◌+◌, ◌-◌, ◌^◌, ◌<◌, ◌≤◌, Bool, true, false, List, [], ◌∷◌, ◌++◌, length, Option, Some, None, refl, sym, ap, subst, ◌∙◌, arith, slice_get, append-nil}
+use Rattle.std.proofs.Common.{◌≡◌, ◌⊎◌, inl, inr, ℕ, suc, ◌+◌, ◌^◌, ◌<◌, ◌≤◌, Bool, true, false, List, [], ◌∷◌, ◌++◌, length, Option, Some, None, refl, sym, ap, subst, ◌∙◌, arith, slice_get, append-nil}
 use Rattle.std.specs.Prelude.{◌&&◌, ◌||◌, ◌==◌, map, not, is_some, nat_lt, if◌then◌else◌}
 use Rattle.std.proofs.lemmas.Bool.{and_parts, eqb-true, ltb-true}
 use Rattle.xf_type.specs.declared.payload_type.PayloadType.{PayloadType}
-use Rattle.xf_type.specs.declared.payload_type.PayloadType.TheVariants.{Scalar}
 use Rattle.xf_ir.specs.declared.name.OpName.{OpName}
 use Rattle.xf_ir.specs.declared.name.ValueName.{ValueName}
 use Rattle.xf_ir.specs.declared.name.ValueName.TheVariants.{Result, Arg, Free}
@@ -11,27 +10,26 @@ use Rattle.xf_ir.specs.declared.kind.Attr.{Attr}
 use Rattle.xf_ir.specs.declared.kind.Kind.{Kind}
 use Rattle.xf_ir.specs.declared.kind.Kind.TheVariants as kind
 use Rattle.xf_ir.specs.declared.op.Module.{Module}
-use Rattle.xf_ir.specs.Kinds.{ends, ends_for, is_container, is_function, is_module, returned_types}
+use Rattle.xf_ir.specs.Kinds.{ends, ends_for, is_module, returned_types}
 use Rattle.xf_ir.specs.Lists.{Each, every, Once}
-use Rattle.xf_ir.specs.Places.{Seen, done, inside, place_of, results_of, args_of, below, sees, AllSeen}
+use Rattle.xf_ir.specs.Places.{Seen, done, inside, below, sees, AllSeen}
 use Rattle.xf_ir.specs.Placed.{Typed, type_at, Holder, holder_of, Placed, place, placed, top, functions_of, block_of, root_holder}
 use Rattle.xf_ir.specs.Calls.{Signatures, signatures}
 use Rattle.xf_ir.specs.RuleAttributes.{kind_fits, attributes_fit, has_its_attributes}
-use Rattle.xf_ir.specs.RuleBlocks.{block_args, blocks_fit, has_its_regions, is_end, ends_its_blocks, stands_at_end, blocks_end}
+use Rattle.xf_ir.specs.RuleBlocks.{block_args, has_its_regions, is_end, ends_its_blocks, blocks_end}
 use Rattle.xf_ir.specs.RuleTypes.{has_its_types}
 use Rattle.xf_ir.specs.RuleTypes.{row_of as type_row}
-use Rattle.std.proofs.lemmas.List.{length-map}
-use Rattle.xf_ir.specs.Tree.{Ops, no_ops, op, Regions, no_regions, region, Tree}
+use Rattle.xf_ir.specs.Tree.{Ops, no_ops, op, Regions, no_regions, region}
 use Rattle.xf_ir.specs.Types.{same_types, have_types}
 use Rattle.xf_ir.specs.Valid.{OpsInner, RegionsInner, FunctionsAlone, BlocksAlone, OpsSee, RegionsSee, FunctionsSee, IsValid}
-use Rattle.xf_ir.specs.Walk.{ops_names, regions_names, tree_names}
+use Rattle.xf_ir.specs.Walk.{ops_names, regions_names}
 use Rattle.xf_ir.proofs.Lists.{once_left, once_right}
 use Rattle.xf_ir.proofs.Obeys.{OpsObey, RegionsObey, FunctionsObey, BlocksObey, blocks_obey}
 use Rattle.xf_ir.proofs.Root.{one_block}
-use Rattle.xf_print.specs.Names.{Entry, Names, no_names, with_op, with_ops, with_regions, first_args, next_number, number_of, first_of}
+use Rattle.xf_print.specs.Names.{Entry, Names, no_names, with_ops, first_args, next_number, number_of, first_of}
 use Rattle.xf_roundtrip.specs.Printing.{is_core, all_scalar, is_core_op, IsCore}
 use Rattle.xf_roundtrip.specs.Printable.{AllBytes, FunctionsNumber}
-use Rattle.xf_roundtrip.proofs.Needs.{Known, IsScalar, AttrFits, counted, has_regions, Fits, OpsFit, RegionsFit, FunctionsFit, ModuleFits}
+use Rattle.xf_roundtrip.proofs.Needs.{Known, IsScalar, Fits, OpsFit, RegionsFit, FunctionsFit, ModuleFits}
 use Rattle.xf_roundtrip.specs.Stored.{IsStored}
 use Rattle.xf_roundtrip.proofs.Again.{ops_number, regions_number, ops_argument, regions_argument, ops_number_more, regions_number_more, ops_argument_more, regions_argument_more}
 use Rattle.xf_roundtrip.proofs.Entries.{Entered, RegionsEntered, ops_entered, number_after, argument_after}

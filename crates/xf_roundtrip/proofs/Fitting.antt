@@ -1,39 +1,31 @@
 -- The operations of a valid module of the core kinds are what their lines need.
-use Rattle.std.proofs.Common.{◌≡◌, ◌⊎◌, inl, inr, ℕ, zero, suc, ◌+◌, ◌-◌, ◌^◌, ◌<◌, ◌≤◌, Bool, true, false, List, [], ◌∷◌, ◌++◌, length, Option, Some, None, refl, sym, ap, subst, ◌∙◌, arith, slice_get, append-nil}
-use Rattle.std.specs.Prelude.{◌&&◌, ◌||◌, ◌==◌, map, drop, not, is_some, nat_lt, if◌then◌else◌}
-use Rattle.std.proofs.lemmas.Bool.{and_parts, eqb-true, ltb-true}
-use Rattle.std.proofs.lemmas.Bool.Decides.{nat_tests}
+use Rattle.std.proofs.Common.{◌≡◌, ◌⊎◌, inl, inr, ℕ, zero, suc, ◌+◌, ◌<◌, ◌≤◌, Bool, true, false, List, [], ◌∷◌, length, Option, Some, refl, sym, ap, ◌∙◌, arith, slice_get}
+use Rattle.std.specs.Prelude.{◌&&◌, ◌||◌, map, drop}
+use Rattle.std.proofs.lemmas.Bool.{and_parts}
 use Rattle.std.proofs.lemmas.List.{length-map}
 use Rattle.xf_type.specs.declared.payload_type.PayloadType.{PayloadType}
 use Rattle.xf_type.specs.declared.payload_type.PayloadType.TheVariants.{Scalar, Tensor}
 use Rattle.xf_type.specs.declared.payload_type.Width.{Width}
 use Rattle.xf_type.specs.declared.payload_type.Width.TheVariants.{I1}
-use Rattle.xf_ir.specs.declared.name.OpName.{OpName}
 use Rattle.xf_ir.specs.declared.name.ValueName.{ValueName}
-use Rattle.xf_ir.specs.declared.name.ValueName.TheVariants.{Result, Arg, Free}
 use Rattle.xf_ir.specs.declared.kind.Attr.{Attr}
 use Rattle.xf_ir.specs.declared.kind.Kind.{Kind}
 use Rattle.xf_ir.specs.declared.kind.Kind.TheVariants as kind
-use Rattle.xf_ir.specs.declared.op.Module.{Module}
-use Rattle.xf_ir.specs.Kinds.{ends, ends_for, is_container, is_function, is_module, returned_types}
-use Rattle.xf_ir.specs.Lists.{Each, every, is_empty, Once}
-use Rattle.xf_ir.specs.Places.{Seen, done, inside, place_of, results_of, args_of, below, sees, AllSeen}
-use Rattle.xf_ir.specs.Placed.{Typed, type_at, Holder, holder_of, Placed, place, functions_of, block_of, root_holder}
-use Rattle.xf_ir.specs.Calls.{Signatures, signatures}
-use Rattle.xf_ir.specs.RuleAttributes.{kind_fits, value_fits, attributes_fit, has_its_attributes}
-use Rattle.xf_ir.specs.RuleBlocks.{block_args, are_blocks, blocks_fit, has_its_regions, is_end, ends_its_blocks, is_one, stands_at_end, blocks_end}
-use Rattle.xf_ir.specs.RuleTypes.{takes_gives, has_its_types}
+use Rattle.xf_ir.specs.Lists.{Each, every, is_empty}
+use Rattle.xf_ir.specs.Placed.{Typed, type_at}
+use Rattle.xf_ir.specs.Calls.{Signatures}
+use Rattle.xf_ir.specs.RuleAttributes.{value_fits, attributes_fit}
+use Rattle.xf_ir.specs.RuleBlocks.{block_args, are_blocks, blocks_fit, is_one}
+use Rattle.xf_ir.specs.RuleTypes.{takes_gives}
 use Rattle.xf_ir.specs.RuleTypes.{row_of as type_row}
-use Rattle.xf_ir.specs.Tree.{Ops, no_ops, op, Regions, no_regions, region, Tree}
-use Rattle.xf_ir.specs.Types.{same_items, same_type, same_types, have_types, has_type, is_scalar}
+use Rattle.xf_ir.specs.Tree.{Ops, Regions, no_regions, region}
+use Rattle.xf_ir.specs.Types.{same_items, same_type, same_types, have_types, has_type}
 use Rattle.xf_ir.specs.Words.{is_word}
-use Rattle.xf_print.specs.Names.{Entry, Names, no_names, with_ops, first_args, next_number, number_of, first_of}
-use Rattle.xf_roundtrip.specs.Printing.{is_core, all_scalar, is_core_op}
+use Rattle.xf_print.specs.Names.{first_args}
+use Rattle.xf_roundtrip.specs.Printing.{is_core, all_scalar}
 use Rattle.xf_roundtrip.specs.Printable.{HasBytes}
-use Rattle.xf_roundtrip.proofs.Needs.{Known, IsScalar, AttrFits, ArgsRight, CarriedRight, counted, has_regions, Fits, OpsFit, RegionsFit, FunctionsFit, ModuleFits}
-use Rattle.xf_roundtrip.specs.Stored.{IsStored}
+use Rattle.xf_roundtrip.proofs.Needs.{IsScalar, AttrFits, ArgsRight, CarriedRight, counted, has_regions}
 use Rattle.xf_roundtrip.proofs.Fits.{lists_are}
-use Rattle.xf_roundtrip.proofs.Names.{HasEntry}
 
 -- ---- types
 

@@ -1,5 +1,5 @@
 -- A text means what it says.
-use Rattle.std.proofs.Common.{◌≡◌, ◌+◌, List, [], sym, ap, ◌∙◌}
+use Rattle.std.proofs.Common.{◌≡◌, ◌+◌, List, sym, ap, ◌∙◌}
 use Rattle.std.specs.Prelude.{map}
 use Rattle.xf_lex.specs.declared.token.Token.{Token}
 use Rattle.xf_lex.proofs.LaidLemmas.{laid_again}

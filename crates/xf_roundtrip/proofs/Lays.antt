@@ -1,5 +1,5 @@
 -- Tokens that stay whole before what ends them, and texts that are laid out of tokens and blanks.
-use Rattle.std.proofs.Common.{◌≡◌, ℕ, suc, ◌+◌, ◌%◌, ◌^◌, ◌<◌, Bool, true, false, List, [], ◌∷◌, ◌++◌, length, take, refl, sym, ap, subst, ◌∙◌, arith, append_assoc, append-nil, ◌⊎◌, inl, inr}
+use Rattle.std.proofs.Common.{◌≡◌, ℕ, ◌^◌, ◌<◌, Bool, true, false, List, [], ◌∷◌, ◌++◌, length, refl, sym, ap, subst, ◌∙◌, arith, append_assoc, append-nil, ◌⊎◌, inl, inr}
 use Rattle.std.specs.Prelude.{◌&&◌, ◌||◌, ◌==◌, not, map, nat_lt}
 use Rattle.std.specs.List.{list_all}
 use Rattle.std.specs.Fmt.{decimal}
@@ -10,11 +10,9 @@ use Rattle.std.proofs.lemmas.List.{take_at}
 use Rattle.std.proofs.lemmas.Fmt.{decimal_is_IsNumeral}
 use Rattle.xf_lex.specs.declared.token.TokenKind.{TokenKind}
 use Rattle.xf_lex.specs.declared.token.TokenKind.TheVariants as kind
-use Rattle.xf_lex.specs.declared.front.Front.TheVariants as front_of
-use Rattle.xf_lex.specs.Bytes.{is_digit, is_letter, is_word_byte, is_name_start, is_name_byte, is_blank, run, gap}
-use Rattle.xf_lex.specs.Fronts.{token_at}
+use Rattle.xf_lex.specs.Bytes.{is_digit, is_letter, is_word_byte, is_name_start, is_name_byte, is_blank}
 use Rattle.xf_lex.specs.Lexes.{is_tensor}
-use Rattle.xf_lex.specs.Laid.{Plain, Piece, AllBlank, laid, Stays, AllStay}
+use Rattle.xf_lex.specs.Laid.{Plain, Piece, laid, Stays, AllStay}
 use Rattle.xf_lex.proofs.Stays.{AllPass, Stops, run_all, Digits, decimal_digits}
 use Rattle.xf_grammar.specs.Tokens.{Seen, sees}
 use Rattle.xf_grammar.specs.Laid.{seen_plain, seen_plains}

@@ -1,5 +1,5 @@
 -- What the printed form says is within the limits of texts where the module is.
-use Rattle.std.proofs.Common.{◌≡◌, ℕ, ◌+◌, ◌≤◌, Bool, true, false, [], refl, sym, ap, subst, ◌∙◌, arith}
+use Rattle.std.proofs.Common.{◌≡◌, ℕ, ◌+◌, ◌≤◌, Bool, true, false, [], refl, ap, subst, ◌∙◌, arith}
 use Rattle.std.specs.Prelude.{◌&&◌, not, map, if◌then◌else◌}
 use Rattle.xf_read_base.specs.Parts.{Said}
 use Rattle.xf_ir.specs.declared.name.OpName.{OpName}

@@ -1,6 +1,6 @@
 -- The lines of the printed form are laid out of the tokens of its operations.
-use Rattle.std.proofs.Common.{◌≡◌, ℕ, zero, suc, ◌+◌, ◌*◌, ◌^◌, ◌<◌, Bool, true, false, List, [], ◌∷◌, ◌++◌, length, Option, Some, None, refl, sym, ap, subst, ◌∙◌, arith, append_assoc, append-nil}
-use Rattle.std.specs.Prelude.{◌||◌, not, codes, replicate, if◌then◌else◌}
+use Rattle.std.proofs.Common.{◌≡◌, ℕ, zero, suc, ◌*◌, Bool, true, false, List, [], ◌∷◌, ◌++◌, Option, refl, sym, ap, subst, ◌∙◌, arith, append_assoc, append-nil}
+use Rattle.std.specs.Prelude.{◌||◌, codes, replicate, if◌then◌else◌}
 use Rattle.std.specs.List.{flat_map}
 use Rattle.std.proofs.lemmas.Grind.{flat_map-append}
 use Rattle.xf_type.specs.declared.payload_type.PayloadType.{PayloadType}
@@ -14,16 +14,15 @@ use Rattle.xf_ir.specs.declared.kind.Attr.{Attr}
 use Rattle.xf_ir.specs.declared.kind.Kind.{Kind}
 use Rattle.xf_ir.specs.declared.kind.Kind.TheVariants as kind
 use Rattle.xf_ir.specs.declared.op.Module.{Module}
-use Rattle.xf_ir.specs.Kinds.{is_container}
 use Rattle.xf_ir.specs.Lists.{Each}
 use Rattle.xf_ir.specs.Placed.{functions_of}
 use Rattle.xf_ir.specs.Tree.{Ops, no_ops, op, Regions, no_regions, region, Tree}
 use Rattle.xf_print.specs.Attributes.{attrs_text}
 use Rattle.xf_print.specs.Names.{Names, no_names, with_ops, first_args, number_of, first_of}
-use Rattle.xf_print.specs.Printed.{line_at, is_empty_yield, op_text, body_head, head_lines, end_lines, between_lines, ops_lines, regions_lines, functions_lines, printed_lines, printed_form}
+use Rattle.xf_print.specs.Printed.{line_at, is_empty_yield, op_text, body_head, end_lines, ops_lines, functions_lines, printed_lines, printed_form}
 use Rattle.xf_roundtrip.specs.Printing.{dictionary_piece, is_core, row_of, pieces_of, results_of}
 use Rattle.xf_roundtrip.proofs.Needs.{head_tokens, tail_tokens, ops_tokens, regions_tokens, functions_tokens, module_tokens, AttrFits, has_regions, Fits, OpsFit, RegionsFit, FunctionsFit, ModuleFits, Reads}
-use Rattle.xf_roundtrip.proofs.Lays.{breaks, Low, Lays, known_blanks, known_word, before, front, whole, open_brace_lays, close_brace_lays, space_lays}
+use Rattle.xf_roundtrip.proofs.Lays.{Low, Lays, known_blanks, known_word, before, front, whole, open_brace_lays, close_brace_lays, space_lays}
 use Rattle.xf_roundtrip.proofs.Pieces.{empty, attrs_lay}
 use Rattle.xf_roundtrip.proofs.RowTexts.{row_then, row_then_is, opens, results_lay, Given, row_lays}
 

@@ -1,25 +1,16 @@
 -- The texts of attributes, values and types are laid out of the tokens of their pieces.
-use Rattle.std.proofs.Common.{◌≡◌, ℕ, suc, ◌+◌, ◌/◌, ◌%◌, ◌*◌, ◌^◌, ◌<◌, ◌≤◌, Bool, true, false, List, [], ◌∷◌, ◌++◌, length, take, drop, Option, Some, None, refl, sym, ap, subst, ◌∙◌, arith, append_assoc, append-nil, length-append, ◌⊎◌, inl, inr}
-use Rattle.std.specs.Prelude.{◌&&◌, ◌||◌, ◌==◌, not, map, codes, ℤ, pos, negsuc, ◌-ℤ◌, nat_lt, if◌then◌else◌}
-use Rattle.std.specs.List.{flat_map}
-use Rattle.std.specs.Fmt.{decimal, signed_decimal}
-use Rattle.std.proofs.lemmas.Bool.{lt-ltb, ltb-true}
-use Rattle.std.proofs.lemmas.Bool.Decides.{nat_tests}
-use Rattle.std.proofs.lemmas.List.{take_at, drop_at}
-use Rattle.xf_type.specs.Integers.{bits_of, signed_value}
+use Rattle.std.proofs.Common.{◌≡◌, ℕ, suc, ◌+◌, ◌^◌, ◌<◌, Bool, true, false, List, [], ◌∷◌, ◌++◌, refl, sym, ap, subst, ◌∙◌, arith, append_assoc, append-nil}
+use Rattle.std.specs.Prelude.{◌||◌, ◌==◌, not, map, codes, ℤ, pos, negsuc, if◌then◌else◌}
+use Rattle.std.specs.Fmt.{signed_decimal}
+use Rattle.xf_type.specs.Integers.{signed_value}
 use Rattle.xf_type.specs.declared.attribute.AttrValue.{AttrValue}
 use Rattle.xf_type.specs.declared.attribute.AttrValue.TheVariants.{Unit as unit_attr, Int, Text}
 use Rattle.xf_type.specs.declared.payload_type.PayloadType.{PayloadType}
-use Rattle.xf_type.specs.declared.payload_type.PayloadType.TheVariants.{Scalar}
 use Rattle.xf_type.specs.declared.payload_type.Width.{Width}
 use Rattle.xf_type.specs.declared.payload_type.Width.TheVariants.{I1, I8, I16, I32, I64, Index}
 use Rattle.xf_lex.specs.declared.token.TokenKind.TheVariants as kind
-use Rattle.xf_lex.specs.declared.front.Front.TheVariants as front_of
-use Rattle.xf_lex.specs.Bytes.{is_hex, starts}
-use Rattle.xf_lex.specs.Fronts.{quoted_in, escaped_in, is_escape, string_of, string_at, token_at}
-use Rattle.xf_lex.specs.Laid.{Plain, Stays}
 use Rattle.xf_lex.proofs.Stays.{AllPass}
-use Rattle.xf_grammar.specs.Tokens.{Seen, sees, comma, colon, equals, open_paren, close_paren, open_brace, close_brace}
+use Rattle.xf_grammar.specs.Tokens.{Seen, sees, comma, colon, open_paren, close_paren, open_brace, close_brace}
 use Rattle.xf_grammar.specs.Grammar.{more_written}
 use Rattle.xf_read_base.specs.declared.row.Slot.TheVariants as slot
 use Rattle.xf_read_base.specs.Pieces.{mark, word, width_word, truth_word, use_written, hash_written, type_written, minus_written, value_written, attribute_written, list_written, until_written, piece_written}
@@ -31,16 +22,16 @@ use Rattle.xf_ir.specs.RuleAttributes.{fits_bits, value_fits}
 use Rattle.xf_ir.specs.Types.{element_of}
 use Rattle.xf_ir.specs.Words.{is_word as is_ir_word, is_letter, is_word_byte}
 use Rattle.xf_print.specs.Words.{listed, listed_more, width_text, type_text, types_text, arrow_types}
-use Rattle.xf_print.specs.Numbers.{truth_text, literal_text}
-use Rattle.xf_print.specs.Attributes.{hex_digit, is_plain, byte_text, string_text, value_text, entry_text, attrs_text}
-use Rattle.xf_print.specs.Names.{Entry, Names, argument_text, result_part, name_text, type_of, value_type}
+use Rattle.xf_print.specs.Numbers.{literal_text}
+use Rattle.xf_print.specs.Attributes.{value_text, entry_text, attrs_text}
+use Rattle.xf_print.specs.Names.{Names, result_part, name_text, value_type}
 use Rattle.xf_print.specs.Rows.{attributes_text}
-use Rattle.xf_roundtrip.specs.Printing.{part_digits, use_of, operand_width, width_or, has_minus, digits_of, is_true, literal_piece, number_said, attribute_value, attribute_of, dictionary_piece, results_piece, widths}
+use Rattle.xf_roundtrip.specs.Printing.{part_digits, use_of, operand_width, has_minus, digits_of, literal_piece, number_said, attribute_value, attribute_of, dictionary_piece, widths}
 use Rattle.xf_roundtrip.specs.Printable.{HasBytes}
 use Rattle.xf_roundtrip.proofs.Needs.{Known, IsScalar, AttrFits}
 use Rattle.xf_roundtrip.proofs.Strings.{string_lays}
 use Rattle.xf_roundtrip.proofs.Suits.{IsShort, signed_short}
-use Rattle.xf_roundtrip.proofs.Lays.{both_true, and_left, and_right, breaks, is_low, Low, pass_append, Lays, free_token, known_blanks, nothing, before, front, freed, looser, IsWord, a_word, known_word, a_symbol, an_integer, a_negative, a_number, a_hash, an_argument, open_lays, close_lays, comma_lays, colon_lays, equals_lays, open_brace_lays, close_brace_lays, arrow_lays, space_lays}
+use Rattle.xf_roundtrip.proofs.Lays.{and_left, and_right, breaks, Lays, known_blanks, nothing, before, front, looser, IsWord, a_word, known_word, an_integer, a_negative, a_number, a_hash, an_argument, open_lays, close_lays, comma_lays, colon_lays, equals_lays, open_brace_lays, close_brace_lays, space_lays}
 
 -- ---- lists
 

@@ -1,7 +1,6 @@
 -- The text of each row is laid out of the tokens of its word and its pieces.
 use Rattle.std.proofs.Common.{◌≡◌, ℕ, suc, ◌+◌, ◌^◌, ◌<◌, ◌≤◌, Bool, true, false, List, [], ◌∷◌, ◌++◌, length, Option, Some, None, refl, sym, ap, subst, ◌∙◌, arith, append_assoc, append-nil}
-use Rattle.std.specs.Prelude.{◌||◌, ◌&&◌, map, codes, drop, if◌then◌else◌}
-use Rattle.std.specs.Fmt.{decimal}
+use Rattle.std.specs.Prelude.{map, codes, drop, if◌then◌else◌}
 use Rattle.xf_type.specs.declared.kind.BinKind.{BinKind}
 use Rattle.xf_type.specs.declared.kind.BinKind.TheVariants as bin
 use Rattle.xf_type.specs.declared.kind.ConvKind.{ConvKind}
@@ -11,7 +10,7 @@ use Rattle.xf_type.specs.declared.kind.CmpKind.TheVariants as cmp
 use Rattle.xf_type.specs.declared.payload_type.PayloadType.{PayloadType}
 use Rattle.xf_type.specs.declared.payload_type.Width.{Width}
 use Rattle.xf_lex.specs.declared.token.TokenKind.TheVariants as token_kind
-use Rattle.xf_grammar.specs.Tokens.{Seen, comma, colon, equals, open_paren, close_paren, open_brace, close_brace}
+use Rattle.xf_grammar.specs.Tokens.{Seen, colon, open_paren, close_paren, open_brace}
 use Rattle.xf_read_base.specs.declared.row.Slot.{Slot}
 use Rattle.xf_read_base.specs.declared.row.Slot.TheVariants as slot
 use Rattle.xf_read_base.specs.Rows.{slots}
@@ -24,17 +23,16 @@ use Rattle.xf_ir.specs.Kinds.{returned_types}
 use Rattle.xf_ir.specs.Lists.{Each}
 use Rattle.xf_ir.specs.RuleAttributes.{is_index, is_word_or_none, kind_fits}
 use Rattle.xf_ir.specs.Spelling.{binary_spelling, conversion_spelling}
-use Rattle.xf_ir.specs.Types.{element_of}
 use Rattle.xf_ir.specs.Words.{is_word as is_ir_word}
 use Rattle.xf_print.specs.Words.{width_text, type_text, types_text, arrow_types, predicate_text}
 use Rattle.xf_print.specs.Numbers.{literal_text}
 use Rattle.xf_print.specs.Attributes.{attrs_text}
-use Rattle.xf_print.specs.Names.{Names, argument_text, name_text, values_text, value_type, value_types, results_text, param_texts, carried_texts}
+use Rattle.xf_print.specs.Names.{Names, name_text, values_text, value_type, value_types, results_text, param_texts, carried_texts}
 use Rattle.xf_print.specs.Rows.{given_text, symbol_text, attributes_text, private_text, returned_text, carried_text, bound_text, chosen_text, row_text}
-use Rattle.xf_roundtrip.specs.Printing.{use_of, operand_width, module_symbol, function_symbol, params_from, pairs_from, results_piece, function_results, given_piece, carried_piece, loop_width, chosen_piece, dictionary_piece, is_core, row_of, pieces_of, results_of, widths, symbol_bytes}
+use Rattle.xf_roundtrip.specs.Printing.{use_of, operand_width, module_symbol, function_symbol, params_from, pairs_from, results_piece, function_results, given_piece, carried_piece, chosen_piece, dictionary_piece, is_core, row_of, pieces_of, results_of, widths}
 use Rattle.xf_roundtrip.proofs.Needs.{Known, IsScalar, AttrFits, ArgsRight, CarriedRight, counted}
-use Rattle.xf_roundtrip.proofs.Lays.{breaks, Lays, known_word, nothing, before, front, looser, a_symbol, an_integer, a_number, an_argument, open_lays, close_lays, comma_lays, colon_lays, equals_lays, open_brace_lays, arrow_lays, space_lays}
-use Rattle.xf_roundtrip.proofs.Pieces.{empty, EachLays, list_then, Ends, list_lays, list_is, in_parens, word_true, width_lays, stated_lays, scalar_lays, types_lay, results_tokens, arrow_types_lay, literal_lays, attrs_lay, attributes_lay, attrs_end, attributes_end, use_lays, uses_lay, value_types_lay}
+use Rattle.xf_roundtrip.proofs.Lays.{Lays, known_word, nothing, before, front, looser, a_symbol, an_integer, a_number, an_argument, open_lays, comma_lays, colon_lays, equals_lays, open_brace_lays, arrow_lays, space_lays}
+use Rattle.xf_roundtrip.proofs.Pieces.{empty, EachLays, list_then, Ends, list_lays, list_is, in_parens, word_true, width_lays, stated_lays, scalar_lays, types_lay, arrow_types_lay, literal_lays, attrs_lay, attributes_lay, attrs_end, attributes_end, use_lays, uses_lay, value_types_lay}
 
 -- ---- pieces before others
 

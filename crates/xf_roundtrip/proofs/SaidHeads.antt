@@ -1,5 +1,5 @@
 -- What a printed head says by its pieces is what the operation says.
-use Rattle.std.proofs.Common.{◌≡◌, ℕ, suc, ◌+◌, ◌^◌, ◌<◌, Bool, true, false, List, [], ◌∷◌, ◌++◌, length, Option, Some, None, refl, sym, ap, subst, ◌∙◌, arith, append-nil}
+use Rattle.std.proofs.Common.{◌≡◌, ℕ, suc, ◌^◌, ◌<◌, Bool, true, false, List, [], ◌∷◌, ◌++◌, length, Option, Some, None, refl, sym, ap, ◌∙◌, arith, append-nil}
 use Rattle.std.specs.Prelude.{map, drop, ℤ, pos, negsuc, option_map}
 use Rattle.xf_type.specs.declared.payload_type.PayloadType.{PayloadType}
 use Rattle.xf_type.specs.declared.payload_type.PayloadType.TheVariants.{Scalar}
@@ -11,8 +11,8 @@ use Rattle.xf_read_base.specs.declared.row.Row.TheVariants as row
 use Rattle.xf_read_base.specs.declared.row.Slot.TheVariants as slot
 use Rattle.xf_read_base.specs.Rows.{slots}
 use Rattle.xf_read_base.specs.Laws.{nothing_said}
-use Rattle.xf_read_base.specs.Parts.{Said, number, says_row, says_symbol, says_private, says_predicate, says_arg, says_width, says_result}
-use Rattle.xf_read_base.specs.Pieces.{pairs, use_says, param_says, says_all, attribute_says, piece_says, row_says, head_says}
+use Rattle.xf_read_base.specs.Parts.{Said, number, says_row, says_width, says_result}
+use Rattle.xf_read_base.specs.Pieces.{pairs, param_says, says_all, attribute_says, piece_says, row_says, head_says}
 use Rattle.xf_ir.specs.declared.name.ValueName.{ValueName}
 use Rattle.xf_ir.specs.declared.kind.Attr.{Attr}
 use Rattle.xf_ir.specs.declared.kind.Kind.{Kind}
@@ -22,7 +22,7 @@ use Rattle.xf_ir.specs.Lists.{Each}
 use Rattle.xf_ir.specs.Types.{element_of}
 use Rattle.xf_print.specs.Names.{Names, argument_text, type_of}
 use Rattle.xf_roundtrip.specs.Naming.{use_printed, defines_printed, arguments_printed}
-use Rattle.xf_roundtrip.specs.Printing.{use_of, operand_width, has_minus, digits_of, literal_piece, attribute_of, dictionary_piece, symbol_bytes, module_symbol, function_symbol, params_from, pairs_from, results_piece, function_results, given_piece, carried_piece, loop_width, chosen_piece, widths, is_core, row_of, pieces_of, results_of, tail_says}
+use Rattle.xf_roundtrip.specs.Printing.{use_of, operand_width, has_minus, digits_of, literal_piece, attribute_of, dictionary_piece, module_symbol, function_symbol, params_from, pairs_from, results_piece, function_results, given_piece, carried_piece, loop_width, chosen_piece, widths, is_core, row_of, pieces_of, results_of, tail_says}
 use Rattle.xf_roundtrip.specs.SaidPrinted.{signed_said, literal_printed, entry_printed, known_types, head_by}
 use Rattle.xf_roundtrip.proofs.Needs.{Known, IsScalar, ArgsRight, CarriedRight, counted}
 use Rattle.xf_roundtrip.proofs.SaidPieces.{use_said', use_is, uses_are, widths_are, results_are, given_is, params_are, pairs_are, entries_are, dictionary_is, attributes_is, defines_are}

@@ -1,8 +1,7 @@
 -- What the pieces of a printed head say, in closed form.
-use Rattle.std.proofs.Common.{◌≡◌, ℕ, suc, ◌+◌, ◌-◌, ◌^◌, ◌<◌, min, Bool, true, false, List, [], ◌∷◌, ◌++◌, length, Option, Some, None, refl, sym, ap, subst, ◌∙◌, arith, append_assoc, append-nil}
+use Rattle.std.proofs.Common.{◌≡◌, ℕ, suc, ◌-◌, ◌^◌, ◌<◌, min, List, [], ◌∷◌, ◌++◌, length, Option, Some, refl, sym, ap, ◌∙◌, arith, append_assoc, append-nil}
 use Rattle.std.specs.Prelude.{map, option_map, ℤ, pos, negsuc}
 use Rattle.std.specs.Fmt.{decimal}
-use Rattle.std.specs.Str.Parse.{digits_value}
 use Rattle.std.proofs.lemmas.Bool.Decides.{nat_tests}
 use Rattle.std.proofs.lemmas.Fmt.{decimal_is_IsNumeral}
 use Rattle.xf_type.specs.declared.attribute.AttrValue.{AttrValue}
@@ -13,17 +12,17 @@ use Rattle.xf_type.specs.declared.payload_type.Width.{Width}
 use Rattle.xf_type.specs.declared.payload_type.Width.TheVariants.{I1, I8, I16, I32, I64, Index}
 use Rattle.xf_type.specs.Integers.{signed_value}
 use Rattle.xf_lex.specs.declared.token.TokenKind.TheVariants as token_kind
-use Rattle.xf_grammar.specs.Tokens.{Seen, sees, number_of}
+use Rattle.xf_grammar.specs.Tokens.{sees, number_of}
 use Rattle.xf_read_base.specs.declared.row.Slot.TheVariants as slot
 use Rattle.xf_read_base.specs.Laws.{nothing_said}
-use Rattle.xf_read_base.specs.Parts.{Said, UseSaid, DefineSaid, EntrySaid, ValueSaid, number_value, count_of, says_width, says_result}
-use Rattle.xf_read_base.specs.Pieces.{Use, Attribute, hash, use_says, param_says, pair_says, attribute_says, says_all, piece_says, results_say}
+use Rattle.xf_read_base.specs.Parts.{Said, UseSaid, EntrySaid, ValueSaid, number_value, count_of, says_width, says_result}
+use Rattle.xf_read_base.specs.Pieces.{Use, hash, use_says, param_says, pair_says, attribute_says, says_all, piece_says, results_say}
 use Rattle.xf_ir.specs.declared.name.ValueName.{ValueName}
 use Rattle.xf_ir.specs.declared.name.ValueName.TheVariants.{Result, Arg, Free}
 use Rattle.xf_ir.specs.declared.kind.Attr.{Attr}
 use Rattle.xf_ir.specs.Lists.{Each}
 use Rattle.xf_ir.specs.Types.{element_of}
-use Rattle.xf_print.specs.Names.{Entry, Names, argument_text, type_of}
+use Rattle.xf_print.specs.Names.{Names, argument_text, type_of}
 use Rattle.xf_roundtrip.specs.Naming.{part_said, use_printed, defines_printed, arguments_printed}
 use Rattle.xf_roundtrip.specs.Printing.{part_digits, use_of, operand_width, has_minus, digits_of, number_said, attribute_value, attribute_of, dictionary_piece, params_from, pairs_from, given_piece, results_of, widths}
 use Rattle.xf_roundtrip.specs.SaidPrinted.{signed_said, integer_printed, value_printed, entry_printed, known_types}

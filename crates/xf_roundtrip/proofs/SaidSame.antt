@@ -1,32 +1,28 @@
 -- What the printed form says by pieces is what its heads say, and a valid module as it is stored is one whose printed form says it again.
-use Rattle.std.proofs.Common.{◌≡◌, ℕ, suc, ◌+◌, ◌^◌, ◌<◌, Bool, true, false, List, [], ◌∷◌, length, Option, Some, None, refl, sym, ap, subst, ◌∙◌, arith}
-use Rattle.std.specs.Prelude.{map, if◌then◌else◌}
+use Rattle.std.proofs.Common.{◌≡◌, true, List, refl}
+use Rattle.std.specs.Prelude.{if◌then◌else◌}
 use Rattle.std.proofs.lemmas.Bool.{and_parts}
 use Rattle.xf_type.specs.declared.payload_type.PayloadType.{PayloadType}
-use Rattle.xf_read_base.specs.Parts.{Said}
 use Rattle.xf_ir.specs.declared.name.OpName.{OpName}
 use Rattle.xf_ir.specs.declared.name.ValueName.{ValueName}
 use Rattle.xf_ir.specs.declared.kind.Attr.{Attr}
 use Rattle.xf_ir.specs.declared.kind.Kind.{Kind}
 use Rattle.xf_ir.specs.declared.kind.Kind.TheVariants as kind
 use Rattle.xf_ir.specs.declared.op.Module.{Module}
-use Rattle.xf_ir.specs.Lists.{Each}
-use Rattle.xf_ir.specs.Placed.{Typed, type_at, Holder, Placed, placed, root_holder, block_of, functions_of}
+use Rattle.xf_ir.specs.Placed.{Placed, placed, functions_of}
 use Rattle.xf_ir.specs.Tree.{Ops, no_ops, op, Regions, no_regions, region, Tree}
 use Rattle.xf_ir.specs.Valid.{IsValid}
 use Rattle.xf_ir.proofs.Lists.{each_map}
-use Rattle.xf_ir.proofs.Obeys.{OpsObey, RegionsObey, FunctionsObey, BlocksObey, each_blocks}
-use Rattle.xf_ir.proofs.Root.{one_block}
-use Rattle.xf_read.specs.Written.{SaidNodes, no_nodes_said, node_said, SaidBodies, no_bodies_said, body_said}
+use Rattle.xf_read.specs.Written.{no_nodes_said, node_said, no_bodies_said, body_said}
 use Rattle.xf_print.specs.Names.{Names, no_names, with_ops, first_args, number_of, first_of}
-use Rattle.xf_print.specs.Printed.{is_empty_yield, printed_form}
-use Rattle.xf_roundtrip.specs.Printable.{HasBytes, AllBytes, FunctionsNumber, IsPrintable}
+use Rattle.xf_print.specs.Printed.{is_empty_yield}
+use Rattle.xf_roundtrip.specs.Printable.{IsPrintable}
 use Rattle.xf_roundtrip.specs.Printing.{is_core, is_core_op, op_says, IsCore, module_printed}
 use Rattle.xf_roundtrip.specs.Printing.{ops_printed as ops_by_pieces, bodies_printed as bodies_by_pieces, functions_printed as functions_by_pieces}
 use Rattle.xf_roundtrip.specs.SaidPrinted.{has_row, head_printed, ops_printed, regions_printed, functions_printed, printed_said}
 use Rattle.xf_roundtrip.proofs.Needs.{Fits, OpsFit, RegionsFit, FunctionsFit, ModuleFits}
 use Rattle.xf_roundtrip.specs.Stored.{IsStored}
-use Rattle.xf_roundtrip.proofs.SaidHeads.{Parts, head_same}
+use Rattle.xf_roundtrip.proofs.SaidHeads.{head_same}
 
 -- ---- what is said by pieces
 

@@ -1,16 +1,15 @@
 -- The text of a string is one token, whatever is behind it.
-use Rattle.std.proofs.Common.{◌≡◌, ℕ, suc, ◌+◌, ◌/◌, ◌%◌, ◌<◌, ◌≤◌, Bool, true, false, List, [], ◌∷◌, ◌++◌, length, take, drop, refl, sym, ap, subst, ◌∙◌, arith, append_assoc, length-append, ◌⊎◌, inl, inr}
-use Rattle.std.specs.Prelude.{◌&&◌, ◌||◌, ◌==◌, not, nat_lt, if◌then◌else◌}
+use Rattle.std.proofs.Common.{◌≡◌, ℕ, suc, ◌+◌, ◌/◌, ◌%◌, ◌<◌, Bool, true, false, List, [], ◌∷◌, ◌++◌, length, refl, sym, ap, ◌∙◌, arith, append_assoc, length-append}
+use Rattle.std.specs.Prelude.{◌||◌, ◌==◌, nat_lt, if◌then◌else◌}
 use Rattle.std.specs.List.{flat_map}
-use Rattle.std.proofs.lemmas.Bool.{lt-ltb}
 use Rattle.std.proofs.lemmas.Bool.Decides.{nat_tests}
 use Rattle.std.proofs.lemmas.List.{take_at, drop_at}
 use Rattle.xf_lex.specs.declared.token.TokenKind.TheVariants as kind
 use Rattle.xf_lex.specs.declared.front.Front.TheVariants as front_of
-use Rattle.xf_lex.specs.Bytes.{is_hex, starts}
-use Rattle.xf_lex.specs.Fronts.{quoted_in, escaped_in, string_of, string_at}
-use Rattle.xf_lex.specs.Laid.{Plain, Stays}
-use Rattle.xf_grammar.specs.Tokens.{Seen, sees}
+use Rattle.xf_lex.specs.Bytes.{is_hex}
+use Rattle.xf_lex.specs.Fronts.{quoted_in, escaped_in, string_at}
+use Rattle.xf_lex.specs.Laid.{Stays}
+use Rattle.xf_grammar.specs.Tokens.{sees}
 use Rattle.xf_ir.specs.Lists.{Each}
 use Rattle.xf_print.specs.Attributes.{hex_digit, is_plain, byte_text, string_text}
 use Rattle.xf_roundtrip.proofs.Lays.{Low, is_low, pass_append, Lays, free_token}

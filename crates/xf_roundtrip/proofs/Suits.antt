@@ -1,8 +1,7 @@
 -- The pieces of each row suit it, before what follows them.
-use Rattle.std.proofs.Common.{◌≡◌, ℕ, suc, ◌+◌, ◌-◌, ◌^◌, ◌<◌, ◌≤◌, min, Bool, true, false, List, [], ◌∷◌, ◌++◌, length, Option, Some, None, refl, sym, ap, subst, ◌∙◌, arith, ◌⊎◌, inl, inr}
-use Rattle.std.specs.Prelude.{◌&&◌, not, map, codes, ℤ, pos, negsuc, ◌-ℤ◌, nat_lt, nat_le, if◌then◌else◌, drop}
+use Rattle.std.proofs.Common.{◌≡◌, ℕ, suc, ◌+◌, ◌-◌, ◌^◌, ◌<◌, ◌≤◌, Bool, true, false, List, [], ◌∷◌, ◌++◌, Option, Some, None, refl, sym, subst, ◌∙◌, arith, ◌⊎◌, inl, inr}
+use Rattle.std.specs.Prelude.{not, map, codes, ℤ, pos, negsuc, ◌-ℤ◌, nat_lt, if◌then◌else◌, drop}
 use Rattle.std.specs.Fmt.{decimal}
-use Rattle.std.specs.Str.Parse.{digits_value}
 use Rattle.std.proofs.lemmas.Bool.{le-leb, ltb-true}
 use Rattle.std.proofs.lemmas.Bool.Decides.{nat_tests}
 use Rattle.std.proofs.lemmas.Int.{ints}
@@ -13,20 +12,18 @@ use Rattle.xf_type.specs.declared.attribute.AttrValue.TheVariants.{Unit as unit_
 use Rattle.xf_type.specs.declared.payload_type.PayloadType.{PayloadType}
 use Rattle.xf_type.specs.declared.payload_type.Width.{Width}
 use Rattle.xf_type.specs.declared.payload_type.Width.TheVariants.{I1, I8, I16, I32, I64, Index}
-use Rattle.xf_grammar.specs.Tokens.{Seen, sees, is_kind, is_word, is_index, starts_digit, number_of, comma, colon, equals, open_paren, close_paren, open_brace, close_brace}
+use Rattle.xf_grammar.specs.Tokens.{Seen, sees, is_kind, is_word, is_index, starts_digit, number_of, comma, colon, equals, close_paren, open_brace, close_brace}
 use Rattle.xf_grammar.specs.Grammar.{first_seen}
 use Rattle.xf_lex.specs.declared.token.TokenKind.TheVariants as token_kind
-use Rattle.xf_lex.proofs.Stays.{AllPass, Digits, decimal_digits}
-use Rattle.xf_lex.specs.Bytes.{is_digit}
-use Rattle.xf_read_base.specs.declared.row.Level.{Level}
+use Rattle.xf_lex.proofs.Stays.{Digits, decimal_digits}
 use Rattle.xf_read_base.specs.declared.row.Level.TheVariants as level
 use Rattle.xf_read_base.specs.declared.row.Row.{Row}
 use Rattle.xf_read_base.specs.declared.row.Slot.{Slot}
 use Rattle.xf_read_base.specs.declared.row.Slot.TheVariants as slot
-use Rattle.xf_read_base.specs.Parts.{Said, number_value, says_width, says_result, ValueSaid}
+use Rattle.xf_read_base.specs.Parts.{Said, number_value, says_width, says_result}
 use Rattle.xf_read_base.specs.Rows.{slots, fits}
-use Rattle.xf_read_base.specs.Rules.{room_for, has_room}
-use Rattle.xf_read_base.specs.Pieces.{Use, Param, Pair, Attribute, mark, word, always, follow, more_suit, list_suits, until_suits, use_suits, hash_suits, pair_suits, value_suits, attribute_suits, attribute_says, use_says, param_says, pair_says, says_all, Piece, attributes, operands, types, params, typed_operands, pairs, nothing, a_symbol, a_name, an_operand, a_predicate, a_truth, a_number, a_width, piece_written, suits, piece_says, row_written, row_suits, row_says, Results, head_suits, head_says, results_say}
+use Rattle.xf_read_base.specs.Rules.{room_for}
+use Rattle.xf_read_base.specs.Pieces.{Attribute, mark, word, always, follow, more_suit, until_suits, use_suits, hash_suits, pair_suits, value_suits, attribute_suits, attribute_says, use_says, param_says, pair_says, says_all, Piece, attributes, operands, types, params, typed_operands, pairs, nothing, a_symbol, a_name, an_operand, a_predicate, a_truth, a_number, a_width, piece_written, suits, piece_says, row_suits, row_says, Results, head_suits, head_says}
 use Rattle.xf_ir.specs.declared.name.ValueName.{ValueName}
 use Rattle.xf_ir.specs.declared.name.ValueName.TheVariants.{Result, Arg, Free}
 use Rattle.xf_ir.specs.declared.kind.Attr.{Attr}
@@ -34,8 +31,8 @@ use Rattle.xf_ir.specs.declared.kind.Kind.{Kind}
 use Rattle.xf_ir.specs.declared.kind.Kind.TheVariants as kind
 use Rattle.xf_ir.specs.Lists.{Each}
 use Rattle.xf_ir.specs.RuleAttributes.{is_index as is_index_width, fits_bits, value_fits}
-use Rattle.xf_print.specs.Names.{Entry, Names}
-use Rattle.xf_roundtrip.specs.Printing.{part_digits, use_or_none, use_of, width_or, operand_width, has_minus, digits_of, literal_piece, number_said, attribute_value, attribute_of, dictionary_piece, module_symbol, function_symbol, params_from, pairs_from, results_piece, function_results, given_piece, carried_piece, loop_width, chosen_piece, is_core, row_of, pieces_of, results_of, widths}
+use Rattle.xf_print.specs.Names.{Names}
+use Rattle.xf_roundtrip.specs.Printing.{part_digits, use_of, operand_width, has_minus, digits_of, literal_piece, number_said, attribute_value, attribute_of, dictionary_piece, module_symbol, function_symbol, params_from, pairs_from, results_piece, function_results, given_piece, carried_piece, loop_width, chosen_piece, is_core, row_of, pieces_of, results_of, widths}
 use Rattle.xf_roundtrip.proofs.Needs.{Known, AttrFits, counted}
 use Rattle.xf_roundtrip.proofs.Lays.{both_true}
 

@@ -1,22 +1,22 @@
 -- The tokens of the printed form are written by the grammar of payloads, as what the printed form says.
-use Rattle.std.proofs.Common.{◌≡◌, inl, ℕ, ◌+◌, ◌≤◌, Bool, true, false, List, [], ◌∷◌, ◌++◌, length, Option, None, refl, sym, ap, subst, ◌∙◌, append_assoc, append-nil}
+use Rattle.std.proofs.Common.{◌≡◌, inl, ℕ, ◌+◌, ◌≤◌, Bool, true, false, List, [], ◌∷◌, ◌++◌, length, Option, None, refl, sym, ap, subst, append_assoc, append-nil}
 use Rattle.std.specs.Prelude.{◌&&◌, ◌||◌, not, map, codes, if◌then◌else◌}
 use Rattle.xf_type.specs.declared.kind.BinKind.{BinKind}
 use Rattle.xf_type.specs.declared.kind.BinKind.TheVariants as bin
 use Rattle.xf_type.specs.declared.kind.ConvKind.{ConvKind}
 use Rattle.xf_type.specs.declared.kind.ConvKind.TheVariants as conv
 use Rattle.xf_type.specs.declared.payload_type.PayloadType.{PayloadType}
-use Rattle.xf_grammar.specs.Tokens.{Seen, the_end, sees, is_kind, is_word, open_brace, close_brace}
+use Rattle.xf_grammar.specs.Tokens.{Seen, the_end, is_kind, is_word, open_brace, close_brace}
 use Rattle.xf_grammar.specs.Grammar.{first_seen, Writes}
 use Rattle.xf_read_base.specs.declared.row.Level.{Level}
 use Rattle.xf_read_base.specs.declared.row.Level.TheVariants as level
 use Rattle.xf_read_base.specs.declared.row.Row.{Row}
 use Rattle.xf_read_base.specs.declared.row.Row.TheVariants as row
 use Rattle.xf_read_base.specs.declared.row.Slot.TheVariants as slot
-use Rattle.xf_read_base.specs.Laws.{nothing_said, IsHead}
+use Rattle.xf_read_base.specs.Laws.{nothing_said}
 use Rattle.xf_read_base.specs.Parts.{Said}
-use Rattle.xf_read_base.specs.Pieces.{mark, word, Piece, piece_written, piece_says, says_all, attribute_says, Results, binary_word, conversion_word, row_word, row_written, row_suits, head_written, head_suits, head_says}
-use Rattle.xf_read_base.specs.Rows.{fits, slots}
+use Rattle.xf_read_base.specs.Pieces.{mark, word, Piece, piece_written, piece_says, says_all, attribute_says, binary_word, conversion_word, row_word, head_written, head_suits, head_says}
+use Rattle.xf_read_base.specs.Rows.{fits}
 use Rattle.xf_read_base.specs.Rules.{dictionary_rule}
 use Rattle.xf_read_base.proofs.Pieces.{piece_writes}
 use Rattle.xf_read_base.proofs.HeadPieces.{head_writes}
@@ -32,11 +32,11 @@ use Rattle.xf_ir.specs.Placed.{functions_of}
 use Rattle.xf_ir.specs.RuleBlocks.{is_end}
 use Rattle.xf_ir.specs.Tree.{Ops, no_ops, op, Regions, no_regions, region, Tree}
 use Rattle.xf_read.specs.Syntax.{most_operations, behind}
-use Rattle.xf_read.specs.Written.{SaidNodes, no_nodes_said, node_said, SaidBodies, no_bodies_said, body_said, operations, NestsWell, has_body, has_else, has_tail, TailWritten, NodesWritten, BodiesWritten, ModuleWritten, IsWritten}
+use Rattle.xf_read.specs.Written.{SaidNodes, no_nodes_said, node_said, no_bodies_said, body_said, operations, NestsWell, has_else, has_tail, TailWritten, NodesWritten, BodiesWritten, ModuleWritten, IsWritten}
 use Rattle.xf_print.specs.Names.{Names, no_names, with_ops, first_args, number_of, first_of}
 use Rattle.xf_print.specs.Printed.{is_empty_yield}
 use Rattle.xf_roundtrip.specs.Printing.{attribute_of, dictionary_piece, is_core, row_of, pieces_of, results_of, tail_says, op_says, ops_printed, bodies_printed, functions_printed, module_printed}
-use Rattle.xf_roundtrip.proofs.Needs.{Known, head_tokens, tail_tokens, else_tokens, ops_tokens, regions_tokens, functions_tokens, module_tokens, AttrFits, counted, has_regions, Fits, OpsFit, RegionsFit, FunctionsFit, ModuleFits}
+use Rattle.xf_roundtrip.proofs.Needs.{Known, head_tokens, tail_tokens, ops_tokens, regions_tokens, functions_tokens, module_tokens, AttrFits, counted, has_regions, Fits, OpsFit, RegionsFit, FunctionsFit, ModuleFits}
 use Rattle.xf_roundtrip.proofs.Suits.{dictionary_suits, dictionary_first, Follows, pieces_suit, body_suits, head_row}
 
 -- ---- the first token of operations
