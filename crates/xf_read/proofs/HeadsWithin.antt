@@ -1,12 +1,11 @@
--- The numbers of tokens in a head are those of tokens.
-use Rattle.std.proofs.Common.{◌≡◌, ℕ, zero, suc, ◌+◌, ◌<◌, Bool, true, false, ◌&&◌, List, [], ◌∷◌, length, Some, refl, sym, ◌∙◌, arith}
-use Rattle.std.specs.Prelude.{All}
+-- The tokens in a head are of their kinds.
+use Rattle.std.proofs.Common.{◌≡◌, ℕ, ◌+◌, Bool, true, false, ◌&&◌, List, [], ◌∷◌, Some, refl, sym, ◌∙◌}
 use Rattle.std.proofs.lemmas.List.Elements.{All-nil, All-push}
 use Rattle.xf_lex.specs.declared.token.Token.{Token}
 use Rattle.xf_lex.specs.declared.token.TokenKind.{TokenKind}
 use Rattle.xf_lex.specs.declared.token.TokenKind.TheVariants as kind
 use Rattle.xf_type.specs.declared.payload_type.Width.TheVariants as width
-use Rattle.xf_grammar.specs.Tokens.{Seen, the_end, seen, is_kind, word_of, close_paren, colon, equals, open_brace, close_brace, open_paren}
+use Rattle.xf_grammar.specs.Tokens.{seen, is_kind, word_of, close_paren, colon, equals, open_brace, close_brace, open_paren}
 use Rattle.xf_read_base.specs.declared.due.Due.{Due}
 use Rattle.xf_read_base.specs.declared.due.Due.TheVariants as due
 use Rattle.xf_read_base.specs.declared.list.Item.{Item}
@@ -26,46 +25,33 @@ use Rattle.xf_read_base.specs.Words.{spelling, opening_of}
 use Rattle.xf_read_base.specs.Rows.{slots}
 use Rattle.xf_read_base.specs.Parts.{no_parts, ref, count_of, with_symbol, with_literal, with_define, with_arg, with_use, with_entry}
 use Rattle.xf_read_base.specs.Rules.{Rule, kind_rule, word_rule, symbol_rule, module_name_rule, function_name_rule, argument_rule, use_rule, width_rule, result_rule, predicate_rule, number_rule, truth_rule, literal_rule, entry_width_rule, entry_number_rule, entry_value_rule, entry_rule, param_rule, pair_rule, item_rule, list_rule, until_rule, enclosed_rule, dictionary_rule, attributes_rule, result_types_rule, call_results_rule, function_results_rule, listed_results_rule, if_results_rule, operands_rule, iter_args_rule, loop_width_rule, slot_rule, slots_rule, has_operations, row_opened, row_rule, defines_rule, head_rule}
-use Rattle.xf_read.specs.Within.{RefWithin, SymbolWithin, LiteralWithin, ValueWithin, EntryWithin, PartsWithin}
 use Rattle.xf_read.proofs.KeptLemmas.{Keeps}
-
--- a token stands where a test passes that the end does not pass
-pub at_token : (test : Seen → Bool) → test the_end ≡ false → (all : List Token) (at : ℕ) → test (seen all at) ≡ true → at < length all
-at_token test e [] zero t = absurd (let f : true ≡ false = sym t ∙ e in cc)
-at_token test e [] (suc n) t = absurd (let f : true ≡ false = sym t ∙ e in cc)
-at_token test e (x ∷ xs) zero t = omega arith
-at_token test e (x ∷ xs) (suc n) t = let r = at_token test e xs n t in omega (arith, r)
-
-at_kind : (k : TokenKind) (all : List Token) (at : ℕ) → is_kind k (seen all at) ≡ true → at < length all
-at_kind k all at t = at_token (is_kind k) refl all at t
+use Rattle.xf_read.proofs.OfKind.{IsOf, LiteralOf, ValueOf, EntryOf, NameOf, UseOf, Inside}
 
 -- ---- what is added
 
-abbrev pub Inside : ℕ → Parts → Type 0
-Inside n h = SymbolWithin n h.symbol × (LiteralWithin n h.literal × (All (EntryWithin n) h.entries × (All (RefWithin n) h.defines × (All (RefWithin n) h.args × All (RefWithin n) h.uses))))
+symbol_added : (all : List Token) (at : ℕ) (h : Parts) → IsOf kind.Symbol all at → Inside all h → Inside all (with_symbol at h)
+symbol_added all at h p w = (p, w.1)
 
-symbol_added : (n at : ℕ) (h : Parts) → at < n → Inside n h → Inside n (with_symbol at h)
-symbol_added n at h lt w = (lt, w.1)
+literal_added : (all : List Token) (l : Literal) (h : Parts) → LiteralOf all (Some l) → Inside all h → Inside all (with_literal l h)
+literal_added all l h p w = (w.0, (p, w.1.1))
 
-literal_added : (n : ℕ) (l : Literal) (h : Parts) → LiteralWithin n (Some l) → Inside n h → Inside n (with_literal l h)
-literal_added n l h p w = (w.0, (p, w.1.1))
+entry_added : (all : List Token) (name : ℕ) (v : EntryValue) (h : Parts) → IsOf kind.Word all name → ValueOf all v → Inside all h → Inside all (with_entry name v h)
+entry_added all name v h k p w = (w.0, (w.1.0, (All-push (EntryOf all) h.entries _ w.1.1.0 (k, p), w.1.1.1)))
 
-entry_added : (n name : ℕ) (v : EntryValue) (h : Parts) → name < n → ValueWithin n v → Inside n h → Inside n (with_entry name v h)
-entry_added n name v h lt p w = (w.0, (w.1.0, (All-push (EntryWithin n) h.entries _ w.1.1.0 (lt, p), w.1.1.1)))
+define_added : (all : List Token) (r : Ref) (h : Parts) → NameOf all r → Inside all h → Inside all (with_define r h)
+define_added all r h p w = (w.0, (w.1.0, (w.1.1.0, (All-push (NameOf all) h.defines r w.1.1.1.0 p, w.1.1.1.1))))
 
-define_added : (n : ℕ) (r : Ref) (h : Parts) → r.token < n → Inside n h → Inside n (with_define r h)
-define_added n r h lt w = (w.0, (w.1.0, (w.1.1.0, (All-push (RefWithin n) h.defines r w.1.1.1.0 lt, w.1.1.1.1))))
+arg_added : (all : List Token) (r : Ref) (h : Parts) → NameOf all r → Inside all h → Inside all (with_arg r h)
+arg_added all r h p w = (w.0, (w.1.0, (w.1.1.0, (w.1.1.1.0, (All-push (NameOf all) h.args r w.1.1.1.1.0 p, w.1.1.1.1.1)))))
 
-arg_added : (n : ℕ) (r : Ref) (h : Parts) → r.token < n → Inside n h → Inside n (with_arg r h)
-arg_added n r h lt w = (w.0, (w.1.0, (w.1.1.0, (w.1.1.1.0, (All-push (RefWithin n) h.args r w.1.1.1.1.0 lt, w.1.1.1.1.1)))))
-
-use_added : (n : ℕ) (r : Ref) (h : Parts) → r.token < n → Inside n h → Inside n (with_use r h)
-use_added n r h lt w = (w.0, (w.1.0, (w.1.1.0, (w.1.1.1.0, (w.1.1.1.1.0, All-push (RefWithin n) h.uses r w.1.1.1.1.1 lt)))))
+use_added : (all : List Token) (r : Ref) (h : Parts) → UseOf all r → Inside all h → Inside all (with_use r h)
+use_added all r h p w = (w.0, (w.1.0, (w.1.1.0, (w.1.1.1.0, (w.1.1.1.1.0, All-push (UseOf all) h.uses r w.1.1.1.1.1 p)))))
 
 -- ---- rules
 
 abbrev Stays : Rule → Type 0
-Stays rule = (all : List Token) (at : ℕ) → Keeps (Inside (length all)) all rule at
+Stays rule = (all : List Token) (at : ℕ) → Keeps (Inside all) all rule at
 
 kind_stays : (d : Due) (k : TokenKind) → Stays (kind_rule d k)
 unfolding kind_rule
@@ -77,26 +63,26 @@ word_stays b all at = (λ e h w. w, λ e. tt)
 
 symbol_stays : Stays symbol_rule
 unfolding symbol_rule
-symbol_stays all at = (λ e h w. symbol_added (length all) at h (at_kind kind.Symbol all at e) w, λ e. tt)
+symbol_stays all at = (λ e h w. symbol_added all at h e w, λ e. tt)
 
 module_name_stays : Stays module_name_rule
 unfolding module_name_rule
-module_name_stays all at = (λ e h w. symbol_added (length all) at h (at_kind kind.Symbol all at e) w, λ e h w. w)
+module_name_stays all at = (λ e h w. symbol_added all at h e w, λ e h w. w)
 
 function_name_stays : Stays function_name_rule
 unfolding function_name_rule
-function_name_stays all at = (λ e. (λ h w. w, λ n. symbol_stays all n), λ e. (λ o h w. symbol_added (length all) at h (at_kind kind.Symbol all at o) w, λ o. tt))
+function_name_stays all at = (λ e. (λ h w. w, λ n. symbol_stays all n), λ e. (λ o h w. symbol_added all at h o w, λ o. tt))
 
 argument_stays : Stays argument_rule
 unfolding argument_rule
-argument_stays all at = (λ e h w. arg_added (length all) (ref at 1) h (at_kind kind.Value all at e) w, λ e. tt)
+argument_stays all at = (λ e h w. arg_added all (ref at 1) h e w, λ e. tt)
 
 use_stays : Stays use_rule
 unfolding use_rule
 use_stays all at = (
   λ e. (
-    λ i h w. use_added (length all) (ref at (count_of (seen all (at + 1)))) h (at_kind kind.Value all at e) w,
-    λ i h w. use_added (length all) (ref at 0) h (at_kind kind.Value all at e) w,
+    λ i h w. use_added all (ref at (count_of (seen all (at + 1)))) h (e, λ none. absurd (let f : true ≡ false = sym i ∙ none in cc)) w,
+    λ i h w. use_added all (ref at 0) h (e, λ none. refl) w,
   ),
   λ e. tt,
 )
@@ -116,43 +102,43 @@ predicate_stays all at = (λ e h w. w, λ e. tt)
 number_stays : (negative : Bool) (d : Due) → Stays (number_rule negative d)
 unfolding number_rule
 number_stays negative d all at =
-    (λ e. (λ h w. literal_added (length all) (literal.Integer negative at) h (at_kind kind.Integer all at e) w, λ n. (kind_stays due.Other colon all n, λ m. width_stays due.Width all m)), λ e. tt)
+    (λ e. (λ h w. literal_added all (literal.Integer negative at) h e w, λ n. (kind_stays due.Other colon all n, λ m. width_stays due.Width all m)), λ e. tt)
 
 truth_stays : (b : Bool) → Stays (truth_rule b)
-truth_stays b all at = (λ h w. literal_added (length all) (literal.Truth b) h tt w, λ n h w. w)
+truth_stays b all at = (λ h w. literal_added all (literal.Truth b) h tt w, λ n h w. w)
 
 literal_stays : Stays literal_rule
 unfolding literal_rule
 literal_stays all at =
     (λ e. truth_stays true all (at + 1), λ e. (λ e. truth_stays false all (at + 1), λ e. (λ e. tt, λ e. (λ e. number_stays true due.Other all (at + 1), λ e. number_stays false due.ConstantValue all at))))
 
-entry_width_stays : (all : List Token) (name : ℕ) (bytes : List ℕ) (negative : Bool) (digits at : ℕ) → name < length all → digits < length all → Keeps (Inside (length all)) all (entry_width_rule name bytes negative digits (seen all digits)) at
+entry_width_stays : (all : List Token) (name : ℕ) (bytes : List ℕ) (negative : Bool) (digits at : ℕ) → IsOf kind.Word all name → IsOf kind.Integer all digits → Keeps (Inside all) all (entry_width_rule name bytes negative digits (seen all digits)) at
 unfolding entry_width_rule
-entry_width_stays all name bytes negative digits at lt le = (λ e. (λ o h w. entry_added (length all) name _ h lt le w, λ o. tt), λ e. tt)
+entry_width_stays all name bytes negative digits at lt le = (λ e. (λ o h w. entry_added all name _ h lt le w, λ o. tt), λ e. tt)
 
-entry_number_stays : (all : List Token) (name : ℕ) (bytes : List ℕ) (negative : Bool) (d : Due) (at : ℕ) → name < length all → Keeps (Inside (length all)) all (entry_number_rule name bytes negative d) at
+entry_number_stays : (all : List Token) (name : ℕ) (bytes : List ℕ) (negative : Bool) (d : Due) (at : ℕ) → IsOf kind.Word all name → Keeps (Inside all) all (entry_number_rule name bytes negative d) at
 unfolding entry_number_rule
 entry_number_stays all name bytes negative d at lt = (
   λ e. (
     λ o. (
-      λ c. entry_width_stays all name bytes negative at (at + 1 + 1) lt (at_kind kind.Integer all at e),
-      λ c h w. entry_added (length all) name (value.Integer negative at width.I64) h lt (at_kind kind.Integer all at e) w,
+      λ c. entry_width_stays all name bytes negative at (at + 1 + 1) lt e,
+      λ c h w. entry_added all name (value.Integer negative at width.I64) h lt e w,
     ),
     λ o. tt,
   ),
   λ e. tt,
 )
 
-entry_value_stays : (all : List Token) (name : ℕ) (bytes : List ℕ) (at : ℕ) → name < length all → Keeps (Inside (length all)) all (entry_value_rule name bytes) at
+entry_value_stays : (all : List Token) (name : ℕ) (bytes : List ℕ) (at : ℕ) → IsOf kind.Word all name → Keeps (Inside all) all (entry_value_rule name bytes) at
 unfolding entry_value_rule
 entry_value_stays all name bytes at lt = (
-  λ e h w. entry_added (length all) name (value.Truth true) h lt tt w,
+  λ e h w. entry_added all name (value.Truth true) h lt tt w,
   λ e. (
-    λ e h w. entry_added (length all) name (value.Truth false) h lt tt w,
+    λ e h w. entry_added all name (value.Truth false) h lt tt w,
     λ e. (
-      λ e h w. entry_added (length all) name value.Unit h lt tt w,
+      λ e h w. entry_added all name value.Unit h lt tt w,
       λ e. (
-        λ e h w. entry_added (length all) name (value.Text at) h lt (at_kind kind.Text all at e) w,
+        λ e h w. entry_added all name (value.Text at) h lt e w,
         λ e. (λ e. entry_number_stays all name bytes true due.Other (at + 1) lt, λ e. entry_number_stays all name bytes false due.AttributeValue at lt),
       ),
     ),
@@ -162,7 +148,7 @@ entry_value_stays all name bytes at lt = (
 entry_stays : Stays entry_rule
 unfolding entry_rule
 entry_stays all at =
-    (λ e. (λ o. entry_value_stays all at _ (at + 1 + 1) (at_kind kind.Word all at e), λ o h w. entry_added (length all) at value.Unit h (at_kind kind.Word all at e) tt w), λ e. tt)
+    (λ e. (λ o. entry_value_stays all at _ (at + 1 + 1) e, λ o h w. entry_added all at value.Unit h e tt w), λ e. tt)
 
 param_stays : Stays param_rule
 unfolding param_rule
@@ -190,7 +176,7 @@ until_stays close d i all at = (λ e h w. w, λ e. (list_stays i all at, λ n. k
 enclosed_stays : (i : Item) (d : Due) → Stays (enclosed_rule i d)
 enclosed_stays i d all at = until_stays close_paren d i all at
 
-pub dictionary_stays : (all : List Token) (at : ℕ) → Keeps (Inside (length all)) all dictionary_rule at
+pub dictionary_stays : (all : List Token) (at : ℕ) → Keeps (Inside all) all dictionary_rule at
 unfolding dictionary_rule
 dictionary_stays all at = (λ e. until_stays close_brace due.Other item.Entry all (at + 1), λ e h w. w)
 
@@ -254,7 +240,7 @@ slot_stays slot.IfResults all at = if_results_stays all at
 slot_stays slot.IterArgs all at = iter_args_stays all at
 slot_stays slot.LoopWidth all at = loop_width_stays all at
 
-slots_stays : (ss : List Slot) (all : List Token) (at : ℕ) → Keeps (Inside (length all)) all (slots_rule ss) at
+slots_stays : (ss : List Slot) (all : List Token) (at : ℕ) → Keeps (Inside all) all (slots_rule ss) at
 slots_stays [] all at = λ h w. w
 slots_stays (s ∷ ss) all at = (slot_stays s all at, λ n. slots_stays ss all n)
 
@@ -262,24 +248,21 @@ row_stays : (l : Level) → Stays (row_rule l)
 unfolding row_rule
 row_stays l all at = (λ e. (λ h w. w, λ n. slots_stays (slots (row_opened (opening_of (word_of (seen all at))))) all n), λ e. (λ o. tt, λ o. tt))
 
-defines_stays : (all : List Token) (name at : ℕ) → name < length all → Keeps (Inside (length all)) all (defines_rule (seen all name) name) at
+defines_stays : (all : List Token) (name at : ℕ) → IsOf kind.Value all name → Keeps (Inside all) all (defines_rule (seen all name) name) at
 unfolding defines_rule
 defines_stays all name at lt = (
-  λ e. (λ o. (λ h w. define_added (length all) (ref name (count_of (seen all (at + 1)))) h lt w, λ n. kind_stays due.Other equals all n), λ o. tt),
-  λ e. (λ h w. define_added (length all) (ref name 1) h lt w, λ n. kind_stays due.Other equals all n),
+  λ e. (λ o. (λ h w. define_added all (ref name (count_of (seen all (at + 1)))) h lt w, λ n. kind_stays due.Other equals all n), λ o. tt),
+  λ e. (λ h w. define_added all (ref name 1) h lt w, λ n. kind_stays due.Other equals all n),
 )
 
-and_false : (b : Bool) → (b && false) ≡ false
-and_false true = refl
-and_false false = refl
+both_true : (a b : Bool) → (a && b) ≡ true → b ≡ true
+both_true true b e = e
+both_true false b e = absurd cc
 
-pub head_stays : (l : Level) (all : List Token) (at : ℕ) → Keeps (Inside (length all)) all (head_rule l) at
+pub head_stays : (l : Level) (all : List Token) (at : ℕ) → Keeps (Inside all) all (head_rule l) at
 unfolding head_rule
 head_stays l all at =
-    (λ e. (defines_stays all at (at + 1) (at_token (λ x. has_operations l && is_kind kind.Value x) (and_false (has_operations l)) all at e), λ n. row_stays level.Body all n), λ e. row_stays l all at)
+    (λ e. (defines_stays all at (at + 1) (both_true (has_operations l) (is_kind kind.Value (seen all at)) e), λ n. row_stays level.Body all n), λ e. row_stays l all at)
 
-pub nothing_inside : (n : ℕ) (r : Row) → Inside n (no_parts r)
-nothing_inside n r = (tt, (tt, (All-nil (EntryWithin n), (All-nil (RefWithin n), (All-nil (RefWithin n), All-nil (RefWithin n))))))
-
-pub all_inside : (n : ℕ) (h : Parts) → Inside n h → PartsWithin n h
-all_inside n h w = record { symbol = w.0; literal = w.1.0; entries = w.1.1.0; defines = w.1.1.1.0; args = w.1.1.1.1.0; uses = w.1.1.1.1.1 }
+pub nothing_inside : (all : List Token) (r : Row) → Inside all (no_parts r)
+nothing_inside all r = (tt, (tt, (All-nil (EntryOf all), (All-nil (NameOf all), (All-nil (NameOf all), All-nil (UseOf all))))))

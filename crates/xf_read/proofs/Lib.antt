@@ -8,6 +8,7 @@ pub mod IsRead
 pub mod Joining
 pub mod KeptLemmas
 pub mod Meanings
+pub mod OfKind
 pub mod Place
 pub mod ReadAgain
 pub mod SameTypes

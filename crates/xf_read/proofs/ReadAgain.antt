@@ -31,7 +31,7 @@ use Rattle.xf_read.specs.declared.fault.Cause.{Cause}
 use Rattle.xf_read.specs.Tree.{Nodes, no_nodes, node, Bodies, no_bodies, body, Tree, Block, cons}
 use Rattle.xf_read.specs.Syntax.{From, part, most_open, most_operations, begins_at, inside, behind, ends_open, ends_in_yield, lacks_yield, block, yielded, closed, braced, single, with_else, bodies_at, tail_at, tree, node_at, closes, nodes_at}
 use Rattle.xf_read.specs.Written.{SaidNodes, no_nodes_said, node_said, SaidBodies, no_bodies_said, body_said, nodes_said, bodies_said, says_yield_last, left_out, operations, operations_inside, NestsWell, BodiesNestWell, has_body, has_else, has_tail, Braced, TailWritten, NodesWritten, BodiesWritten, ElseWritten}
-use Rattle.xf_read.proofs.HeadsWithin.{at_token}
+use Rattle.xf_read.proofs.OfKind.{at_token}
 use Rattle.xf_read.proofs.TailLemmas.{SameRow, tail_leaves}
 
 -- ---- tokens that close

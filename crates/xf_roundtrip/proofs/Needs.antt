@@ -1,0 +1,186 @@
+-- The tokens of the printed form, what its operations need, and texts that are laid out of tokens.
+use Rattle.std.specs.Prelude.{◌≡◌, ℕ, ◌+◌, ◌^◌, ◌<◌, ◌≤◌, List, [], ◌∷◌, ◌++◌, length, drop, map, codes, Option, Some, Bool, true, false, not, ◌||◌, if◌then◌else◌, slice_get}
+use Rattle.xf_type.specs.declared.payload_type.PayloadType.{PayloadType}
+use Rattle.xf_type.specs.declared.payload_type.PayloadType.TheVariants.{Scalar}
+use Rattle.xf_type.specs.declared.payload_type.Width.{Width}
+use Rattle.xf_lex.specs.Laid.{Piece, laid, AllStay}
+use Rattle.xf_grammar.specs.Tokens.{Seen, open_brace, close_brace}
+use Rattle.xf_grammar.specs.Laid.{seen_plains}
+use Rattle.xf_read_base.specs.declared.row.Slot.TheVariants as slot
+use Rattle.xf_read_base.specs.Pieces.{mark, word, piece_written, head_written}
+use Rattle.xf_ir.specs.declared.name.OpName.{OpName}
+use Rattle.xf_ir.specs.declared.name.ValueName.{ValueName}
+use Rattle.xf_ir.specs.declared.name.ValueName.TheVariants.{Result, Arg, Free}
+use Rattle.xf_ir.specs.declared.kind.Attr.{Attr}
+use Rattle.xf_ir.specs.declared.kind.Kind.{Kind}
+use Rattle.xf_ir.specs.declared.kind.Kind.TheVariants as kind
+use Rattle.xf_ir.specs.declared.op.Module.{Module}
+use Rattle.xf_ir.specs.Kinds.{ends, is_container, returned_types}
+use Rattle.xf_ir.specs.Lists.{Each}
+use Rattle.xf_ir.specs.Placed.{functions_of}
+use Rattle.xf_ir.specs.RuleAttributes.{kind_fits, value_fits}
+use Rattle.xf_ir.specs.RuleBlocks.{is_end}
+use Rattle.xf_ir.specs.Tree.{Ops, no_ops, op, Regions, no_regions, region, Tree}
+use Rattle.xf_ir.specs.Words.{is_word}
+use Rattle.xf_print.specs.Names.{Entry, Names, no_names, with_ops, first_args, number_of, first_of}
+use Rattle.xf_print.specs.Printed.{is_empty_yield}
+use Rattle.xf_roundtrip.specs.Printable.{HasBytes}
+use Rattle.xf_roundtrip.specs.Printing.{dictionary_piece, is_core, row_of, pieces_of, results_of}
+
+-- ---- tokens
+
+abbrev pub head_tokens : Names → Tree → List Seen
+head_tokens names t =
+    head_written (results_of (number_of (names.entry t.name.0)) t.results) (row_of t.kind)
+    (pieces_of names (first_of (names.entry t.name.0)) (first_args t.regions) t.kind t.attrs t.operands t.results)
+
+-- the attributes behind the bodies
+abbrev pub tail_tokens : Kind → List Attr → List Seen
+tail_tokens (kind.For width) ds = piece_written slot.Dictionary (dictionary_piece ds)
+tail_tokens kind.If ds = piece_written slot.Dictionary (dictionary_piece ds)
+tail_tokens k ds = []
+
+-- a region behind another one is that of else
+abbrev pub else_tokens : Regions → List Seen
+else_tokens no_regions = []
+else_tokens (region args ops rest) = word (codes "else") ∷ []
+
+abbrev mutual
+  -- the operations of a block; a yield without operands and attributes is left out
+  pub ops_tokens : Names → Ops → List Seen
+  ops_tokens names no_ops = []
+  ops_tokens names (op n k ds os ts rs rest) =
+      if is_empty_yield k ds os then ops_tokens names rest
+      else head_tokens names (record { name = n; kind = k; attrs = ds; operands = os; results = ts; regions = rs }) ++ (regions_tokens names rs ++ (tail_tokens k ds ++ ops_tokens names rest))
+
+  pub regions_tokens : Names → Regions → List Seen
+  regions_tokens names no_regions = []
+  regions_tokens names (region args ops rest) = mark open_brace ∷ (ops_tokens names ops ++ mark close_brace ∷ (else_tokens rest ++ regions_tokens names rest))
+
+-- functions, each of which names its own values
+abbrev pub functions_tokens : Ops → List Seen
+functions_tokens no_ops = []
+functions_tokens (op n k ds os ts rs rest) =
+    head_tokens (with_ops no_names (op n k ds os ts rs no_ops)) (record { name = n; kind = k; attrs = ds; operands = os; results = ts; regions = rs })
+    ++ (regions_tokens (with_ops no_names (op n k ds os ts rs no_ops)) rs ++ functions_tokens rest)
+
+abbrev pub module_tokens : Module → List Seen
+module_tokens m = head_tokens no_names m.root ++ mark open_brace ∷ (functions_tokens (functions_of m) ++ mark close_brace ∷ [])
+
+-- ---- what operations need
+
+-- a value that has a name and a scalar type, which is at a place with a number of 64 bits
+abbrev pub Known : Names → ValueName → Type 0
+Known names (Result o num) = (e : Entry) × ((w : Width) × ((names.entry o.0 ≡ Some e) × ((slice_get e.results num ≡ Some (Scalar w)) × ((e.number < 2 ^ 64) × (num < 2 ^ 32)))))
+Known names (Arg o r num) = (e : Entry) × ((w : Width) × ((names.entry o.0 ≡ Some e) × ((slice_get e.args num ≡ Some (Scalar w)) × (e.first + num < 2 ^ 64))))
+Known names (Free num) = ⊥
+
+abbrev pub IsScalar : PayloadType → Type 0
+IsScalar t = (w : Width) × (t ≡ Scalar w)
+
+-- a word and a value of its width
+pub record AttrFits (d : Attr) : Type 0 where
+  pub name : is_word d.name ≡ true
+  pub value : value_fits d.value ≡ true
+  pub bytes : HasBytes d.value
+
+-- so many operands as the kind has in print
+abbrev pub counted : Kind → List ValueName → Bool
+counted (kind.Module symbol) [] = true
+counted (kind.Module symbol) os = false
+counted (kind.Func symbol private results) [] = true
+counted (kind.Func symbol private results) os = false
+counted (kind.Constant width bits) [] = true
+counted (kind.Constant width bits) os = false
+counted (kind.Binary which width) (a ∷ b ∷ []) = true
+counted (kind.Binary which width) os = false
+counted (kind.Compare which width) (a ∷ b ∷ []) = true
+counted (kind.Compare which width) os = false
+counted (kind.Select width) (a ∷ b ∷ c ∷ []) = true
+counted (kind.Select width) os = false
+counted (kind.Convert which from to) (a ∷ []) = true
+counted (kind.Convert which from to) os = false
+counted (kind.For width) (a ∷ b ∷ c ∷ os) = true
+counted (kind.For width) os = false
+counted kind.If (a ∷ []) = true
+counted kind.If os = false
+counted k os = true
+
+-- one region or two, or none
+abbrev pub has_regions : Kind → Regions → Bool
+has_regions (kind.Module symbol) (region args ops no_regions) = true
+has_regions (kind.Module symbol) rs = false
+has_regions (kind.Func symbol private results) (region args ops no_regions) = true
+has_regions (kind.Func symbol private results) rs = false
+has_regions (kind.For width) (region args ops no_regions) = true
+has_regions (kind.For width) rs = false
+has_regions kind.If (region args ops no_regions) = true
+has_regions kind.If (region args ops (region args' ops' no_regions)) = true
+has_regions kind.If rs = false
+has_regions k no_regions = true
+has_regions k rs = false
+
+-- the arguments of the first block: of a loop its number and what it carries
+abbrev pub ArgsRight : Kind → List PayloadType → List PayloadType → Type 0
+ArgsRight (kind.Func symbol private results) ts args = Unit {0}
+ArgsRight (kind.For width) ts args = args ≡ Scalar width ∷ ts
+ArgsRight k ts args = args ≡ []
+
+-- a loop carries as many values as it has results
+abbrev pub CarriedRight : Kind → List ValueName → List PayloadType → Type 0
+CarriedRight (kind.For width) os ts = length (drop 3 os) ≡ length ts
+CarriedRight k os ts = Unit {0}
+
+-- the line of an operation before others is made of tokens of the grammar
+pub record Fits (names : Names) (n : OpName) (k : Kind) (ds : List Attr) (os : List ValueName) (ts : List PayloadType) (rs : Regions) (rest : Ops) : Type 0 where
+  pub core : is_core k ≡ true
+  pub kind_fit : kind_fits k ≡ true
+  pub attrs : Each AttrFits ds
+  pub values : Each (Known names) os
+  pub count : counted k os ≡ true
+  pub regions : has_regions k rs ≡ true
+  pub arguments : ArgsRight k ts (first_args rs)
+  pub carried : CarriedRight k os ts
+  pub results : Each IsScalar ts
+  pub args : Each IsScalar (first_args rs)
+  pub returned : Each IsScalar (returned_types k)
+  pub number : number_of (names.entry n.0) < 2 ^ 64
+  pub first : first_of (names.entry n.0) + length (first_args rs) ≤ 2 ^ 32
+  pub many : length ts < 2 ^ 32
+  pub last : (not (ends k) || is_end rest) ≡ true
+
+abbrev mutual
+  pub OpsFit : Names → Ops → Type 0
+  OpsFit names no_ops = Unit {0}
+  OpsFit names (op n k ds os ts rs rest) = (is_container k ≡ false) × (Fits names n k ds os ts rs rest × (RegionsFit names rs × OpsFit names rest))
+
+  pub RegionsFit : Names → Regions → Type 0
+  RegionsFit names no_regions = Unit {0}
+  RegionsFit names (region args ops rest) = OpsFit names ops × RegionsFit names rest
+
+-- functions without results
+abbrev pub FunctionsFit : Ops → Type 0
+FunctionsFit no_ops = Unit {0}
+FunctionsFit (op n (kind.Func symbol private results) ds os ts rs rest) =
+    (ts ≡ [])
+    × (Fits (with_ops no_names (op n (kind.Func symbol private results) ds os ts rs no_ops)) n (kind.Func symbol private results) ds os ts rs no_ops
+    × (RegionsFit (with_ops no_names (op n (kind.Func symbol private results) ds os ts rs no_ops)) rs × FunctionsFit rest))
+FunctionsFit (op n k ds os ts rs rest) = ⊥
+
+-- a module whose lines are made of tokens
+pub record ModuleFits (m : Module) : Type 0 where
+  pub symbol : Option (List ℕ)
+  pub kind_is : m.root.kind ≡ kind.Module symbol
+  pub no_results : m.root.results ≡ []
+  pub root : Fits no_names m.root.name m.root.kind m.root.attrs m.root.operands m.root.results m.root.regions no_ops
+  pub functions : FunctionsFit (functions_of m)
+
+-- ---- texts that are laid out
+
+-- a text is laid out of blanks and these tokens, behind the word tensor or not
+pub record Reads (after_tensor : Bool) (text : List ℕ) (ts : List Seen) : Type 0 where
+  pub pieces : List Piece
+  pub tail : List ℕ
+  pub text_is : laid pieces tail ≡ text
+  pub tokens_are : seen_plains (map (λ w. w.token) pieces) ≡ ts
+  pub stay : AllStay after_tensor pieces tail

@@ -1,0 +1,34 @@
+-- A text means what it says.
+use Rattle.std.specs.Prelude.{◌≡◌, ◌↔◌, ℕ, List, map, false, true}
+use Rattle.std.specs.Str.{IsUtf8}
+use Rattle.xf_lex.specs.declared.token.Token.{Token}
+use Rattle.xf_lex.specs.Laid.{Piece, laid, AllStay}
+use Rattle.xf_grammar.specs.Laid.{seen_plains}
+use Rattle.xf_ir.specs.declared.op.Module.{Module}
+use Rattle.xf_read.specs.declared.tree.File.{File}
+use Rattle.xf_read.specs.Laws.{IsText}
+use Rattle.xf_read.specs.Meant.{file_faults, meant}
+use Rattle.xf_read.specs.Names.{no_faults}
+use Rattle.xf_read.specs.Spells.{Spells}
+use Rattle.xf_read.specs.Written.{SaidNodes, file_said, IsWritten}
+use Rattle.xf_roundtrip.specs.Printable.{IsPrintable}
+use Rattle.xf_roundtrip.specs.Renamed.{IsRenamed}
+use Rattle.xf_roundtrip.specs.SaidMeant.{said_meant}
+use Rattle.xf_roundtrip.specs.SaidPrinted.{printed_said}
+use Rattle.xf_roundtrip.specs.SaidWell.{said_well}
+
+-- the module that the tokens of a text mean is the one that they say
+abbrev pub TokensMeanWhatTheySay : Type 0
+TokensMeanWhatTheySay = (all : List Token) (file : File) → IsText all file → meant all file ≡ said_meant (file_said all file)
+
+-- and no check of names or types finds a fault exactly where what they say is right
+abbrev pub TokensAreRightAsTheySay : Type 0
+TokensAreRightAsTheySay = (all : List Token) (file : File) → IsText all file → (file_faults all file ≡ no_faults) ↔ (said_well (file_said all file) ≡ true)
+
+-- a text that is laid out, of tokens that are written and say what is right, spells the module that they say
+abbrev pub TextsMeanWhatTheySay : Type 0
+TextsMeanWhatTheySay = (ws : List Piece) (tail : List ℕ) (ns : SaidNodes) → AllStay false ws tail → IsUtf8 (laid ws tail) → IsWritten (seen_plains (map (λ w. w.token) ws)) ns → said_well ns ≡ true → Spells (laid ws tail) (said_meant ns)
+
+-- what the printed form of a module says is right, and it is the module again, with other names of operations
+abbrev pub PrintedSaysTheModule : Type 0
+PrintedSaysTheModule = (m : Module) → IsPrintable m → (said_well (printed_said m) ≡ true) × IsRenamed m (said_meant (printed_said m))

@@ -1,0 +1,11 @@
+pub mod Laws
+pub mod Naming
+pub mod Printable
+pub mod PrintedLaws
+pub mod Printing
+pub mod Renamed
+pub mod SaidMeant
+pub mod SaidPrinted
+pub mod SaidWell
+pub mod Saying
+pub mod Stored

@@ -1,0 +1,11 @@
+//! What a text of a payload says is what it means: the step from printed texts to the modules that
+//! they spell.
+#![tactic(auto)]
+
+mod law;
+mod layout;
+
+pub use law::{
+    printed_modules_say_themselves, texts_mean_what_they_say, tokens_mean_what_they_say,
+};
+pub use layout::{printed_form_is_laid, printed_modules_are_spelt};
