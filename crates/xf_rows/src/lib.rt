@@ -13,6 +13,8 @@ mod cut_texts;
 #[cfg(test)]
 mod edits;
 #[cfg(test)]
+mod large_texts;
+#[cfg(test)]
 mod large_trees;
 #[cfg(test)]
 mod long_files;
