@@ -1,4 +1,4 @@
-//! Texts of about the greatest length: of many functions, and of many branches in one function.
+//! Texts about as large as can be: eight million bytes of functions, and a million operations in one function.
 
 use crate::bounds::count_few;
 use std::alloc::Global;
@@ -10,8 +10,8 @@ use xf_type::NoMemory;
 /// How many functions of one line there are.
 const FUNCTIONS: u64 = 150_000;
 
-/// How many branches there are.
-const BRANCHES: u64 = 830_000;
+/// How many branches there are: with the `scf.yield` of each they are the most that a text of a million operations has.
+const BRANCHES: u64 = 499_998;
 
 /// Functions of one line and two operations.
 fn functions(alloc: Global) -> Result<String, NoMemory> {
