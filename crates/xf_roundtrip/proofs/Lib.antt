@@ -13,5 +13,6 @@ pub mod Printed
 pub mod Right
 pub mod SameHeads
 pub mod SamePieces
+pub mod SamePrinted
 pub mod Says
 pub mod Yields
