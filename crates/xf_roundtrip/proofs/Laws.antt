@@ -1,5 +1,5 @@
 -- A text means what it says.
-use Rattle.std.proofs.Common.{◌≡◌, ◌+◌, List, [], sym, ap, ◌∙◌}
+use Rattle.std.proofs.Common.{◌≡◌, ◌+◌, List, sym, ap, ◌∙◌}
 use Rattle.std.specs.Prelude.{map}
 use Rattle.xf_lex.specs.declared.token.Token.{Token}
 use Rattle.xf_lex.proofs.LaidLemmas.{laid_again}
@@ -52,8 +52,8 @@ tokens_are_right all file text =
     (λ none. sym e ∙ ap faultless none ∙ nothing_faultless, λ well. none_of (file_faults all file) (e ∙ well))
 
 pub texts_mean : TextsMeanWhatTheySay
-texts_mean ws ns stay utf8 written well =
-    let l = laid_again ws [] stay utf8 in
+texts_mean ws tail ns stay utf8 written well =
+    let l = laid_again ws tail stay utf8 in
     let r = texts_read_again l.0 (seen_plains (map (λ w. w.token) ws)) ns (laid_stand l.0 (map (λ w. w.token) ws) l.2) written in
     record {
       tokens = l.0;

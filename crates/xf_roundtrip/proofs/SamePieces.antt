@@ -1,5 +1,5 @@
 -- What pieces say, as lists.
-use Rattle.std.proofs.Common.{◌≡◌, ℕ, suc, ◌+◌, ◌-◌, ◌^◌, ◌<◌, Bool, true, false, List, [], ◌∷◌, ◌++◌, length, Option, Some, None, refl, sym, ap, subst, ◌∙◌, arith, append_assoc, append-nil}
+use Rattle.std.proofs.Common.{◌≡◌, ℕ, suc, ◌+◌, ◌-◌, ◌^◌, ◌<◌, List, [], ◌∷◌, ◌++◌, length, Option, Some, None, refl, sym, ap, ◌∙◌, arith, append_assoc, append-nil}
 use Rattle.std.specs.Prelude.{map, min, option_map, ℤ, pos, negsuc}
 use Rattle.std.specs.Fmt.{decimal}
 use Rattle.std.proofs.lemmas.Bool.Decides.{nat_tests}
@@ -10,8 +10,7 @@ use Rattle.xf_type.specs.declared.payload_type.PayloadType.TheVariants.{Scalar, 
 use Rattle.xf_type.specs.declared.payload_type.Width.{Width}
 use Rattle.xf_type.specs.declared.payload_type.Width.TheVariants.{I1, I8, I16, I32, I64, Index}
 use Rattle.xf_type.specs.Integers.{signed_value}
-use Rattle.xf_grammar.specs.Tokens.{sees, number_of}
-use Rattle.xf_lex.specs.declared.token.TokenKind.TheVariants as kind_of
+use Rattle.xf_grammar.specs.Tokens.{number_of}
 use Rattle.xf_read_base.specs.declared.row.Slot.TheVariants as slot
 use Rattle.xf_read_base.specs.Parts.{count_of, ValueSaid, number_value, EntrySaid, DefineSaid, UseSaid, Said, says_result, says_width}
 use Rattle.xf_read_base.specs.Pieces.{Use, hash, use_says, says_all, attribute_says, param_says, pair_says, piece_says, results_say}

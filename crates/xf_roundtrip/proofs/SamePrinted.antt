@@ -1,9 +1,7 @@
 -- The pieces of a printed module say what its heads say.
-use Rattle.std.proofs.Common.{◌≡◌, ◌⊎◌, inl, inr, ℕ, zero, suc, ◌+◌, ◌^◌, ◌<◌, ◌≤◌, Bool, true, false, cond, List, [], ◌∷◌, ◌++◌, length, Option, Some, None, refl, sym, ap, subst, ◌∙◌, arith, slice_get, append-nil}
-use Rattle.std.specs.Prelude.{◌&&◌, ◌||◌, ◌==◌, map, is_some}
-use Rattle.std.proofs.lemmas.Bool.{and_parts}
+use Rattle.std.proofs.Common.{◌≡◌, inl, inr, ℕ, zero, suc, ◌+◌, ◌^◌, ◌<◌, true, false, cond, List, [], ◌∷◌, ◌++◌, length, Option, Some, None, refl, sym, ap, subst, ◌∙◌, arith, slice_get, append-nil}
+use Rattle.std.specs.Prelude.{◌==◌, map}
 use Rattle.xf_type.specs.declared.payload_type.PayloadType.{PayloadType}
-use Rattle.xf_ir.specs.declared.kind.Attr.{Attr}
 use Rattle.xf_ir.specs.declared.kind.Kind.{Kind}
 use Rattle.xf_ir.specs.declared.kind.Kind.TheVariants as kind
 use Rattle.xf_ir.specs.declared.name.OpName.{OpName}
@@ -15,16 +13,15 @@ use Rattle.xf_ir.specs.Kinds.{is_module, returned_types}
 use Rattle.xf_ir.specs.Lists.{Each, Once, is_among}
 use Rattle.xf_ir.specs.Places.{Seen, done, inside, place_of, sees, AllSeen}
 use Rattle.xf_ir.specs.Placed.{Typed, type_or, type_at, Holder, holder_of, placed, root_holder}
-use Rattle.xf_ir.specs.RuleBlocks.{blocks_end, stands_at_end}
 use Rattle.xf_ir.specs.Tree.{Ops, no_ops, op, Regions, no_regions, region}
 use Rattle.xf_ir.specs.Valid.{OpsInner, RegionsInner, FunctionsAlone, BlocksAlone, OpsSee, RegionsSee, FunctionsSee, block_of}
-use Rattle.xf_ir.specs.Walk.{ops_names, regions_names, tree_names}
+use Rattle.xf_ir.specs.Walk.{ops_names, regions_names}
 use Rattle.xf_ir.proofs.Lists.{not_left, once_left, once_right}
 use Rattle.xf_ir.proofs.Obeys.{OpsObey, RegionsObey, FunctionsObey, BlocksObey, blocks_obey}
 use Rattle.xf_ir.proofs.Root.{one_block}
 use Rattle.xf_ir.proofs.SeenTypes.{seen_of}
 use Rattle.xf_read.specs.Written.{no_nodes_said, node_said, no_bodies_said, body_said}
-use Rattle.xf_print.specs.Names.{Names, first_args, next_number, type_of, with_ops, number_of, first_of}
+use Rattle.xf_print.specs.Names.{Names, first_args, next_number, number_of, first_of}
 use Rattle.xf_print.specs.Names.{no_names as no_numbers}
 use Rattle.xf_print.specs.Printed.{is_empty_yield}
 use Rattle.xf_roundtrip.specs.Laws.{PiecesSayTheModule}
@@ -40,7 +37,7 @@ use Rattle.xf_roundtrip.proofs.Entries.{Entered, RegionsEntered, ops_entered}
 use Rattle.xf_roundtrip.proofs.Again.{ops_number, regions_number, ops_argument, regions_argument}
 use Rattle.xf_roundtrip.proofs.Functions.{numbers_of}
 use Rattle.xf_roundtrip.proofs.Names.{HasEntry, seen_or, result_seen}
-use Rattle.xf_roundtrip.proofs.Operations.{KnowsTypes, knows_more_results, knows_more_arguments, types_known, ArgsSo, Blocks, blocks_are, inner_module}
+use Rattle.xf_roundtrip.proofs.Operations.{KnowsTypes, knows_more_results, knows_more_arguments, types_known, ArgsSo, blocks_are, inner_module}
 use Rattle.xf_roundtrip.proofs.Printed.{function_by, module_by, bare, nothing_seen, same_entries, all_good, printed_says}
 use Rattle.xf_roundtrip.proofs.SameHeads.{ScalarType, head_same}
 use Rattle.xf_roundtrip.proofs.SamePieces.{IsNarrow}

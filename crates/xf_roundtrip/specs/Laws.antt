@@ -1,5 +1,5 @@
 -- A text means what it says.
-use Rattle.std.specs.Prelude.{◌≡◌, ◌↔◌, List, [], map, false, true}
+use Rattle.std.specs.Prelude.{◌≡◌, ◌↔◌, ℕ, List, map, false, true}
 use Rattle.std.specs.Str.{IsUtf8}
 use Rattle.xf_lex.specs.declared.token.Token.{Token}
 use Rattle.xf_lex.specs.Laid.{Piece, laid, AllStay}
@@ -27,9 +27,9 @@ TokensMeanWhatTheySay = (all : List Token) (file : File) → IsText all file →
 abbrev pub TokensAreRightAsTheySay : Type 0
 TokensAreRightAsTheySay = (all : List Token) (file : File) → IsText all file → (file_faults all file ≡ no_faults) ↔ (said_well (file_said all file) ≡ true)
 
--- a text that is laid out, of tokens that are written and say what is right, spells the module that they say
+-- a text that is laid out, of tokens that are written and say what is right, and blanks behind them, spells the module that they say
 abbrev pub TextsMeanWhatTheySay : Type 0
-TextsMeanWhatTheySay = (ws : List Piece) (ns : SaidNodes) → AllStay false ws [] → IsUtf8 (laid ws []) → IsWritten (seen_plains (map (λ w. w.token) ws)) ns → said_well ns ≡ true → Spells (laid ws []) (said_meant ns)
+TextsMeanWhatTheySay = (ws : List Piece) (tail : List ℕ) (ns : SaidNodes) → AllStay false ws tail → IsUtf8 (laid ws tail) → IsWritten (seen_plains (map (λ w. w.token) ws)) ns → said_well ns ≡ true → Spells (laid ws tail) (said_meant ns)
 
 -- what the printed form of a module says is right, and it is the module again, with other names of operations
 abbrev pub PrintedSaysTheModule : Type 0
