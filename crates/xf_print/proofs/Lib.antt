@@ -1,1 +1,8 @@
 mod Examples
+pub mod RowLemmas
+pub mod ListLemmas
+pub mod DimensionLemmas
+pub mod MapLemmas
+pub mod StrideLemmas
+pub mod BlankLemmas
+pub mod Writes

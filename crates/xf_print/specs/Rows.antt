@@ -77,24 +77,34 @@ chosen_text ts = codes " -> (" ++ (types_text ts ++ codes ")")
 
 -- ---- tensor
 
--- offsets or sizes, where the unknown ones are these values in turn
+-- an offset or a size: a number as it is written, or the first of these values
+abbrev pub place_text : Names → List ValueName → SliceIndex → List ℕ
+place_text names os (Fixed n) = signed_decimal n
+place_text names os Dynamic = text_of names (slice_get os 0)
+
+-- the values that are left behind it
+abbrev pub behind_place : List ValueName → SliceIndex → List ValueName
+behind_place os (Fixed n) = os
+behind_place os Dynamic = drop 1 os
+
 abbrev pub place_texts : Names → List SliceIndex → List ValueName → List (List ℕ)
 place_texts names [] os = []
-place_texts names (Fixed n ∷ is) os = signed_decimal n ∷ place_texts names is os
-place_texts names (Dynamic ∷ is) os = text_of names (slice_get os 0) ∷ place_texts names is (drop 1 os)
+place_texts names (i ∷ is) os = place_text names os i ∷ place_texts names is (behind_place os i)
 
--- how many of them are unknown
-abbrev pub unknown_places : List SliceIndex → ℕ
-unknown_places [] = 0
-unknown_places (Fixed n ∷ is) = unknown_places is
-unknown_places (Dynamic ∷ is) = suc (unknown_places is)
+abbrev pub behind_places : List SliceIndex → List ValueName → List ValueName
+behind_places [] os = os
+behind_places (i ∷ is) os = behind_places is (behind_place os i)
+
+-- the stride of a dimension
+abbrev pub stride_text : SliceIndex → List ℕ
+stride_text i = codes "1"
 
 -- `[0, %1] [4, %2] [1, 1]`
 abbrev pub window_text : Names → List SliceIndex → List SliceIndex → List ValueName → List ℕ
 window_text names offsets sizes os =
     codes "[" ++ (listed (place_texts names offsets os)
-    ++ (codes "] [" ++ (listed (place_texts names sizes (drop (unknown_places offsets) os))
-    ++ (codes "] [" ++ (listed (map (λ _. codes "1") offsets) ++ codes "]")))))
+    ++ (codes "] [" ++ (listed (place_texts names sizes (behind_places offsets os))
+    ++ (codes "] [" ++ (listed (map stride_text offsets) ++ codes "]")))))
 
 -- ---- linalg
 

@@ -12,11 +12,7 @@ fn hex_digit(digit: u8) -> u8
     requires { digit < 16 }
     ensures { result ≡ hex_digit digit }
 {
-    if digit < 10 {
-        48 + digit
-    } else {
-        55 + digit
-    }
+    if digit < 10 { 48 + digit } else { 55 + digit }
 }
 
 /// Whether a byte of a string stands for itself.

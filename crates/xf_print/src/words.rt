@@ -2,11 +2,12 @@
 ghost use Rattle.std.specs.Prelude.{◌≡◌, ◌++◌, OnOk, map, decimal, codes};
 ghost use Rattle.std.specs.Fmt.{signed_decimal};
 ghost use Rattle.std.specs.List.{flat_map};
+ghost use Rattle.xf_type.specs.declared.payload_type.PayloadType.TheVariants.{Tensor};
 ghost use Rattle.xf_print.specs.Words.{width_text, dim_text, type_text, types_text, arrow_types, predicate_text, iterator_text, dimension_text};
 
 use itoa::Buffer;
 use xf_ir::IteratorKind;
-use xf_type::{CmpKind, Dim, NoMemory, PayloadType, Width};
+use xf_type::{CmpKind, Dim, NoMemory, PayloadType, Shape, Width};
 
 /// Appends a number.
 pub fn write_number(number: u128, line: &mut Vec<u8>) -> Result<(), NoMemory>
@@ -64,8 +65,7 @@ fn write_dims(dims: &[Dim], line: &mut Vec<u8>) -> Result<(), NoMemory>
     Ok(())
 }
 
-/// Appends the type of a tensor of these dimensions and elements.
-pub fn write_tensor(dims: &[Dim], elem: Width, line: &mut Vec<u8>) -> Result<(), NoMemory>
+fn write_tensor(dims: &[Dim], elem: Width, line: &mut Vec<u8>) -> Result<(), NoMemory>
     ensures { OnOk result (line.new.items ≡ line.old.items ++ (codes "tensor<"
         ++ (flat_map dim_text dims.now ++ (width_text elem ++ codes ">")))) }
 {
@@ -76,13 +76,20 @@ pub fn write_tensor(dims: &[Dim], elem: Width, line: &mut Vec<u8>) -> Result<(),
     Ok(())
 }
 
+/// Appends the type of a tensor of that shape.
+pub fn write_shape(shape: &Shape, line: &mut Vec<u8>) -> Result<(), NoMemory>
+    ensures { OnOk result (line.new.items ≡ line.old.items ++ type_text (Tensor shape.now)) }
+{
+    write_tensor(shape.dims.as_slice(), shape.elem, line)
+}
+
 /// Appends a type.
 pub fn write_type(of: &PayloadType, line: &mut Vec<u8>) -> Result<(), NoMemory>
     ensures { OnOk result (line.new.items ≡ line.old.items ++ type_text of.now) }
 {
     match of {
         PayloadType::Scalar(width) => write_width(*width, line),
-        PayloadType::Tensor(shape) => write_tensor(shape.dims.as_slice(), shape.elem, line),
+        PayloadType::Tensor(shape) => write_shape(shape, line),
     }
 }
 

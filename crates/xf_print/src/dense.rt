@@ -1,0 +1,127 @@
+//! The bodies of dense constants, appended to the line so far. They refuse for want of memory alone.
+ghost use Rattle.std.specs.Prelude.{◌≡◌, ◌∷◌, ◌++◌, ◌/◌, OnOk, IfOk, map, take, drop, codes};
+ghost use Rattle.xf_type.specs.declared.payload_type.Dim.TheVariants.{Fixed};
+ghost use Rattle.xf_print.specs.Dense.{rows, nested, body_text};
+ghost use Rattle.xf_print.specs.Numbers.{number_text};
+ghost use Rattle.xf_print.specs.Words.{listed};
+
+use crate::number::write_number_of;
+use xf_type::{Dim, NoMemory, Shape, Width};
+
+fn write_numbers(width: Width, numbers: &[u128], line: &mut Vec<u8>) -> Result<(), NoMemory>
+    ensures { OnOk result (line.new.items
+        ≡ line.old.items ++ listed (map (number_text width) numbers.now)) }
+{
+    let [first, rest @ ..] = numbers else {
+        return Ok(());
+    };
+    write_number_of(width, *first, line)?;
+    for number in rest {
+        line.extend_from_slice(b", ")?;
+        write_number_of(width, *number, line)?;
+    }
+    Ok(())
+}
+
+/// How many numbers a row has, where so many rows share them.
+#[tactic(auto, using(crate::proofs::RowLemmas::none_shared))]
+fn row_len(numbers: usize, rows: u32) -> usize
+    ensures { result ≡ numbers / rows }
+{
+    if rows == 0 {
+        0
+    } else {
+        numbers / rows as usize
+    }
+}
+
+/// Appends the row of that many numbers at the front, and answers the numbers behind it.
+#[cycle(rows)]
+#[tactic(auto, using(crate::proofs::RowLemmas::take_least, crate::proofs::RowLemmas::drop_least))]
+fn write_row<'a>(
+    width: Width,
+    dims: &[Dim],
+    size: usize,
+    numbers: &'a [u128],
+    line: &mut Vec<u8>,
+) -> Result<&'a [u128], NoMemory>
+    ensures line { OnOk result (line.new.items
+        ≡ line.old.items ++ nested width dims.now (take size numbers.now)) }
+    ensures behind { IfOk result (λ behind. behind.now ≡ drop size numbers.now) }
+{
+    let (row, behind) = numbers.split_at(size.min(numbers.len()));
+    write_nested(width, dims, row, line)?;
+    Ok(behind)
+}
+
+/// Appends so many rows of that many numbers, with a comma and a blank between each two.
+#[cycle(rows)]
+fn write_rows(
+    width: Width,
+    count: u32,
+    dims: &[Dim],
+    size: usize,
+    numbers: &[u128],
+    line: &mut Vec<u8>,
+) -> Result<(), NoMemory>
+    ensures { OnOk result (line.new.items
+        ≡ line.old.items ++ listed (map (nested width dims.now) (rows count size numbers.now))) }
+{
+    if count == 0 {
+        return Ok(());
+    }
+    let mut left = write_row(width, dims, size, numbers, line)?;
+    for _ in 1..count {
+        line.extend_from_slice(b", ")?;
+        left = write_row(width, dims, size, left, line)?;
+    }
+    Ok(())
+}
+
+/// Appends numbers as a list of so many rows, which are nested lists of the other dimensions.
+#[cycle(rows)]
+fn write_list(
+    width: Width,
+    extent: u32,
+    dims: &[Dim],
+    numbers: &[u128],
+    line: &mut Vec<u8>,
+) -> Result<(), NoMemory>
+    ensures { OnOk result (line.new.items
+        ≡ line.old.items ++ nested width (Fixed extent ∷ dims.now) numbers.now) }
+{
+    line.push(b'[')?;
+    let size = row_len(numbers.len(), extent);
+    write_rows(width, extent, dims, size, numbers, line)?;
+    line.push(b']')?;
+    Ok(())
+}
+
+/// Appends numbers as nested lists of the dimensions.
+#[cycle(rows)]
+fn write_nested(
+    width: Width,
+    dims: &[Dim],
+    numbers: &[u128],
+    line: &mut Vec<u8>,
+) -> Result<(), NoMemory>
+    ensures { OnOk result (line.new.items
+        ≡ line.old.items ++ nested width dims.now numbers.now) }
+{
+    match dims {
+        [] => write_numbers(width, numbers, line),
+        [Dim::Dynamic, rest @ ..] => write_nested(width, rest, numbers, line),
+        [Dim::Fixed(extent), rest @ ..] => write_list(width, *extent, rest, numbers, line),
+    }
+}
+
+/// Appends the body of a dense constant: nothing for no numbers, a number for one, and else nested lists.
+pub fn write_body(shape: &Shape, numbers: &[u128], line: &mut Vec<u8>) -> Result<(), NoMemory>
+    ensures { OnOk result (line.new.items ≡ line.old.items ++ body_text shape.now numbers.now) }
+{
+    match numbers {
+        [] => Ok(()),
+        [number] => write_number_of(shape.elem, *number, line),
+        _ => write_nested(shape.elem, shape.dims.as_slice(), numbers, line),
+    }
+}

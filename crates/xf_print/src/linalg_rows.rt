@@ -1,0 +1,193 @@
+//! The rows of linalg, appended to the line so far. They refuse for want of memory alone.
+ghost use Rattle.std.specs.Prelude.{◌≡◌, ◌++◌, OnOk, [], map, codes};
+ghost use Rattle.xf_ir.specs.declared.kind.Kind.TheVariants as kind;
+ghost use Rattle.xf_print.specs.Attributes.{attrs_text, dictionary_behind};
+ghost use Rattle.xf_print.specs.Index.{names_of};
+ghost use Rattle.xf_print.specs.Rows.{ins_text, outs_text, structured_text, dimension_texts, map_text, generic_text, row_text};
+ghost use Rattle.xf_print.specs.Words.{listed, arrow_types, dimension_text, iterator_text};
+
+use crate::attributes::write_dictionary;
+use crate::index::Index;
+use crate::values::{write_arrow_results, write_op_attrs, write_value_types, write_values};
+use crate::words::{write_dimension, write_iterator};
+use xf_ir::{IteratorKind, Op, ValueName};
+use xf_type::{AffineMap, NoMemory};
+
+fn write_ins(names: &Index<'_>, values: &[ValueName], line: &mut Vec<u8>) -> Result<(), NoMemory>
+    ensures { OnOk result (line.new.items
+        ≡ line.old.items ++ ins_text (names_of names.now) values.now) }
+{
+    if values.is_empty() {
+        return Ok(());
+    }
+    line.extend_from_slice(b" ins(")?;
+    write_values(names, values, line)?;
+    line.extend_from_slice(b" : ")?;
+    write_value_types(names, values, line)?;
+    line.push(b')')?;
+    Ok(())
+}
+
+fn write_outs(names: &Index<'_>, values: &[ValueName], line: &mut Vec<u8>) -> Result<(), NoMemory>
+    ensures { OnOk result (line.new.items
+        ≡ line.old.items ++ outs_text (names_of names.now) values.now) }
+{
+    line.extend_from_slice(b" outs(")?;
+    write_values(names, values, line)?;
+    line.extend_from_slice(b" : ")?;
+    write_value_types(names, values, line)?;
+    line.push(b')')?;
+    Ok(())
+}
+
+/// Appends the operands: the last one is the out.
+fn write_structured(names: &Index<'_>, op: &Op, line: &mut Vec<u8>) -> Result<(), NoMemory>
+    ensures { OnOk result (line.new.items
+        ≡ line.old.items ++ structured_text (names_of names.now) op.now.operands) }
+{
+    let operands = op.operands.as_slice();
+    let (ins, outs) = operands.split_at(operands.len().saturating_sub(1));
+    write_ins(names, ins, line)?;
+    write_outs(names, outs, line)?;
+    Ok(())
+}
+
+/// Appends an operation with a name.
+pub fn write_named(
+    word: &[u8],
+    names: &Index<'_>,
+    op: &Op,
+    line: &mut Vec<u8>,
+) -> Result<(), NoMemory>
+    ensures { OnOk result (line.new.items ≡ line.old.items ++ (word.now
+        ++ (attrs_text op.now.attrs ++ (structured_text (names_of names.now) op.now.operands
+        ++ (codes " -> " ++ arrow_types op.now.results))))) }
+{
+    line.extend_from_slice(word)?;
+    write_op_attrs(op, line)?;
+    write_structured(names, op, line)?;
+    line.extend_from_slice(b" -> ")?;
+    write_arrow_results(op, line)?;
+    Ok(())
+}
+
+/// Appends the dimensions of a map that has so many.
+fn write_dimensions(dims: u32, line: &mut Vec<u8>) -> Result<(), NoMemory>
+    ensures { OnOk result (line.new.items
+        ≡ line.old.items ++ listed (dimension_texts 0 dims)) }
+{
+    if dims == 0 {
+        return Ok(());
+    }
+    write_dimension(0, line)?;
+    for at in 1..dims {
+        line.extend_from_slice(b", ")?;
+        write_dimension(at, line)?;
+    }
+    Ok(())
+}
+
+/// Appends the dimensions that a map selects.
+fn write_selected(dims: &[u32], line: &mut Vec<u8>) -> Result<(), NoMemory>
+    ensures { OnOk result (line.new.items
+        ≡ line.old.items ++ listed (map dimension_text dims.now)) }
+{
+    let [first, rest @ ..] = dims else {
+        return Ok(());
+    };
+    write_dimension(*first, line)?;
+    for dim in rest {
+        line.extend_from_slice(b", ")?;
+        write_dimension(*dim, line)?;
+    }
+    Ok(())
+}
+
+fn write_map_results(of: &AffineMap, line: &mut Vec<u8>) -> Result<(), NoMemory>
+    ensures { OnOk result (line.new.items
+        ≡ line.old.items ++ listed (map dimension_text of.now.results)) }
+{
+    write_selected(of.results.as_slice(), line)
+}
+
+fn write_map(of: &AffineMap, line: &mut Vec<u8>) -> Result<(), NoMemory>
+    ensures { OnOk result (line.new.items ≡ line.old.items ++ map_text of.now) }
+{
+    line.extend_from_slice(b"affine_map<(")?;
+    write_dimensions(of.dims, line)?;
+    line.extend_from_slice(b") -> (")?;
+    write_map_results(of, line)?;
+    line.extend_from_slice(b")>")?;
+    Ok(())
+}
+
+fn write_maps(maps: &[AffineMap], line: &mut Vec<u8>) -> Result<(), NoMemory>
+    ensures { OnOk result (line.new.items
+        ≡ line.old.items ++ listed (map map_text maps.now)) }
+{
+    let [first, rest @ ..] = maps else {
+        return Ok(());
+    };
+    write_map(first, line)?;
+    for of in rest {
+        line.extend_from_slice(b", ")?;
+        write_map(of, line)?;
+    }
+    Ok(())
+}
+
+fn write_iterators(iterators: &[IteratorKind], line: &mut Vec<u8>) -> Result<(), NoMemory>
+    ensures { OnOk result (line.new.items
+        ≡ line.old.items ++ listed (map iterator_text iterators.now)) }
+{
+    let [first, rest @ ..] = iterators else {
+        return Ok(());
+    };
+    write_iterator(*first, line)?;
+    for kind in rest {
+        line.extend_from_slice(b", ")?;
+        write_iterator(*kind, line)?;
+    }
+    Ok(())
+}
+
+fn write_traits(
+    maps: &[AffineMap],
+    iterators: &[IteratorKind],
+    line: &mut Vec<u8>,
+) -> Result<(), NoMemory>
+    ensures { OnOk result (line.new.items
+        ≡ line.old.items ++ generic_text maps.now iterators.now) }
+{
+    line.extend_from_slice(b"linalg.generic {indexing_maps = [")?;
+    write_maps(maps, line)?;
+    line.extend_from_slice(b"], iterator_types = [")?;
+    write_iterators(iterators, line)?;
+    line.extend_from_slice(b"]}")?;
+    Ok(())
+}
+
+fn write_op_attributes(op: &Op, line: &mut Vec<u8>) -> Result<(), NoMemory>
+    ensures { OnOk result (line.new.items
+        ≡ line.old.items ++ dictionary_behind (codes " attrs = ") op.now.attrs) }
+{
+    write_dictionary(b" attrs = ", op.attrs.as_slice(), line)
+}
+
+/// Appends the head of an operation with a body.
+pub fn write_generic(
+    maps: &[AffineMap],
+    iterators: &[IteratorKind],
+    names: &Index<'_>,
+    op: &Op,
+    line: &mut Vec<u8>,
+) -> Result<(), NoMemory>
+    ensures { OnOk result (line.new.items ≡ line.old.items ++ row_text (names_of names.now) 0 []
+        (kind.Generic maps.now iterators.now) op.now.attrs op.now.operands op.now.results) }
+{
+    write_traits(maps, iterators, line)?;
+    write_structured(names, op, line)?;
+    write_op_attributes(op, line)?;
+    line.extend_from_slice(b" {")?;
+    Ok(())
+}

@@ -1,0 +1,229 @@
+//! The rows of tensor, appended to the line so far. They refuse for want of memory alone.
+ghost use Rattle.std.specs.Prelude.{◌≡◌, ◌++◌, OnOk, IfOk, [], map, drop, codes};
+ghost use Rattle.xf_ir.specs.declared.kind.Kind.TheVariants as kind;
+ghost use Rattle.xf_print.specs.Index.{names_of};
+ghost use Rattle.xf_print.specs.Rows.{place_text, behind_place, place_texts, behind_places, stride_text, window_text, row_text};
+ghost use Rattle.xf_print.specs.Words.{listed};
+
+use crate::index::Index;
+use crate::values::{
+    operands_behind, write_behind, write_nth, write_nth_type, write_op_attrs, write_operand,
+    write_operands, write_result_types,
+};
+use crate::words::write_integer;
+use xf_ir::{Op, SliceIndex, ValueName};
+use xf_type::NoMemory;
+
+/// Appends an empty tensor.
+pub fn write_empty(names: &Index<'_>, op: &Op, line: &mut Vec<u8>) -> Result<(), NoMemory>
+    ensures { OnOk result (line.new.items ≡ line.old.items ++ row_text (names_of names.now) 0 []
+        kind.Empty op.now.attrs op.now.operands op.now.results) }
+{
+    line.extend_from_slice(b"tensor.empty(")?;
+    write_operands(names, op, line)?;
+    line.push(b')')?;
+    write_op_attrs(op, line)?;
+    line.extend_from_slice(b" : ")?;
+    write_result_types(op, line)?;
+    Ok(())
+}
+
+/// Appends the extent of a dimension.
+pub fn write_dim(names: &Index<'_>, op: &Op, line: &mut Vec<u8>) -> Result<(), NoMemory>
+    ensures { OnOk result (line.new.items ≡ line.old.items ++ row_text (names_of names.now) 0 []
+        kind.Dim op.now.attrs op.now.operands op.now.results) }
+{
+    line.extend_from_slice(b"tensor.dim")?;
+    write_op_attrs(op, line)?;
+    line.push(b' ')?;
+    write_operands(names, op, line)?;
+    line.extend_from_slice(b" : ")?;
+    write_nth_type(names, op, 0, line)?;
+    Ok(())
+}
+
+/// Appends the reading of an element.
+pub fn write_extract(names: &Index<'_>, op: &Op, line: &mut Vec<u8>) -> Result<(), NoMemory>
+    ensures { OnOk result (line.new.items ≡ line.old.items ++ row_text (names_of names.now) 0 []
+        kind.Extract op.now.attrs op.now.operands op.now.results) }
+{
+    line.extend_from_slice(b"tensor.extract ")?;
+    write_nth(names, op, 0, line)?;
+    line.push(b'[')?;
+    write_behind(names, op, 1, line)?;
+    line.push(b']')?;
+    write_op_attrs(op, line)?;
+    line.extend_from_slice(b" : ")?;
+    write_nth_type(names, op, 0, line)?;
+    Ok(())
+}
+
+/// Appends the change of an element.
+pub fn write_insert(names: &Index<'_>, op: &Op, line: &mut Vec<u8>) -> Result<(), NoMemory>
+    ensures { OnOk result (line.new.items ≡ line.old.items ++ row_text (names_of names.now) 0 []
+        kind.Insert op.now.attrs op.now.operands op.now.results) }
+{
+    line.extend_from_slice(b"tensor.insert ")?;
+    write_nth(names, op, 0, line)?;
+    line.extend_from_slice(b" into ")?;
+    write_nth(names, op, 1, line)?;
+    line.push(b'[')?;
+    write_behind(names, op, 2, line)?;
+    line.push(b']')?;
+    write_op_attrs(op, line)?;
+    line.extend_from_slice(b" : ")?;
+    write_nth_type(names, op, 1, line)?;
+    Ok(())
+}
+
+/// Appends an offset or a size, where the first operand is the next unknown one, and answers the operands that are left.
+fn write_place<'a>(
+    names: &Index<'_>,
+    operands: &'a [ValueName],
+    place: SliceIndex,
+    line: &mut Vec<u8>,
+) -> Result<&'a [ValueName], NoMemory>
+    ensures line { OnOk result (line.new.items
+        ≡ line.old.items ++ place_text (names_of names.now) operands.now place) }
+    ensures behind { IfOk result (λ behind. behind.now ≡ behind_place operands.now place) }
+{
+    match place {
+        SliceIndex::Fixed(number) => {
+            write_integer(number, line)?;
+            Ok(operands)
+        }
+        SliceIndex::Dynamic => {
+            write_operand(names, operands, 0, line)?;
+            Ok(operands_behind(operands, 1))
+        }
+    }
+}
+
+/// Appends offsets or sizes, and answers the operands that are left.
+fn write_places<'a>(
+    names: &Index<'_>,
+    places: &[SliceIndex],
+    operands: &'a [ValueName],
+    line: &mut Vec<u8>,
+) -> Result<&'a [ValueName], NoMemory>
+    ensures line { OnOk result (line.new.items ≡ line.old.items
+        ++ listed (place_texts (names_of names.now) places.now operands.now)) }
+    ensures behind { IfOk result (λ behind. behind.now ≡ behind_places places.now operands.now) }
+{
+    let [first, rest @ ..] = places else {
+        return Ok(operands);
+    };
+    let mut left = write_place(names, operands, *first, line)?;
+    for place in rest {
+        line.extend_from_slice(b", ")?;
+        left = write_place(names, left, *place, line)?;
+    }
+    Ok(left)
+}
+
+fn write_stride(_place: SliceIndex, line: &mut Vec<u8>) -> Result<(), NoMemory>
+    ensures { OnOk result (line.new.items ≡ line.old.items ++ stride_text _place) }
+{
+    line.push(b'1')?;
+    Ok(())
+}
+
+/// Appends a stride of 1 for each dimension.
+fn write_strides(places: &[SliceIndex], line: &mut Vec<u8>) -> Result<(), NoMemory>
+    ensures { OnOk result (line.new.items
+        ≡ line.old.items ++ listed (map stride_text places.now)) }
+{
+    let [first, rest @ ..] = places else {
+        return Ok(());
+    };
+    write_stride(*first, line)?;
+    for place in rest {
+        line.extend_from_slice(b", ")?;
+        write_stride(*place, line)?;
+    }
+    Ok(())
+}
+
+/// Appends offsets, sizes and strides, where the unknown ones are the operands behind the first ones.
+fn write_window(
+    names: &Index<'_>,
+    offsets: &[SliceIndex],
+    sizes: &[SliceIndex],
+    op: &Op,
+    count: usize,
+    line: &mut Vec<u8>,
+) -> Result<(), NoMemory>
+    ensures { OnOk result (line.new.items ≡ line.old.items ++ window_text (names_of names.now)
+        offsets.now sizes.now (drop count op.now.operands)) }
+{
+    line.push(b'[')?;
+    let operands = operands_behind(op.operands.as_slice(), count);
+    let left = write_places(names, offsets, operands, line)?;
+    line.extend_from_slice(b"] [")?;
+    write_places(names, sizes, left, line)?;
+    line.extend_from_slice(b"] [")?;
+    write_strides(offsets, line)?;
+    line.push(b']')?;
+    Ok(())
+}
+
+/// Appends the reading of a window.
+pub fn write_extract_slice(
+    offsets: &[SliceIndex],
+    sizes: &[SliceIndex],
+    names: &Index<'_>,
+    op: &Op,
+    line: &mut Vec<u8>,
+) -> Result<(), NoMemory>
+    ensures { OnOk result (line.new.items ≡ line.old.items ++ row_text (names_of names.now) 0 []
+        (kind.ExtractSlice offsets.now sizes.now) op.now.attrs op.now.operands op.now.results) }
+{
+    line.extend_from_slice(b"tensor.extract_slice ")?;
+    write_nth(names, op, 0, line)?;
+    write_window(names, offsets, sizes, op, 1, line)?;
+    write_op_attrs(op, line)?;
+    line.extend_from_slice(b" : ")?;
+    write_nth_type(names, op, 0, line)?;
+    line.extend_from_slice(b" to ")?;
+    write_result_types(op, line)?;
+    Ok(())
+}
+
+/// Appends the change of a window.
+pub fn write_insert_slice(
+    offsets: &[SliceIndex],
+    sizes: &[SliceIndex],
+    names: &Index<'_>,
+    op: &Op,
+    line: &mut Vec<u8>,
+) -> Result<(), NoMemory>
+    ensures { OnOk result (line.new.items ≡ line.old.items ++ row_text (names_of names.now) 0 []
+        (kind.InsertSlice offsets.now sizes.now) op.now.attrs op.now.operands op.now.results) }
+{
+    line.extend_from_slice(b"tensor.insert_slice ")?;
+    write_nth(names, op, 0, line)?;
+    line.extend_from_slice(b" into ")?;
+    write_nth(names, op, 1, line)?;
+    write_window(names, offsets, sizes, op, 2, line)?;
+    write_op_attrs(op, line)?;
+    line.extend_from_slice(b" : ")?;
+    write_nth_type(names, op, 0, line)?;
+    line.extend_from_slice(b" into ")?;
+    write_nth_type(names, op, 1, line)?;
+    Ok(())
+}
+
+/// Appends a cast.
+pub fn write_cast(names: &Index<'_>, op: &Op, line: &mut Vec<u8>) -> Result<(), NoMemory>
+    ensures { OnOk result (line.new.items ≡ line.old.items ++ row_text (names_of names.now) 0 []
+        kind.Cast op.now.attrs op.now.operands op.now.results) }
+{
+    line.extend_from_slice(b"tensor.cast ")?;
+    write_operands(names, op, line)?;
+    write_op_attrs(op, line)?;
+    line.extend_from_slice(b" : ")?;
+    write_nth_type(names, op, 0, line)?;
+    line.extend_from_slice(b" to ")?;
+    write_result_types(op, line)?;
+    Ok(())
+}
