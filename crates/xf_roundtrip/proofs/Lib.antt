@@ -20,11 +20,12 @@ pub mod Printed
 pub mod PrintedLaid
 pub mod Right
 pub mod RowTexts
-pub mod SaidHeads
-pub mod SaidPieces
-pub mod SaidSame
+pub mod SameHeads
+pub mod SamePieces
+pub mod SamePrinted
 pub mod Says
 pub mod Spelt
+pub mod Storing
 pub mod Strings
 pub mod Suits
 pub mod Written

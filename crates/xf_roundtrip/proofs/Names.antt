@@ -90,7 +90,7 @@ still_stands b x scope u v t free s = record { named = s.named; is = other_name 
 
 -- ---- results
 
-seen_or : (o : Option ℕ) (b : Bool) → (is_some o || b) ≡ true → (is_some o ≡ true) ⊎ (b ≡ true)
+pub seen_or : (o : Option ℕ) (b : Bool) → (is_some o || b) ≡ true → (is_some o ≡ true) ⊎ (b ≡ true)
 seen_or (Some i) b e = inl refl
 seen_or None b e = inr e
 
@@ -98,7 +98,7 @@ below_is : (b : Bool) (num count : ℕ) → nat_lt num count ≡ b → is_some (
 below_is true num count e s = ltb-true num count e
 below_is false num count e s = absurd cc
 
-result_seen : (b : Bool) (num count : ℕ) → is_some (cond b (below num count) None) ≡ true → (b ≡ true) × (num < count)
+pub result_seen : (b : Bool) (num count : ℕ) → is_some (cond b (below num count) None) ≡ true → (b ≡ true) × (num < count)
 result_seen true num count s = (refl, below_is (nat_lt num count) num count refl s)
 result_seen false num count s = absurd cc
 

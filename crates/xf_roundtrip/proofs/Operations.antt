@@ -61,7 +61,7 @@ place_result true num count i e = (refl, below_is num count i e)
     below_is num count i e = below_by (nat_lt num count) num i e
 place_result false num count i e = absurd cc
 
-knows_more_results : (env : Typed) (names : Names) (m : OpName) (k a : ℕ) (ts args : List PayloadType) → HasEntry names m k a ts args → KnowsTypes env names → KnowsTypes ((done m (length ts), ts) ∷ env) names
+pub knows_more_results : (env : Typed) (names : Names) (m : OpName) (k a : ℕ) (ts args : List PayloadType) → HasEntry names m k a ts args → KnowsTypes env names → KnowsTypes ((done m (length ts), ts) ∷ env) names
 knows_more_results env names m k a ts args h w = record { by = at }
   where
     at : (v : ValueName) → sees (seen_of ((done m (length ts), ts) ∷ env)) v ≡ true → type_of names v ≡ type_at ((done m (length ts), ts) ∷ env) v
@@ -74,7 +74,7 @@ knows_more_results env names m k a ts args h w = record { by = at }
     at (Arg o r num) s = w.by (Arg o r num) s
     at (Free num) s = w.by (Free num) s
 
-knows_more_arguments : (env : Typed) (names : Names) (m : OpName) (k a j : ℕ) (ts args : List PayloadType) → HasEntry names m k a ts args → KnowsTypes env names → KnowsTypes ((inside m j (length args), args) ∷ env) names
+pub knows_more_arguments : (env : Typed) (names : Names) (m : OpName) (k a j : ℕ) (ts args : List PayloadType) → HasEntry names m k a ts args → KnowsTypes env names → KnowsTypes ((inside m j (length args), args) ∷ env) names
 knows_more_arguments env names m k a j ts args h w = record { by = at }
   where
     at : (v : ValueName) → sees (seen_of ((inside m j (length args), args) ∷ env)) v ≡ true → type_of names v ≡ type_at ((inside m j (length args), args) ∷ env) v
@@ -150,7 +150,7 @@ blocks_are sigs gives (kind.Convert which from to) ds types ts rs m w = no_block
 blocks_are sigs gives kind.Yield ds types ts rs m w = no_block kind.Yield rs w.regions
 blocks_are sigs gives k ds types ts rs m w = absurd (let r = w.row in cc)
 
-inner_module : (k : Kind) → is_container k ≡ false → is_module k ≡ false
+pub inner_module : (k : Kind) → is_container k ≡ false → is_module k ≡ false
 inner_module (kind.Module symbol) e = absurd cc
 inner_module k e = refl
 

@@ -42,14 +42,14 @@ use Rattle.xf_roundtrip.proofs.Yields.{Good, keeps_it}
 -- ---- functions
 
 -- what a function is by its kind
-record IsFunctionBy (k : Kind) : Type 0 where
-  symbol : List ℕ
-  before : symbols_before k [] ≡ symbol ∷ []
-  named : symbol_named k ≡ Some (64 ∷ symbol)
-  other : is_module k ≡ false
-  row : (sigs : Signatures) (gives : List PayloadType) (types : List (Option PayloadType)) (ts : List PayloadType) → type_row sigs gives k types ts ≡ takes_gives [] [] types ts
+pub record IsFunctionBy (k : Kind) : Type 0 where
+  pub symbol : List ℕ
+  pub before : symbols_before k [] ≡ symbol ∷ []
+  pub named : symbol_named k ≡ Some (64 ∷ symbol)
+  pub other : is_module k ≡ false
+  pub row : (sigs : Signatures) (gives : List PayloadType) (types : List (Option PayloadType)) (ts : List PayloadType) → type_row sigs gives k types ts ≡ takes_gives [] [] types ts
 
-function_by : (k : Kind) → is_function k ≡ true → IsFunctionBy k
+pub function_by : (k : Kind) → is_function k ≡ true → IsFunctionBy k
 function_by (kind.Func symbol private results) e = record { symbol = symbol; before = refl; named = refl; other = refl; row = λ sigs gives types ts. refl }
 function_by k e = absurd cc
 
@@ -58,19 +58,19 @@ no_operands [] f e = refl
 no_operands (v ∷ os) f e = absurd cc
 
 -- an operation without operands and results
-record IsBare (os : List ValueName) (ts : List PayloadType) : Type 0 where
-  operands : os ≡ []
-  results : ts ≡ []
+pub record IsBare (os : List ValueName) (ts : List PayloadType) : Type 0 where
+  pub operands : os ≡ []
+  pub results : ts ≡ []
 
-bare : (os : List ValueName) (f : ValueName → Option PayloadType) (ts : List PayloadType) → takes_gives [] [] (map f os) ts ≡ true → IsBare os ts
+pub bare : (os : List ValueName) (f : ValueName → Option PayloadType) (ts : List PayloadType) → takes_gives [] [] (map f os) ts ≡ true → IsBare os ts
 bare os f ts e =
     let p = and_parts (have_types (map f os) []) (same_types ts []) e in
     record { operands = no_operands os f (have_is (map f os) [] p.0); results = types_are ts [] p.1 }
 
-nothing_seen : (names : Names) → KnowsTypes [] names
+pub nothing_seen : (names : Names) → KnowsTypes [] names
 nothing_seen names = record { by = λ v s. absurd (let z : false ≡ true = s in cc) }
 
-same_entries : (names : Names) (ns : List OpName) → Each (λ (m : OpName). names.entry m.0 ≡ names.entry m.0) ns
+pub same_entries : (names : Names) (ns : List OpName) → Each (λ (m : OpName). names.entry m.0 ≡ names.entry m.0) ns
 same_entries names [] = tt
 same_entries names (m ∷ ns) = (refl, same_entries names ns)
 
@@ -123,17 +123,17 @@ functions_so (op m k ds os ts rs rest) sigs h g n good alone see once c numbers 
 -- ---- modules
 
 -- what a module is by its kind
-record IsModuleBy (k : Kind) : Type 0 where
-  named : symbol_named k ≡ None
-  closed : (ts : List PayloadType) (b : Bool) → (ends_open (row_of k) (results_printed k ts) && b) ≡ false
-  row : (sigs : Signatures) (gives : List PayloadType) (types : List (Option PayloadType)) (ts : List PayloadType) → type_row sigs gives k types ts ≡ takes_gives [] [] types ts
+pub record IsModuleBy (k : Kind) : Type 0 where
+  pub named : symbol_named k ≡ None
+  pub closed : (ts : List PayloadType) (b : Bool) → (ends_open (row_of k) (results_printed k ts) && b) ≡ false
+  pub row : (sigs : Signatures) (gives : List PayloadType) (types : List (Option PayloadType)) (ts : List PayloadType) → type_row sigs gives k types ts ≡ takes_gives [] [] types ts
 
-module_by : (k : Kind) → is_module k ≡ true → IsModuleBy k
+pub module_by : (k : Kind) → is_module k ≡ true → IsModuleBy k
 module_by (kind.Module symbol) e = record { named = refl; closed = λ ts b. refl; row = λ sigs gives types ts. refl }
 module_by k e = absurd cc
 
 -- all rules at once
-all_good : (sigs : Signatures) (ps : List Placed) → Each (λ p. has_its_regions p ≡ true) ps → Each (λ p. ends_its_blocks p ≡ true) ps → Each (λ p. has_its_types sigs p ≡ true) ps → Each (λ p. has_its_callee sigs p ≡ true) ps
+pub all_good : (sigs : Signatures) (ps : List Placed) → Each (λ p. has_its_regions p ≡ true) ps → Each (λ p. ends_its_blocks p ≡ true) ps → Each (λ p. has_its_types sigs p ≡ true) ps → Each (λ p. has_its_callee sigs p ≡ true) ps
     → Each (λ p. has_its_attributes p ≡ true) ps → Each (λ (p : Placed). has_row p.tree.kind ≡ true) ps → Each AllBytes ps → Each (Good sigs) ps
 all_good sigs [] a b c d e f g = tt
 all_good sigs (p ∷ ps) a b c d e f g = (record { regions = a.0; blocks = b.0; types = c.0; callee = d.0; attributes = e.0; row = f.0; bytes = g.0 }, all_good sigs ps a.1 b.1 c.1 d.1 e.1 f.1 g.1)

@@ -11,7 +11,9 @@ use Rattle.xf_read.specs.Meant.{file_faults, meant}
 use Rattle.xf_read.specs.Names.{no_faults}
 use Rattle.xf_read.specs.Spells.{Spells}
 use Rattle.xf_read.specs.Written.{SaidNodes, file_said, IsWritten}
+use Rattle.xf_roundtrip.specs.Plain.{IsPlain}
 use Rattle.xf_roundtrip.specs.Printable.{IsPrintable}
+use Rattle.xf_roundtrip.specs.Printing.{module_printed}
 use Rattle.xf_roundtrip.specs.Renamed.{IsRenamed}
 use Rattle.xf_roundtrip.specs.SaidMeant.{said_meant}
 use Rattle.xf_roundtrip.specs.SaidPrinted.{printed_said}
@@ -25,10 +27,14 @@ TokensMeanWhatTheySay = (all : List Token) (file : File) → IsText all file →
 abbrev pub TokensAreRightAsTheySay : Type 0
 TokensAreRightAsTheySay = (all : List Token) (file : File) → IsText all file → (file_faults all file ≡ no_faults) ↔ (said_well (file_said all file) ≡ true)
 
--- a text that is laid out, of tokens that are written and say what is right, spells the module that they say
+-- a text that is laid out, of tokens that are written and say what is right, and blanks behind them, spells the module that they say
 abbrev pub TextsMeanWhatTheySay : Type 0
 TextsMeanWhatTheySay = (ws : List Piece) (tail : List ℕ) (ns : SaidNodes) → AllStay false ws tail → IsUtf8 (laid ws tail) → IsWritten (seen_plains (map (λ w. w.token) ws)) ns → said_well ns ≡ true → Spells (laid ws tail) (said_meant ns)
 
 -- what the printed form of a module says is right, and it is the module again, with other names of operations
 abbrev pub PrintedSaysTheModule : Type 0
 PrintedSaysTheModule = (m : Module) → IsPrintable m → (said_well (printed_said m) ≡ true) × IsRenamed m (said_meant (printed_said m))
+
+-- the same for the pieces of the rows that it is made of, where all types are scalars
+abbrev pub PiecesSayTheModule : Type 0
+PiecesSayTheModule = (m : Module) → IsPrintable m → IsPlain m → (said_well (module_printed m) ≡ true) × IsRenamed m (said_meant (module_printed m))

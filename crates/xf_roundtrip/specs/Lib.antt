@@ -1,5 +1,6 @@
 pub mod Laws
 pub mod Naming
+pub mod Plain
 pub mod Printable
 pub mod PrintedLaws
 pub mod Printing
