@@ -1,19 +1,16 @@
 -- The numbers of dense constants.
-use Rattle.std.proofs.Common.{◌≡◌, ℕ, suc, zero, ◌+◌, ◌-◌, ◌*◌, ◌^◌, ◌<◌, ◌≤◌, ◌&&◌, List, [], ◌∷◌, length, get_or, drop, add-one, drop-cons, Bool, true, false, inl, inr, refl, ap, sym, ◌∙◌, subst, arith}
-use Rattle.std.specs.Prelude.{not, min, nat_lt, nat_le}
+use Rattle.std.proofs.Common.{◌≡◌, ℕ, suc, zero, ◌+◌, ◌-◌, ◌*◌, ◌^◌, ◌<◌, ◌≤◌, ◌&&◌, List, ◌∷◌, length, get_or, drop, add-one, drop-cons, Bool, false, inl, inr, refl, ap, sym, ◌∙◌, arith}
+use Rattle.std.specs.Prelude.{min, nat_le}
 use Rattle.std.proofs.Math.Nat.{mul_assoc, mul-one}
 use Rattle.std.proofs.Math.Numerals.{unary_clauses}
 use Rattle.std.proofs.lemmas.Bool.{cases_Bool}
 use Rattle.std.proofs.lemmas.List.{drop_all}
 use Rattle.std.proofs.lemmas.Bool.Decides.{nat_tests}
-use Rattle.xf_type.specs.declared.payload_type.Shape.{Shape}
 use Rattle.xf_type.specs.declared.payload_type.Dim.{Dim}
 use Rattle.xf_type.specs.declared.payload_type.Dim.TheVariants.{Fixed, Dynamic}
 use Rattle.xf_type.specs.declared.payload_type.Width.{Width}
 use Rattle.xf_type.specs.declared.payload_type.Width.TheVariants.{I1, I8, I16, I32, I64, Index}
 use Rattle.xf_type.specs.Integers.{bits_of}
-use Rattle.xf_ir.specs.Lists.{every}
-use Rattle.xf_ir.specs.Types.{is_dynamic}
 use Rattle.xf_ir.specs.RuleAttributes.{fits_bits, element_count, numbers_of}
 use Rattle.xf_rules.specs.Attributes.{extent_or_one}
 

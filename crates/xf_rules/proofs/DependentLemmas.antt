@@ -13,7 +13,7 @@ use Rattle.xf_ir.specs.Tree.{Ops, no_ops, op, Tree, Body}
 use Rattle.xf_ir.specs.View.{ops_of, regions_of}
 use Rattle.xf_ir.specs.Lists.{same_name, is_among, some}
 use Rattle.xf_ir.specs.Uses.{same_value, use_count, ops_operands, regions_operands, tree_operands}
-use Rattle.xf_ir.specs.RuleLinalg.{only_value, yielded, depends, dependents, all_dependents, is_combiner, is_apart, joins_out, combines}
+use Rattle.xf_ir.specs.RuleLinalg.{only_value, yielded, depends, dependents, all_dependents, is_apart, joins_out}
 use Rattle.xf_rules.specs.Dependents.{Names, depends_on, with_dependents, all_with, joins_apart}
 use Rattle.xf_rules.proofs.DimSets.{flipped, inserted}
 

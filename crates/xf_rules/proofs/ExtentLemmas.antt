@@ -1,5 +1,5 @@
 -- Extents that are noted one after another agree exactly where they all do.
-use Rattle.std.proofs.Common.{◌≡◌, ℕ, zero, suc, ◌+◌, ◌<◌, ◌≤◌, ◌&&◌, ◌||◌, List, [], ◌∷◌, ◌++◌, length, drop, get_or, Option, Some, None, Bool, true, false, not, inl, inr, refl, sym, ap, subst, ◌∙◌, append_assoc, add-one, drop-cons, arith, eq-eqb}
+use Rattle.std.proofs.Common.{◌≡◌, ℕ, zero, suc, ◌+◌, ◌<◌, ◌≤◌, ◌&&◌, ◌||◌, List, [], ◌∷◌, ◌++◌, length, drop, get_or, Option, Some, None, Bool, true, false, not, inl, inr, refl, sym, ap, subst, ◌∙◌, append_assoc, add-one, drop-cons, arith}
 use Rattle.std.specs.Prelude.{◌==◌, min, nat_le}
 use Rattle.std.specs.Map.{lookup}
 use Rattle.std.specs.BTreeMap.{BTreeMap, IsEmpty, get, is_at}
@@ -12,7 +12,7 @@ use Rattle.xf_type.specs.declared.payload_type.PayloadType.{PayloadType}
 use Rattle.xf_type.specs.declared.payload_type.Dim.{Dim}
 use Rattle.xf_type.specs.declared.payload_type.Dim.TheVariants.{Fixed, Dynamic}
 use Rattle.xf_type.specs.declared.attribute.AffineMap.{AffineMap}
-use Rattle.xf_ir.specs.declared.kind.NamedKind.TheVariants.{Matmul, BatchMatmul, Matvec, Dot, Fill}
+use Rattle.xf_ir.specs.declared.kind.NamedKind.TheVariants.{Fill}
 use Rattle.xf_ir.specs.Lists.{every}
 use Rattle.xf_ir.specs.RuleLinalg.{named_maps, counted, to_dims, by_dims, extents, may_agree, extents_agree, dims_or_none}
 use Rattle.xf_rules.specs.Extents.{Known, fits_extent, fits_known, learned, learned_extent, agree_known, dims_at, extents_by_three}

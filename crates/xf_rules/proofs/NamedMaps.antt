@@ -1,6 +1,6 @@
 -- The maps and iterators of operations with a name.
-use Rattle.std.proofs.Common.{◌≡◌, ◌≢◌, ℕ, zero, suc, ◌+◌, ◌-◌, ◌<◌, ◌≤◌, ◌&&◌, ◌||◌, List, [], ◌∷◌, length, get_or, Bool, true, false, not, inl, inr, refl, sym, ap, ◌∙◌, arith, eq-eqb}
-use Rattle.std.specs.Prelude.{◌==◌, Option, Some, None, nat_lt}
+use Rattle.std.proofs.Common.{◌≡◌, ◌≢◌, ℕ, zero, suc, ◌+◌, ◌-◌, ◌<◌, ◌≤◌, ◌&&◌, List, [], ◌∷◌, length, get_or, Bool, true, false, inl, inr, refl, sym, ap, ◌∙◌, arith, eq-eqb}
+use Rattle.std.specs.Prelude.{◌==◌, Option, nat_lt}
 use Rattle.std.proofs.lemmas.Bool.{cases_Bool}
 use Rattle.std.proofs.lemmas.Bool.Decides.{nat_tests}
 use denote.Ref.{Bor}
@@ -9,8 +9,7 @@ use Rattle.xf_type.specs.declared.attribute.AffineMap.{AffineMap}
 use Rattle.xf_ir.specs.declared.kind.NamedKind.{NamedKind}
 use Rattle.xf_ir.specs.declared.kind.NamedKind.TheVariants.{Matmul, BatchMatmul, Matvec, Dot, Fill}
 use Rattle.xf_ir.specs.Lists.{every, some}
-use Rattle.xf_ir.specs.Types.{last_type, rank_of}
-use Rattle.xf_ir.specs.RuleLinalg.{to_dims, counted, named_maps, named_iterators, parallels, rank_or_none, is_number_among, numbers_once, is_projection, has_rank, have_ranks, are_covered, maps_fit, last_results, iterators_fit}
+use Rattle.xf_ir.specs.RuleLinalg.{counted, named_maps, named_iterators, parallels, is_number_among, numbers_once, is_projection, has_rank, have_ranks, are_covered, maps_fit, last_results, iterators_fit}
 use Rattle.xf_rules.specs.Dims.{named_ranks, are_ranks}
 use Rattle.xf_rules.specs.OperandTypes.{operand_types}
 use Rattle.xf_rules.proofs.SameTypes.{unequal_behind, operands_length}

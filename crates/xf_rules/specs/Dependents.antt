@@ -1,11 +1,11 @@
 -- The operations of a body that depend on its out argument, gathered in a set.
-use Rattle.std.specs.Prelude.{ℕ, List, [], ◌∷◌, Bool, false, not, ◌&&◌, ◌||◌, if◌then◌else◌}
+use Rattle.std.specs.Prelude.{List, [], ◌∷◌, Bool, false, not, ◌&&◌, ◌||◌, if◌then◌else◌}
 use Rattle.std.specs.Ordering.{nat_cmp}
 use Rattle.std.specs.FinSet as set
 use Rattle.xf_ir.specs.declared.name.OpName.{OpName}
 use Rattle.xf_ir.specs.declared.name.ValueName.{ValueName}
 use Rattle.xf_ir.specs.declared.name.ValueName.TheVariants.{Result, Arg, Free}
-use Rattle.xf_ir.specs.Tree.{Ops, no_ops, op, Regions}
+use Rattle.xf_ir.specs.Tree.{Ops, no_ops, op}
 use Rattle.xf_ir.specs.Lists.{some}
 use Rattle.xf_ir.specs.Uses.{same_value}
 use Rattle.xf_rules.specs.declared.reduction.OutArgument.{OutArgument}

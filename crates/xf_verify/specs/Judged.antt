@@ -1,6 +1,6 @@
 -- What the walk over the operations judges: each where it stands, by the types of the values that are visible there and by the set
 -- of the names before it.
-use Rattle.std.specs.Prelude.{◌≡◌, ℕ, ◌+◌, List, [], ◌∷◌, ◌++◌, length, map, Option, Some, None, Bool, true, not, ◌&&◌, nat_lt, Result, Ok, Err, is_some}
+use Rattle.std.specs.Prelude.{◌≡◌, ℕ, ◌+◌, List, [], ◌∷◌, ◌++◌, length, map, Option, Some, None, Bool, true, not, ◌&&◌, nat_lt, is_some}
 use Rattle.std.specs.Ordering.{nat_cmp}
 use Rattle.std.specs.FinSet as set
 use Rattle.xf_type.specs.declared.payload_type.PayloadType.{PayloadType}
@@ -19,8 +19,7 @@ use Rattle.xf_ir.specs.RuleAttributes.{has_its_attributes, has_types_in_range}
 use Rattle.xf_ir.specs.RuleLinalg.{has_its_maps, has_its_iterators, has_its_reduction, has_its_extents, fits_its_body}
 use Rattle.xf_ir.specs.RuleSlices.{has_its_slices}
 use Rattle.xf_ir.specs.Violations.{Violation, first_false, broken_or}
-use Rattle.xf_verify.specs.declared.fault.VerifyFault.{VerifyFault}
-use Rattle.xf_verify.specs.declared.fault.VerifyFault.TheVariants.{Rule, NoMemory}
+pub use Rattle.xf_verify.specs.Verdict.{Answers}
 use Rattle.xf_verify.specs.declared.facts.Facts.{Facts}
 use Rattle.xf_verify.specs.declared.stand.Holder.{Holder as HolderSeen}
 use Rattle.xf_verify.specs.declared.stand.Stand.{Stand}
@@ -109,12 +108,6 @@ first_behind f names (p ∷ ps) = broken_or (first_false 1 (rules_behind f names
 abbrev pub names_behind : Names → List Placed → Names
 names_behind names [] = names
 names_behind names (p ∷ ps) = names_behind (set.insert names p.tree.name.0) ps
-
--- what is answered where this is the first violation; want of memory says nothing
-abbrev pub Answers : {A : Type 0} → Result A VerifyFault → Option Violation → Type 0
-Answers (Ok x) v = v ≡ None
-Answers (Err (Rule rule name)) v = v ≡ Some (record { rule = rule; op = name })
-Answers (Err NoMemory) v = Unit {0}
 
 -- ---- the code's own
 

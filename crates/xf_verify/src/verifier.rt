@@ -4,7 +4,8 @@ ghost use Rattle.std.specs.FinSet as set;
 ghost use Rattle.xf_ir.specs.Placed.{type_at, top};
 ghost use Rattle.xf_ir.specs.Valid.{IsValid};
 ghost use Rattle.xf_ir.specs.Violations.{first_violation};
-ghost use Rattle.xf_verify.specs.Judged.{Answers, first_behind, all_stand};
+ghost use Rattle.xf_verify.specs.Judged.{first_behind, all_stand};
+ghost use Rattle.xf_verify.specs.Verdict.{Answers};
 
 use crate::calls::Calls;
 use crate::facts::Facts;

@@ -1,4 +1,4 @@
-use Rattle.std.proofs.Common.{◌≡◌, sym, ap, ◌∙◌}
+use Rattle.std.proofs.Common.{sym, ap, ◌∙◌}
 use Rattle.xf_ir.specs.Tree.{Tree}
 use Rattle.xf_rules.proofs.BlockLemmas.{by_last}
 use Rattle.xf_rules.proofs.blocks.block_ends.Goals as goal

@@ -1,8 +1,4 @@
-use Rattle.std.proofs.Common.{◌≡◌, ◌≤◌, ◌-◌, ◌^◌, ap, sym, ◌∙◌, arith}
-use Rattle.std.specs.Prelude.{min, ◌*◌}
-use Rattle.std.proofs.lemmas.List.{drop_all}
-use Rattle.xf_ir.specs.RuleAttributes.{element_count}
-use Rattle.xf_rules.specs.Attributes.{extent_or_one}
+use Rattle.std.proofs.Common.{◌∙◌, arith}
 use Rattle.xf_rules.proofs.DenseLemmas.{counted_next, counted_all}
 use Rattle.xf_rules.proofs.dense.element_count.Goals as goal
 

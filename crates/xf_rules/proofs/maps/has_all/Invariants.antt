@@ -1,4 +1,4 @@
-use Rattle.std.proofs.Common.{◌≡◌, drop, ◌-◌}
+use Rattle.std.proofs.Common.{◌≡◌, ◌-◌}
 use Rattle.xf_ir.specs.Lists.{every}
 use Rattle.xf_ir.specs.RuleLinalg.{counted}
 use Rattle.std.specs.FinSet as set

@@ -1,4 +1,4 @@
-use Rattle.std.proofs.Common.{◌≡◌, ◌+◌, ap, ◌∙◌, drop, arith}
+use Rattle.std.proofs.Common.{◌+◌, ap, ◌∙◌, drop, arith}
 use Rattle.xf_ir.specs.Tree.{Body}
 use Rattle.xf_ir.specs.View.{ops_of, regions_of}
 use Rattle.xf_ir.specs.Uses.{use_count, regions_operands}

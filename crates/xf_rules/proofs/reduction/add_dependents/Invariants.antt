@@ -1,6 +1,6 @@
 use Rattle.std.proofs.Common.{◌≡◌, drop}
 use Rattle.std.specs.Prelude.{false}
-use Rattle.xf_ir.specs.View.{ops_of, regions_of}
+use Rattle.xf_ir.specs.View.{ops_of}
 use Rattle.xf_rules.specs.Dependents.{out_value, with_dependents}
 use Rattle.xf_rules.proofs.reduction.add_dependents.Given as goal
 

@@ -1,6 +1,6 @@
 use Rattle.std.proofs.Common.{◌≡◌, ◌≤◌, drop}
 use Rattle.std.specs.Prelude.{min, ◌+◌, ◌-◌, ◌^◌}
-use Rattle.xf_ir.specs.Uses.{use_count, tree_operands, ops_operands, regions_operands}
+use Rattle.xf_ir.specs.Uses.{use_count}
 use Rattle.xf_rules.specs.Dependents.{out_value}
 use Rattle.xf_rules.proofs.reduction.add_uses_among.Given as goal
 

@@ -1,6 +1,6 @@
 use Rattle.std.proofs.Common.{◌≡◌, drop}
 use Rattle.std.specs.FinSet as set
-use Rattle.xf_ir.specs.View.{ops_of, regions_of}
+use Rattle.xf_ir.specs.View.{ops_of}
 use Rattle.xf_rules.specs.Dependents.{out_value, all_with}
 use Rattle.xf_rules.proofs.reduction.all_dependents.Given as goal
 

@@ -1,6 +1,6 @@
 use Rattle.std.proofs.Common.{◌≡◌, drop}
 use Rattle.xf_ir.specs.Walk.{ops_find}
-use Rattle.xf_ir.specs.View.{ops_of, regions_of}
+use Rattle.xf_ir.specs.View.{ops_of}
 use Rattle.xf_rules.proofs.reduction.find_among.Given as goal
 
 -- the first in what is left is the first in the whole

@@ -1,7 +1,7 @@
 use Rattle.std.proofs.Common.{◌≡◌, ◌≤◌, drop}
 use Rattle.std.specs.Prelude.{min, ◌+◌, ◌-◌, ◌^◌}
-use Rattle.xf_ir.specs.Uses.{use_count, tree_operands, ops_operands, regions_operands}
-use Rattle.xf_ir.specs.View.{ops_of, regions_of}
+use Rattle.xf_ir.specs.Uses.{use_count, ops_operands}
+use Rattle.xf_ir.specs.View.{ops_of}
 use Rattle.xf_rules.specs.Dependents.{out_value}
 use Rattle.xf_rules.proofs.reduction.is_used_once.Given as goal
 

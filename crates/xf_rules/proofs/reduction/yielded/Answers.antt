@@ -1,4 +1,4 @@
-use Rattle.std.proofs.Common.{◌≡◌, ap, ◌∙◌}
+use Rattle.std.proofs.Common.{ap, ◌∙◌}
 use Rattle.xf_ir.specs.Tree.{Tree}
 use Rattle.xf_ir.specs.RuleLinalg.{only_value}
 use Rattle.xf_rules.proofs.DependentLemmas.{yielded_last}
