@@ -1,7 +1,7 @@
 //! What the words of a call ask for.
 ghost use Rattle.std.specs.Prelude.{◌≡◌};
 ghost use Rattle.std.specs.Option.{option_map};
-ghost use Rattle.xf_opt.specs.Words.{texts, is_path, are_run, payload_command, command_of, script_of, payload_of};
+ghost use Rattle.xf_opt.specs.Words.{texts, is_path, are_run, payload_command, payload_words, run_words, command_of, script_of, payload_of};
 ghost use Rattle.xf_opt.specs.Ended.{asked_by, path_or_none};
 
 /// A command, with the paths that it names.
@@ -65,25 +65,52 @@ fn payload_command<'w>(command: &str, payload: &'w str) -> Option<Command<'w>>
     }
 }
 
+/// The words of a command that takes a payload alone.
+fn payload_words<'w>(command: &str, option: &str, payload: &'w str) -> Option<Command<'w>>
+    ensures { option_map asked_by result ≡ payload_words command.now option.now payload.now }
+{
+    if option == "--payload" && is_path(payload) {
+        payload_command(command, payload)
+    } else {
+        None
+    }
+}
+
+/// The words of the command `run`.
+fn run_words<'w>(
+    command: &str,
+    script_option: &str,
+    script: &'w str,
+    payload_option: &str,
+    payload: &'w str,
+) -> Option<Command<'w>>
+    ensures { option_map asked_by result ≡ run_words command.now script_option.now script.now payload_option.now payload.now }
+{
+    if !are_run(command, script_option, payload_option) {
+        return None;
+    }
+    if is_path(script) && is_path(payload) {
+        Some(Command::Run { script, payload })
+    } else {
+        None
+    }
+}
+
 /// Reads the words behind the program's name.
 pub fn parse<'w>(words: &'w [String]) -> Option<Command<'w>>
     ensures { option_map asked_by result ≡ command_of (texts words.now) }
 {
     match words {
-        [command, option, payload] if option.as_str() == "--payload" && is_path(payload.as_str()) =>
-            { payload_command(command.as_str(), payload.as_str()) }
-        [command, script_option, script, payload_option, payload]
-            if are_run(
-                command.as_str(),
-                script_option.as_str(),
-                payload_option.as_str(),
-            ) && is_path(script.as_str())
-                && is_path(payload.as_str()) => {
-            Some(Command::Run {
-                script: script.as_str(),
-                payload: payload.as_str(),
-            })
+        [command, option, payload] => {
+            payload_words(command.as_str(), option.as_str(), payload.as_str())
         }
+        [command, script_option, script, payload_option, payload] => run_words(
+            command.as_str(),
+            script_option.as_str(),
+            script.as_str(),
+            payload_option.as_str(),
+            payload.as_str(),
+        ),
         _ => None,
     }
 }
