@@ -1,5 +1,5 @@
 //! The bodies of dense constants, appended to the line so far. They refuse for want of memory alone.
-ghost use Rattle.std.specs.Prelude.{◌≡◌, ◌∷◌, ◌++◌, ◌/◌, OnOk, IfOk, map, take, drop, codes};
+ghost use Rattle.std.specs.Prelude.{◌≡◌, ◌∷◌, ◌++◌, ◌/◌, OnOk, IfOk, map, take, drop};
 ghost use Rattle.xf_type.specs.declared.payload_type.Dim.TheVariants.{Fixed};
 ghost use Rattle.xf_print.specs.Dense.{rows, nested, body_text};
 ghost use Rattle.xf_print.specs.Numbers.{number_text};

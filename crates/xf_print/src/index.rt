@@ -1,5 +1,5 @@
 //! The names of a function's values: an ordered index of what its operations define.
-ghost use Rattle.std.specs.Prelude.{◌≡◌, ◌+◌, ◌++◌, OnOk, IfOk, Some, None};
+ghost use Rattle.std.specs.Prelude.{◌≡◌, ◌+◌, ◌++◌, OnOk, IfOk};
 ghost use Rattle.std.specs.Option.{option_map, option_copied};
 ghost use Rattle.xf_ir.specs.Tree.{cons, no_ops};
 ghost use Rattle.xf_ir.specs.View.{ops_of, regions_of};

@@ -1,5 +1,5 @@
 //! Numbers of a width, each appended to the line so far. They refuse for want of memory alone.
-ghost use Rattle.std.specs.Prelude.{◌≡◌, ◌-◌, ◌^◌, ◌++◌, OnOk, codes};
+ghost use Rattle.std.specs.Prelude.{◌≡◌, ◌-◌, ◌^◌, ◌++◌, OnOk};
 ghost use Rattle.std.specs.Fmt.{signed_decimal};
 ghost use Rattle.xf_type.specs.Integers.{bits_of, signed_value};
 ghost use Rattle.xf_print.specs.Numbers.{truth_text, number_text, literal_text};

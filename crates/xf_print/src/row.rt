@@ -1,5 +1,5 @@
 //! The row of an operation, by its kind.
-ghost use Rattle.std.specs.Prelude.{◌≡◌, ◌++◌, OnOk, codes};
+ghost use Rattle.std.specs.Prelude.{◌≡◌, ◌++◌, OnOk};
 ghost use Rattle.xf_print.specs.Index.{names_of};
 ghost use Rattle.xf_print.specs.Names.{first_args, first_of, number_of, results_text};
 ghost use Rattle.xf_print.specs.Printed.{op_text};

@@ -1,5 +1,5 @@
 //! The rows of tensor, appended to the line so far. They refuse for want of memory alone.
-ghost use Rattle.std.specs.Prelude.{◌≡◌, ◌++◌, OnOk, IfOk, [], map, drop, codes};
+ghost use Rattle.std.specs.Prelude.{◌≡◌, ◌++◌, OnOk, IfOk, [], map, drop};
 ghost use Rattle.xf_ir.specs.declared.kind.Kind.TheVariants as kind;
 ghost use Rattle.xf_print.specs.Index.{names_of};
 ghost use Rattle.xf_print.specs.Rows.{place_text, behind_place, place_texts, behind_places, stride_text, window_text, row_text};

@@ -1,8 +1,8 @@
 //! Values and their types, appended to the line so far. They refuse for want of memory alone.
-ghost use Rattle.std.specs.Prelude.{◌≡◌, ◌+◌, ◌<◌, ◌^◌, ◌++◌, OnOk, map, drop, codes};
+ghost use Rattle.std.specs.Prelude.{◌≡◌, ◌+◌, ◌++◌, OnOk, drop, codes};
 ghost use Rattle.xf_print.specs.Attributes.{attrs_text};
 ghost use Rattle.xf_print.specs.Index.{names_of};
-ghost use Rattle.xf_print.specs.Names.{name_text, values_text, value_type, value_types, argument_text, param_texts, carried_texts, results_text};
+ghost use Rattle.xf_print.specs.Names.{name_text, values_text, value_types, argument_text, param_texts, carried_texts, results_text};
 ghost use Rattle.xf_print.specs.Rows.{operand, operand_type, given_text};
 ghost use Rattle.xf_print.specs.Words.{listed, type_text, types_text, arrow_types};
 

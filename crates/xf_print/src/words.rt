@@ -1,5 +1,5 @@
 //! Words of the printed form, each appended to the line so far. They refuse for want of memory alone.
-ghost use Rattle.std.specs.Prelude.{◌≡◌, ◌++◌, OnOk, map, decimal, codes};
+ghost use Rattle.std.specs.Prelude.{◌≡◌, ◌++◌, OnOk, decimal, codes};
 ghost use Rattle.std.specs.Fmt.{signed_decimal};
 ghost use Rattle.std.specs.List.{flat_map};
 ghost use Rattle.xf_type.specs.declared.payload_type.PayloadType.TheVariants.{Tensor};
