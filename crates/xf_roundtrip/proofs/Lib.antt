@@ -13,12 +13,15 @@ pub mod Lines
 pub mod Literals
 pub mod Meaning
 pub mod Names
+pub mod NamedOnce
 pub mod Needs
 pub mod Operations
 pub mod Pieces
 pub mod Printed
 pub mod PrintedLaid
 pub mod Right
+pub mod RenamedPlaces
+pub mod RenamedRules
 pub mod RowTexts
 pub mod SaidHeads
 pub mod SaidPieces
@@ -27,5 +30,6 @@ pub mod Says
 pub mod Spelt
 pub mod Strings
 pub mod Suits
+pub mod ValidAgain
 pub mod Written
 pub mod Yields
