@@ -6,6 +6,7 @@ pub mod Fitted
 pub mod Fitting
 pub mod Functions
 pub mod Heads
+pub mod KnownPlaces
 pub mod Laws
 pub mod Lays
 pub mod Limits
@@ -21,6 +22,7 @@ pub mod Printed
 pub mod PrintedLaid
 pub mod Right
 pub mod RenamedPlaces
+pub mod RenamedReductions
 pub mod RenamedRules
 pub mod RowTexts
 pub mod SaidHeads

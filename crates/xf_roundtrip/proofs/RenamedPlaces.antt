@@ -1,16 +1,14 @@
 -- The operations of a module under other names stand where those of the module stand, with the same types.
-use Rattle.std.proofs.Common.{◌≡◌, ℕ, suc, Bool, true, false, cond, eqb, List, [], ◌∷◌, ◌++◌, length, Option, None, Some, inl, inr, refl, sym, ap, subst, ◌∙◌, append-nil}
-use Rattle.std.specs.Prelude.{◌&&◌, ◌||◌, map, is_some}
+use Rattle.std.proofs.Common.{◌≡◌, ℕ, suc, true, false, cond, eqb, List, [], ◌∷◌, ◌++◌, length, Option, None, inl, inr, refl, sym, ap, subst, ◌∙◌, append-nil}
+use Rattle.std.specs.Prelude.{◌&&◌, map, is_some}
 use Rattle.std.proofs.lemmas.Bool.{cases_Bool, eq-eqb, or_cases}
 use Rattle.std.proofs.lemmas.List.{map-append}
 use Rattle.xf_type.specs.declared.payload_type.PayloadType.{PayloadType}
-use Rattle.xf_ir.specs.declared.kind.Attr.{Attr}
-use Rattle.xf_ir.specs.declared.kind.Kind.{Kind}
 use Rattle.xf_ir.specs.declared.name.OpName.{OpName}
 use Rattle.xf_ir.specs.declared.name.ValueName.{ValueName}
 use Rattle.xf_ir.specs.declared.name.ValueName.TheVariants.{Result, Arg, Free}
 use Rattle.xf_ir.specs.Lists.{Each, Once, same_name, is_among}
-use Rattle.xf_ir.specs.Placed.{Typed, type_or, type_at, Holder, holder_of, Placed, place, ops_placed, regions_placed, functions_placed, blocks_placed}
+use Rattle.xf_ir.specs.Placed.{Typed, type_or, type_at, Holder, holder_of, Placed, ops_placed, regions_placed, functions_placed, blocks_placed}
 use Rattle.xf_ir.specs.Places.{Seen, done, inside, below, place_of, sees, AllSeen}
 use Rattle.xf_ir.specs.Tree.{Ops, no_ops, op, Regions, no_regions, region, Tree}
 use Rattle.xf_ir.specs.Valid.{OpsSee, RegionsSee, FunctionsSee}
@@ -50,7 +48,7 @@ injective f (m ∷ ns) a b o h k e =
       ]
     ]
 
-same_test : (f : OpName → OpName) (ns : List OpName) (a b : OpName) → Once (map f ns) → is_among a ns ≡ true → is_among b ns ≡ true → eqb (f a).0 (f b).0 ≡ eqb a.0 b.0
+pub same_test : (f : OpName → OpName) (ns : List OpName) (a b : OpName) → Once (map f ns) → is_among a ns ≡ true → is_among b ns ≡ true → eqb (f a).0 (f b).0 ≡ eqb a.0 b.0
 same_test f ns a b o h k =
     elim (cases_Bool (eqb a.0 b.0)) [
       | inl t ↦ eq-eqb (f a).0 (f b).0 (ap (λ x. (f x).0) (name_is a b t)) ∙ sym t
@@ -99,12 +97,12 @@ IsOf all (Result o num) = is_among o all ≡ true
 IsOf all (Arg o r num) = is_among o all ≡ true
 IsOf all (Free num) = Unit {0}
 
-abbrev owner : Seen → OpName
+abbrev pub owner : Seen → OpName
 owner (done n count) = n
 owner (inside n i count) = n
 
 -- each place is one of these operations'
-abbrev Owned : List OpName → List Seen → Type 0
+abbrev pub Owned : List OpName → List Seen → Type 0
 Owned all ss = Each (λ s. is_among (owner s) all ≡ true) ss
 
 of_place : (all : List OpName) (s : Seen) (v : ValueName) → is_among (owner s) all ≡ true → is_some (place_of s v) ≡ true → IsOf all v
@@ -122,7 +120,7 @@ of_seen all [] v w h = absurd (cc)
 of_seen all (s ∷ ss) v w h = elim (or_cases (is_some (place_of s v)) (sees ss v) h) [ inl t ↦ of_place all s v w.0 t | inr t ↦ of_seen all ss v w.1 t ]
 
 -- visible values are those of operations that are known
-all_of : (all : List OpName) (ss : List Seen) (vs : List ValueName) → Owned all ss → AllSeen ss vs → Each (IsOf all) vs
+pub all_of : (all : List OpName) (ss : List Seen) (vs : List ValueName) → Owned all ss → AllSeen ss vs → Each (IsOf all) vs
 all_of all ss [] w h = tt
 all_of all ss (v ∷ vs) w h = (of_seen all ss v w h.0, all_of all ss vs w h.1)
 

@@ -1,21 +1,18 @@
 -- What the rules ask of an operation, they ask of it under other names.
-use Rattle.std.proofs.Common.{◌≡◌, ℕ, zero, suc, Bool, true, false, cond, not, List, [], ◌∷◌, ◌++◌, Option, None, Some, is_none, inl, inr, refl, sym, ap, subst, ◌∙◌}
+use Rattle.std.proofs.Common.{◌≡◌, ℕ, zero, suc, cond, not, List, ◌∷◌, ◌++◌, Option, None, Some, is_none, inl, inr, refl, ap, ◌∙◌}
 use Rattle.std.specs.Prelude.{◌&&◌, ◌||◌}
 use Rattle.std.proofs.lemmas.Bool.{cases_Bool}
-use Rattle.xf_type.specs.declared.payload_type.PayloadType.{PayloadType}
 use Rattle.xf_ir.specs.declared.kind.Kind.{Kind}
 use Rattle.xf_ir.specs.declared.kind.Kind.TheVariants as kind
 use Rattle.xf_ir.specs.declared.name.OpName.{OpName}
-use Rattle.xf_ir.specs.Calls.{Signature, Signatures, signature, first_args, function_of, has_symbol, callee_before, ops_callees, regions_callees, callees_of, chains_end, chain_ends, has_its_callee, has_short_chains}
+use Rattle.xf_ir.specs.Calls.{Signature, signature, first_args, function_of, has_symbol, callee_before, ops_callees, regions_callees, callees_of, chains_end, chain_ends, has_short_chains}
 use Rattle.xf_ir.specs.Kinds.{ends, ends_for, is_endless, returned_types}
 use Rattle.xf_ir.specs.Lists.{every}
 use Rattle.xf_ir.specs.Placed.{Placed}
 use Rattle.xf_ir.specs.RuleAttributes.{type_fits, has_types_in_range}
-use Rattle.xf_ir.specs.RuleBlocks.{block_args, blocks_fit, has_its_regions, is_end, block_ends, blocks_end, stands_at_end, ends_its_blocks}
-use Rattle.xf_ir.specs.RuleLinalg.{reduces}
+use Rattle.xf_ir.specs.RuleBlocks.{block_args, blocks_fit, has_its_regions, is_end, block_ends, blocks_end, ends_its_blocks}
 use Rattle.xf_ir.specs.Tree.{Ops, no_ops, op, Regions, no_regions, region, Tree}
 use Rattle.xf_ir.specs.Valid.{OpsInner, RegionsInner, FunctionsAlone, BlocksAlone, symbols_before, symbols_of, symbols_in, block_of}
-use Rattle.xf_roundtrip.specs.Printing.{is_core}
 use Rattle.xf_roundtrip.specs.Renamed.{ops_renamed, regions_renamed, tree_renamed}
 use Rattle.xf_roundtrip.proofs.RenamedPlaces.{placed_renamed}
 
@@ -88,7 +85,7 @@ module _ (f : OpName → OpName) where
 
   -- ---- V6 and V8: what symbols name
 
-  abbrev renamed_or : Option Tree → Option Tree
+  abbrev pub renamed_or : Option Tree → Option Tree
   renamed_or None = None
   renamed_or (Some t) = Some (tree_renamed f t)
 
@@ -153,9 +150,3 @@ module _ (f : OpName → OpName) where
 
   pub short_same : (fs : Ops) (p : Placed) → has_short_chains (ops_renamed f fs) (placed_renamed f p) ≡ has_short_chains fs p
   short_same fs p = chain_same fs p.tree.kind
-
--- ---- V12: reductions, of which the core has none
-
-pub core_reduces : (k : Kind) (t : Tree) → is_core k ≡ true → reduces k t ≡ true
-core_reduces (kind.Generic maps iterators) t e = absurd (cc)
-core_reduces _ t e = refl

@@ -1,32 +1,31 @@
 -- The printed form of a valid module spells a valid one again.
-use Rattle.std.proofs.Common.{◌≡◌, ℕ, Bool, true, false, List, [], ◌∷◌, ◌++◌, Option, refl, sym, ap, subst, ◌∙◌}
+use Rattle.std.proofs.Common.{◌≡◌, ℕ, Bool, true, List, [], ◌∷◌, ◌++◌, refl, sym, ap, subst, ◌∙◌}
 use Rattle.std.specs.Prelude.{map}
-use Rattle.std.proofs.lemmas.Bool.{and_parts}
-use Rattle.xf_type.specs.declared.payload_type.PayloadType.{PayloadType}
 use Rattle.xf_ir.specs.declared.name.OpName.{OpName}
 use Rattle.xf_ir.specs.declared.op.Module.{Module}
-use Rattle.xf_ir.specs.Calls.{Signatures, signatures, signature, function_of, has_its_callee, has_short_chains}
+use Rattle.xf_ir.specs.Calls.{signatures, signature, function_of, has_its_callee, has_short_chains}
 use Rattle.xf_ir.specs.Lists.{Each, Once, TextsOnce, is_among}
-use Rattle.xf_ir.specs.Placed.{type_at, Holder, holder_of, Placed, placed, place, top, root_holder, blocks_placed, Everywhere, block_of, functions_of}
+use Rattle.xf_ir.specs.Placed.{type_at, Holder, holder_of, Placed, placed, top, root_holder, blocks_placed, Everywhere, functions_of}
 use Rattle.xf_ir.specs.RuleAttributes.{has_its_attributes, has_types_in_range}
 use Rattle.xf_ir.specs.RuleBlocks.{has_its_regions, ends_its_blocks}
 use Rattle.xf_ir.specs.RuleLinalg.{has_its_maps, has_its_iterators, has_its_reduction, has_its_extents, fits_its_body}
 use Rattle.xf_ir.specs.RuleSlices.{has_its_slices}
 use Rattle.xf_ir.specs.RuleTypes.{has_its_types}
-use Rattle.xf_ir.specs.Tree.{Ops, no_ops, Regions, no_regions, region}
-use Rattle.xf_ir.specs.Valid.{IsNamedOnce, IsValid, FunctionsSee, symbols_in}
+use Rattle.xf_ir.specs.Tree.{Ops, no_ops, no_regions, region}
+use Rattle.xf_ir.specs.Valid.{IsNamedOnce, IsValid, FunctionsSee}
 use Rattle.xf_ir.specs.Walk.{ops_names, regions_names, tree_names}
 use Rattle.xf_ir.proofs.Kept.{placed_at}
-use Rattle.xf_ir.proofs.Lists.{each_left, each_map}
+use Rattle.xf_ir.proofs.Lists.{each_left}
 use Rattle.xf_ir.proofs.Obeys.{Passes, BlocksObey, blocks_obey, each_blocks}
 use Rattle.xf_ir.proofs.Root.{one_block}
 use Rattle.xf_ir.proofs.SeenTypes.{Known, functions_see, functions_known, root_seen, root_known}
 use Rattle.xf_roundtrip.specs.AgainLaws.{RenamedIsValid, PrintedIsValidAgain}
-use Rattle.xf_roundtrip.specs.Printing.{is_core, is_core_op, IsCore}
-use Rattle.xf_roundtrip.specs.Renamed.{ops_renamed, regions_renamed, tree_renamed, IsRenamed}
+use Rattle.xf_roundtrip.specs.Renamed.{ops_renamed, regions_renamed, tree_renamed}
+use Rattle.xf_roundtrip.proofs.KnownPlaces.{module_known}
 use Rattle.xf_roundtrip.proofs.NamedOnce.{spelt_is_named}
 use Rattle.xf_roundtrip.proofs.RenamedPlaces.{placed_renamed, each_among, regions_names_renamed, block_again, no_types}
-use Rattle.xf_roundtrip.proofs.RenamedRules.{blocks_alone, symbols_in_same, regions_same, ranges_same, blocks_same, signature_same, block_same, short_same, core_reduces}
+use Rattle.xf_roundtrip.proofs.RenamedReductions.{IsKnown, reductions_same}
+use Rattle.xf_roundtrip.proofs.RenamedRules.{blocks_alone, symbols_in_same, regions_same, ranges_same, blocks_same, signature_same, block_same, short_same}
 use Rattle.xf_roundtrip.proofs.Spelt.{printed_is_spelt}
 
 -- what each operation has, each has under other names
@@ -34,15 +33,19 @@ each_again : (f : OpName → OpName) (P Q : Placed → Type 0) (ps : List Placed
 each_again f P Q [] g h = tt
 each_again f P Q (p ∷ ps) g h = (g p h.0, each_again f P Q ps g h.1)
 
-module _ (m : Module) (f : OpName → OpName) (next : ℕ) (v : IsValid m) (core : IsCore m) where
+each_with : (P Q : Placed → Type 0) (ps : List Placed) → Each P ps → Each Q ps → Each (λ p. P p × Q p) ps
+each_with P Q [] h k = tt
+each_with P Q (p ∷ ps) h k = ((h.0, k.0), each_with P Q ps h.1 k.1)
+
+module _ (m : Module) (f : OpName → OpName) (next : ℕ) (v : IsValid m) where
   abbrev again : Module
   again = record { root = tree_renamed f m.root; next = next }
 
-  rs : Regions
-  rs = m.root.regions
-
   one : m.root.regions ≡ region [] (functions_of m) no_regions
   one = one_block m.root.kind v.functions.root (map (type_at []) m.root.operands) m.root.results m.root.regions v.regions.0
+
+  names_once : Once (tree_names again.root) → Once (map f (tree_names m.root))
+  names_once o = subst Once (ap (λ ns. f m.root.name ∷ ns) (regions_names_renamed f m.root.regions)) o
 
   -- ---- the operations stand where they stood
 
@@ -51,10 +54,9 @@ module _ (m : Module) (f : OpName → OpName) (next : ℕ) (v : IsValid m) (core
       let all : List OpName = tree_names m.root in
       let P : OpName → Type 0 = λ n. is_among n all ≡ true in
       let fs : Ops = functions_of m in
-      let once : Once (map f all) = subst Once (ap (λ ns. f m.root.name ∷ ns) (regions_names_renamed f m.root.regions)) o in
       let each : Each P (ops_names fs ++ []) = subst (λ rs. Each P (regions_names rs)) one (each_among all).1 in
       subst (λ rs. blocks_placed h (regions_renamed f rs) ≡ map (placed_renamed f) (blocks_placed h rs)) (sym one)
-      (block_again f all once h fs (each_left P (ops_names fs) [] each) v.uses.functions)
+      (block_again f all (names_once o) h fs (each_left P (ops_names fs) [] each) v.uses.functions)
 
   placed_again : Once (tree_names again.root) → placed again ≡ map (placed_renamed f) (placed m)
   placed_again o =
@@ -92,6 +94,15 @@ module _ (m : Module) (f : OpName → OpName) (next : ℕ) (v : IsValid m) (core
       let b = subst (BlocksObey Known h) e (blocks_obey Known h again.root.regions known.1) in
       functions_see h (functions_of again) b.0
 
+  -- ---- reductions
+
+  reduces_again : Once (tree_names again.root) → Everywhere has_its_reduction again
+  reduces_again o =
+      let all : List OpName = tree_names m.root in
+      let K = IsKnown all in
+      let P = Passes has_its_reduction in
+      kept (λ p. K p × P p) P o (λ p h. reductions_same f all (names_once o) p h.0 ∙ h.1) (each_with K P (placed m) (module_known m one v.uses.functions) v.reductions)
+
   -- ---- all rules
 
   pub valid_under : IsNamedOnce again → IsValid again
@@ -116,8 +127,7 @@ module _ (m : Module) (f : OpName → OpName) (next : ℕ) (v : IsValid m) (core
             (λ p. ap (λ fs. has_short_chains fs (placed_renamed f p)) functions_same ∙ short_same f (functions_of m) p) v.chains;
         maps = passes has_its_maps has_its_maps o (λ p. refl) v.maps;
         iterators = passes has_its_iterators has_its_iterators o (λ p. refl) v.iterators;
-        reductions = kept (λ p. is_core_op p.tree ≡ true) (Passes has_its_reduction) o
-            (λ p c. core_reduces p.tree.kind (tree_renamed f p.tree) (and_parts (is_core p.tree.kind) _ c).0) core;
+        reductions = reduces_again o;
         extents = passes has_its_extents has_its_extents o (λ p. refl) v.extents;
         bodies = passes fits_its_body fits_its_body o (λ p. refl) v.bodies;
         ranges = passes has_types_in_range has_types_in_range o (ranges_same f) v.ranges;
@@ -127,12 +137,12 @@ module _ (m : Module) (f : OpName → OpName) (next : ℕ) (v : IsValid m) (core
 -- ---- laws
 
 pub renamed_is_valid : RenamedIsValid
-renamed_is_valid m again v core r names =
+renamed_is_valid m again v r names =
     let e = r.root in
     let q : again ≡ (let x : Module = record { root = tree_renamed r.names m.root; next = again.next } in x) = λ i. record { root = e i; next = again.next } in
-    subst IsValid (sym q) (valid_under m r.names again.next v core (subst IsNamedOnce q names))
+    subst IsValid (sym q) (valid_under m r.names again.next v (subst IsNamedOnce q names))
 
 pub printed_is_valid_again : PrintedIsValidAgain
 printed_is_valid_again m v core st within =
     let s = printed_is_spelt m v core st within in
-    (s.0, (s.1.0, (s.1.1, renamed_is_valid m s.0 v core s.1.1 (spelt_is_named _ s.0 s.1.0))))
+    (s.0, (s.1.0, (s.1.1, renamed_is_valid m s.0 v s.1.1 (spelt_is_named _ s.0 s.1.0))))
