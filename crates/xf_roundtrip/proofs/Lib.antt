@@ -6,6 +6,7 @@ pub mod Fitted
 pub mod Fitting
 pub mod Functions
 pub mod Heads
+pub mod KnownPlaces
 pub mod Laws
 pub mod Lays
 pub mod Limits
@@ -13,12 +14,16 @@ pub mod Lines
 pub mod Literals
 pub mod Meaning
 pub mod Names
+pub mod NamedOnce
 pub mod Needs
 pub mod Operations
 pub mod Pieces
 pub mod Printed
 pub mod PrintedLaid
 pub mod Right
+pub mod RenamedPlaces
+pub mod RenamedReductions
+pub mod RenamedRules
 pub mod RowTexts
 pub mod SameHeads
 pub mod SamePieces
@@ -28,5 +33,6 @@ pub mod Spelt
 pub mod Storing
 pub mod Strings
 pub mod Suits
+pub mod ValidAgain
 pub mod Written
 pub mod Yields

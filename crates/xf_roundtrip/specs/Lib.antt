@@ -1,3 +1,4 @@
+pub mod AgainLaws
 pub mod Laws
 pub mod Naming
 pub mod Plain
