@@ -104,9 +104,12 @@ refused_past asked file because.Script e = absurd e
 refused_past asked file because.NoMemory e = tt
 
 -- a text that is due, of which a front was written
-pub front_written : (asked : Asked) (file text : List ℕ) (fail : SinkFail) (old new : Option (List ℕ)) → Due asked file [] text → GainsFront old text new → EndsByPayload (Some (write_refusal fail)) asked file [] old new
+front_written : (asked : Asked) (file text : List ℕ) (fail : SinkFail) (old new : Option (List ℕ)) → Due asked file [] text → GainsFront old text new → EndsByPayload (Some (write_refusal fail)) asked file [] old new
 front_written asked file text failed.Failed old new d w = (text, (d, w))
 front_written asked file text failed.NoMemory old new d w = inr ([], (text, (d, w)))
+
+pub front_told : (asked : Asked) (file text : List ℕ) (fail : SinkFail) (r : Refusal) (old new : Option (List ℕ)) → r ≡ write_refusal fail → Due asked file [] text → GainsFront old text new → EndsByPayload (Some r) asked file [] old new
+front_told asked file text fail r old new e d w = subst (λ (x : Refusal). EndsByPayload (Some x) asked file [] old new) (sym e) (front_written asked file text fail old new d w)
 
 -- the root of a module that a text spells is operation 0
 some_named : (w : Written) (o : Option Ops) (m : Module) → option_map (module_of w) o ≡ Some m → m.root.name ≡ op_name 0

@@ -123,12 +123,13 @@ tells_refusal asked before after r told old new faults faults' e t = record {
   line = λ p. record { told_fault = fault_of r; is = refl; path = path_of r (path_or_none (script_of asked)) (payload_of asked); of = is_told asked before after r e; line = t };
 }
 
-pub end_told : (command : Option Asked) (asked : Asked) (path : List ℕ) (before after : List ℕ → ℕ) (r : Refusal) (status : ℕ) (fault : Fault) (told : Told) (old new : Option (List ℕ)) (faults faults' : ℕ) → Some asked ≡ command → status ≡ status_of r → fault ≡ fault_of r → path ≡ path_of r (path_or_none (script_of asked)) (payload_of asked) → EndsByReads (Some r) asked before after → TellsLine told (line_of path (fault_of r)) old new faults faults' → TellsEnd command before after status (Some fault) told old new faults faults'
-end_told command asked path before after r status fault told old new faults faults' p e f q reads t =
+pub end_told : (command : Option Asked) (asked : Asked) (script payload path : List ℕ) (before after : List ℕ → ℕ) (r : Refusal) (status : ℕ) (fault : Fault) (told : Told) (old new : Option (List ℕ)) (faults faults' : ℕ) → Some asked ≡ command → status ≡ status_of r → fault ≡ fault_of r → script ≡ path_or_none (script_of asked) → payload ≡ payload_of asked → path ≡ path_of r script payload → EndsByReads (Some r) asked before after → TellsLine told (line_of path (fault_of r)) old new faults faults' → TellsEnd command before after status (Some fault) told old new faults faults'
+end_told command asked script payload path before after r status fault told old new faults faults' p e f s y q reads t =
+    let given : path ≡ path_of r (path_or_none (script_of asked)) (payload_of asked) = q ∙ (ap (λ x. path_of r x payload) s ∙ ap (path_of r (path_or_none (script_of asked))) y) in
     subst (λ (c : Option Asked). TellsEnd c before after status (Some fault) told old new faults faults') p
     (subst (λ (n : ℕ). TellsEnd (Some asked) before after n (Some fault) told old new faults faults') (sym e)
     (subst (λ (g : Fault). TellsEnd (Some asked) before after (status_of r) (Some g) told old new faults faults') (sym f)
-    (tells_refusal asked before after r told old new faults faults' reads (subst (λ (l : List ℕ). TellsLine told (line_of l (fault_of r)) old new faults faults') q t))))
+    (tells_refusal asked before after r told old new faults faults' reads (subst (λ (l : List ℕ). TellsLine told (line_of l (fault_of r)) old new faults faults') given t))))
 
 -- ---- the fault
 
@@ -187,10 +188,11 @@ pub idle_left : (r : Refusal) (status : ℕ) (journal : List Entry) (Stays : Typ
 idle_left r status journal Stays before after s e three nine = left_idle r journal Stays before after e (λ p. three (s ∙ p)) (λ p. nine (s ∙ p))
 
 -- words that are not understood
-pub words_told : (before after : List ℕ → ℕ) (fault : Fault) (told : Told) (old new : Option (List ℕ)) (faults faults' : ℕ) → fault ≡ fault_of because.Words → TellsLine told (line_of [] (fault_of because.Words)) old new faults faults' → TellsEnd None before after 1 (Some fault) told old new faults faults'
-words_told before after fault told old new faults faults' f t =
-    subst (λ (g : Fault). TellsEnd None before after 1 (Some g) told old new faults faults') (sym f)
+pub words_told : (command : Option Asked) (before after : List ℕ → ℕ) (fault : Fault) (told : Told) (old new : Option (List ℕ)) (faults faults' : ℕ) → None ≡ command → fault ≡ fault_of because.Words → TellsLine told (line_of [] (fault_of because.Words)) old new faults faults' → TellsEnd command before after 1 (Some fault) told old new faults faults'
+words_told command before after fault told old new faults faults' p f t =
+    subst (λ (c : Option Asked). TellsEnd c before after 1 (Some fault) told old new faults faults') p
+    (subst (λ (g : Fault). TellsEnd None before after 1 (Some g) told old new faults faults') (sym f)
     (record {
       silent = λ p. absurd (omega arith);
       line = λ p. record { told_fault = fault_of because.Words; is = refl; path = []; of = words_path before after; line = t };
-    })
+    }))

@@ -35,7 +35,7 @@ fn payload_of(alloc: Global, bytes: &[u8]) -> Result<Module, Refusal>
 }
 
 /// Judges a payload, and writes `ok` where it is valid.
-#[tactic(auto, using(crate::proofs::Ending::payload_refused, crate::proofs::Ending::refused_idly, crate::proofs::Ending::refused_past, crate::proofs::Ending::front_written))]
+#[tactic(auto, using(crate::proofs::Ending::payload_refused, crate::proofs::Ending::refused_idly, crate::proofs::Ending::refused_past))]
 pub fn verify_payload<S: Sink>(alloc: Global, bytes: &[u8], out: &mut S) -> Result<(), Refusal>
     ensures plain { EndsPlainly (refusal_at result) [] (out.new ≡ out.old) (S.faults out.old) (S.faults out.new) }
     ensures payload { (p : List ℕ) → EndsByPayload (refusal_at result) (verify p) bytes.now [] (S.written out.old) (S.written out.new) }
@@ -52,7 +52,7 @@ pub fn verify_payload<S: Sink>(alloc: Global, bytes: &[u8], out: &mut S) -> Resu
 }
 
 /// Writes a payload in the printed form, where it is valid.
-#[tactic(auto, using(crate::proofs::Ending::payload_refused, crate::proofs::Ending::refused_idly, crate::proofs::Ending::refused_past, crate::proofs::Ending::front_written))]
+#[tactic(auto, using(crate::proofs::Ending::payload_refused, crate::proofs::Ending::refused_idly, crate::proofs::Ending::refused_past))]
 pub fn print_payload<S: Sink>(alloc: Global, bytes: &[u8], out: &mut S) -> Result<(), Refusal>
     ensures plain { EndsPlainly (refusal_at result) [] (out.new ≡ out.old) (S.faults out.old) (S.faults out.new) }
     ensures payload { (p : List ℕ) → EndsByPayload (refusal_at result) (print p) bytes.now [] (S.written out.old) (S.written out.new) }

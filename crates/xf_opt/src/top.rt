@@ -135,6 +135,7 @@ fn execute<F: Files, S: Sink>(
 ///
 /// Takes time in the length of the files, and for each operation that is erased a walk over the
 /// module.
+#[tactic(auto, using(crate::proofs::Statuses::words_told))]
 pub fn transform_main<F: Files, S: Sink, E: Sink>(
     alloc: Global,
     words: &[String],

@@ -78,6 +78,11 @@ pub const SCRIPT_REFUSED: End<'static> = End {
 };
 
 impl Ended {
+    /// What the call wrote.
+    pub fn text(&self) -> &[u8] {
+        self.out.bytes()
+    }
+
     /// Asserts that the call ended so; the message says which call it was.
     pub fn assert_end(&self, rt: &impl Abort, end: End<'_>, message: &str) {
         assert_eq!(rt; self.outcome.status, end.status, "{message}");

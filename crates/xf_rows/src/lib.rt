@@ -25,4 +25,6 @@ mod printed_modules;
 #[cfg(test)]
 mod printed_texts;
 #[cfg(test)]
+mod thirty_modules;
+#[cfg(test)]
 mod verified;

@@ -1,5 +1,5 @@
 use Rattle.xf_opt.specs.Ended.{asked_by}
-use Rattle.xf_opt.proofs.Statuses.{script_judged, payload_judged, payload_taken, end_told, fault_told, read_told, idle_left, line_there, words_told}
+use Rattle.xf_opt.proofs.Statuses.{script_judged, payload_judged, payload_taken, end_told, fault_told, read_told, idle_left}
 use Rattle.xf_opt.proofs.top.transform_main.Goals as goal
 
 pub returns-in-Err-clause-script : goal.returns-in-Err-clause-script
@@ -12,8 +12,8 @@ returns-in-Err-clause-payload g c =
 
 pub returns-in-Err-clause-told : goal.returns-in-Err-clause-told
 returns-in-Err-clause-told g c =
-    end_told _ (asked_by c.in-Some.command) c.path-path.result.now _ _ c.in-Err.refusal c.status.result c.fault-in-Err.result c.tell-told-in-Err.result _ _ _ _
-    c.in-Some.ensures c.status.ensures c.fault-in-Err.ensures c.path-path.ensures c.in-Err.ensures.reads c.tell-told-in-Err.ensures
+    end_told _ (asked_by c.in-Some.command) c.script.result.now c.payload.result.now c.path-path.result.now _ _ c.in-Err.refusal c.status.result c.fault-in-Err.result c.tell-told-in-Err.result _ _ _ _
+    c.in-Some.ensures c.status.ensures c.fault-in-Err.ensures c.script.ensures c.payload.ensures c.path-path.ensures c.in-Err.ensures.reads c.tell-told-in-Err.ensures
 
 pub returns-in-Err-clause-read : goal.returns-in-Err-clause-read
 returns-in-Err-clause-read g c =
@@ -24,6 +24,3 @@ returns-in-Err-clause-fault g c = fault_told c.in-Err.refusal c.status.result c.
 
 pub returns-in-Err-clause-untouched : goal.returns-in-Err-clause-untouched
 returns-in-Err-clause-untouched g c = λ zero three nine. idle_left c.in-Err.refusal c.status.result _ _ _ _ c.status.ensures c.in-Err.ensures.plain three nine
-
-pub tell-told-in-Err-requires : goal.tell-told-in-Err-requires
-tell-told-in-Err-requires g c = line_there c.in-Err.refusal _ _ _ _ c.in-Err.ensures.plain
