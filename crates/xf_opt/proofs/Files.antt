@@ -13,7 +13,7 @@ use Rattle.xf_opt.specs.declared.outcome.Refusal.{Refusal}
 use Rattle.xf_opt.specs.declared.outcome.Refusal.TheVariants as because
 use Rattle.xf_payload.specs.Payload.{file_limit, IsPayload, IsNoPayload, IsTooLong, IsMisspelt, BreaksARule}
 use Rattle.xf_opt.specs.Words.{Asked, run, verify, print}
-use Rattle.xf_opt.specs.Ends.{IsScriptFile, SpellsFile, Reaches, Headline, TellsOf, Due, Refuses, Finishes, WritesFront, WritesAtMost}
+use Rattle.xf_opt.specs.Ends.{IsScriptFile, IsRunnable, IsOutside, Reaches, Headline, TellsOf, Due, Refuses, Finishes, WritesFront, WritesAtMost}
 use Rattle.xf_opt.specs.Ended.{EndsByScript, EndsByPayload}
 
 -- ---- counts
@@ -49,19 +49,6 @@ script_of_front file front e s = ⊎_elim (λ (same : front ≡ file). subst IsS
 pub front_of_script : (file front : List ℕ) → front ≡ take (file_limit + 1) file → IsScriptFile file → IsScriptFile front
 front_of_script file front e s = ⊎_elim (λ (same : front ≡ file). subst IsScriptFile (sym same) s) (λ (long : (file_limit < length front) × (file_limit < length file)). absurd (let a = s.fits in let b = long.1 in omega arith)) (front_cases file front e)
 
-payload_of_front : (file front : List ℕ) (m : Module) → front ≡ take (file_limit + 1) file → SpellsFile front m → SpellsFile file m
-payload_of_front file front m e s = ⊎_elim (λ (same : front ≡ file). subst (λ f. SpellsFile f m) same s) (λ (long : (file_limit < length front) × (file_limit < length file)). absurd (let a = s.fits in let b = long.0 in omega arith)) (front_cases file front e)
-
-front_of_payload : (file front : List ℕ) (m : Module) → front ≡ take (file_limit + 1) file → SpellsFile file m → SpellsFile front m
-front_of_payload file front m e s = ⊎_elim (λ (same : front ≡ file). subst (λ f. SpellsFile f m) (sym same) s) (λ (long : (file_limit < length front) × (file_limit < length file)). absurd (let a = s.fits in let b = long.1 in omega arith)) (front_cases file front e)
-
-reaches_of_front : (file front : List ℕ) (journal : List Entry) (after : Module) → front ≡ take (file_limit + 1) file → Reaches front journal after → Reaches file journal after
-reaches_of_front file front journal after e r = record { before = r.before; spells = payload_of_front file front r.before e r.spells; valid = r.valid; runs = r.runs; few = r.few; keeps = r.keeps; valid_after = r.valid_after }
-
-headline_of_front : (file front : List ℕ) (journal : List Entry) (text : List ℕ) → front ≡ take (file_limit + 1) file → Headline front journal text → Headline file journal text
-unfolding reaches_of_front
-headline_of_front file front journal text e h = record { after = h.after; reaches = reaches_of_front file front journal h.after e h.reaches; is = h.is; again = h.again; spells = h.spells; renamed = h.renamed; valid = h.valid; same = h.same }
-
 -- ---- valid payloads, and files that hold none
 
 holds_of_front : (file front : List ℕ) (m : Module) → front ≡ take (file_limit + 1) file → IsPayload front m → IsPayload file m
@@ -75,6 +62,16 @@ long_front file front f long (inr (inr x)) = absurd (let a = x.fits in let b = l
 refused_of_front : (file front : List ℕ) (f : Fault) → front ≡ take (file_limit + 1) file → IsNoPayload front f → IsNoPayload file f
 refused_of_front file front f e n = ⊎_elim (λ (same : front ≡ file). subst (λ q. IsNoPayload q f) same n) (λ (long : (file_limit < length front) × (file_limit < length file)). long_front file front f long n) (front_cases file front e)
 
+runnable_of_front : (file front : List ℕ) (m : Module) → front ≡ take (file_limit + 1) file → IsRunnable front m → IsRunnable file m
+runnable_of_front file front m e s = record { holds = holds_of_front file front m e s.holds; form = s.form }
+
+reaches_of_front : (file front : List ℕ) (journal : List Entry) (after : Module) → front ≡ take (file_limit + 1) file → Reaches front journal after → Reaches file journal after
+reaches_of_front file front journal after e r = record { before = r.before; holds = runnable_of_front file front r.before e r.holds; runs = r.runs; few = r.few; keeps = r.keeps; valid_after = r.valid_after }
+
+headline_of_front : (file front : List ℕ) (journal : List Entry) (text : List ℕ) → front ≡ take (file_limit + 1) file → Headline front journal text → Headline file journal text
+unfolding reaches_of_front
+headline_of_front file front journal text e h = record { after = h.after; reaches = reaches_of_front file front journal h.after e h.reaches; is = h.is; again = h.again; spells = h.spells; renamed = h.renamed; valid = h.valid; same = h.same }
+
 tells_of_front : (text_of : Module → List ℕ) (file front : List ℕ) (journal : List Entry) (text : List ℕ) → front ≡ take (file_limit + 1) file → TellsOf text_of front journal text → TellsOf text_of file journal text
 tells_of_front text_of file front journal text e t = record { payload = t.payload; holds = holds_of_front file front t.payload e t.holds; is = t.is; no_choice = t.no_choice }
 
@@ -86,7 +83,8 @@ due_of_front (verify p) file front journal text e d = tells_of_front _ file fron
 due_of_front (print p) file front journal text e d = tells_of_front _ file front journal text e d
 
 refuses_of_front : (asked : Asked) (file front : List ℕ) (f : Fault) → front ≡ take (file_limit + 1) file → Refuses asked front f → Refuses asked file f
-refuses_of_front (run s p) file front f e r = (r.0, λ m s. r.1 m (front_of_payload file front m e s))
+refuses_of_front (run s p) file front f e (inl n) = inl (refused_of_front file front f e n)
+refuses_of_front (run s p) file front f e (inr o) = inr (record { payload = o.payload; holds = holds_of_front file front o.payload e o.holds; form = o.form; is = o.is })
 refuses_of_front (verify p) file front f e r = refused_of_front file front f e r
 refuses_of_front (print p) file front f e r = refused_of_front file front f e r
 

@@ -12,7 +12,7 @@ use Rattle.xf_ir.proofs.Scopes.{scoped}
 use Rattle.xf_sem.specs.Copying.{Follows, OpsCopy, RegionsCopy, FunctionsCopy}
 use Rattle.xf_sem.specs.Keeps.{KeepsMeaning}
 use Rattle.xf_sem.proofs.Copying.{copying_keeps}
-use Rattle.xf_text.specs.Renamed.{value_renamed, ops_renamed, regions_renamed, IsRenamed}
+use Rattle.xf_roundtrip.specs.Renamed.{value_renamed, ops_renamed, regions_renamed, IsRenamed}
 
 same_name : (o n : OpName) → (o.0 == n.0) ≡ true → o ≡ n
 same_name o n h = ap (λ z. let r : OpName = record { 0 = z } in r) (eqb-true o.0 n.0 h)

@@ -56,7 +56,7 @@ script_judged command asked holds r status old new p e s =
 
 -- what is due tells of a payload that is taken
 takes_due : (asked : Asked) (file : List ℕ) (journal : List Entry) (text : List ℕ) → Due asked file journal text → Takes asked file
-takes_due (run s p) file journal text d = (d.reaches.before, d.reaches.spells)
+takes_due (run s p) file journal text d = (d.reaches.before, d.reaches.holds)
 takes_due (verify p) file journal text d = (d.payload, d.holds)
 takes_due (print p) file journal text d = (d.payload, d.holds)
 

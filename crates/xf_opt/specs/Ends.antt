@@ -1,24 +1,25 @@
 -- How a call of the program ends: its status, what it wrote and what it told.
-use Rattle.std.specs.Prelude.{◌≡◌, ◌≢◌, ◌↔◌, ◌⊎◌, ℕ, ◌+◌, ◌≤◌, List, [], length, Option, Some, None, IfSome, codes}
+use Rattle.std.specs.Prelude.{◌≡◌, ◌≢◌, ◌↔◌, ◌⊎◌, ℕ, ◌+◌, ◌≤◌, List, [], length, Option, Some, None, true, false, IfSome, codes}
 use Rattle.xf_host.specs.Count.{HasRisen}
 use Rattle.xf_host.specs.Writes.{Gains, GainsFront}
 use Rattle.xf_span.specs.declared.code.Code.TheVariants as code
 use Rattle.xf_span.specs.declared.fault.Fault.{Fault}
-use Rattle.xf_span.specs.Fault.{plain_fault}
+use Rattle.xf_span.specs.Fault.{plain_fault, fault_at}
 use Rattle.xf_span.specs.Line.{line_of}
 use Rattle.xf_ir.specs.declared.op.Module.{Module}
 use Rattle.xf_ir.specs.Valid.{IsValid}
 use Rattle.xf_ir.specs.Choices.{weight_at}
 use Rattle.xf_sem.specs.Keeps.{KeepsMeaning}
+use Rattle.xf_lex.specs.Lexes.{first_place}
 use Rattle.xf_text.specs.Script.{IsScript}
-use Rattle.xf_text.specs.Spells.{Spells}
-use Rattle.xf_text.specs.Printed.{printed_form as first_printed_form}
-use Rattle.xf_text.specs.Renamed.{IsRenamed}
 use Rattle.xf_print.specs.Printed.{printed_form}
+use Rattle.xf_read.specs.Spells.{Spells}
+use Rattle.xf_roundtrip.specs.Renamed.{IsRenamed}
 use Rattle.xf_payload.specs.Payload.{file_limit, IsPayload, IsNoPayload}
 use Rattle.xf_opt.specs.declared.journal.Entry.{Entry}
 use Rattle.xf_opt.specs.declared.outcome.Told.{Told}
 use Rattle.xf_opt.specs.declared.outcome.Told.TheVariants.{Whole, Failed, NoMemory}
+use Rattle.xf_opt.specs.Form.{is_first_form}
 use Rattle.xf_opt.specs.Run.{Runs}
 use Rattle.xf_opt.specs.Words.{Asked, run, verify, print, script_of, payload_of}
 
@@ -29,10 +30,17 @@ pub record IsScriptFile (file : List ℕ) : Type 0 where
   pub fits : length file ≤ file_limit
   pub is : IsScript file
 
--- a file spells a module of the first form
-pub record SpellsFile (file : List ℕ) (m : Module) : Type 0 where
-  pub fits : length file ≤ file_limit
-  pub spells : Spells file m
+-- a file holds a payload of the form that a run takes
+pub record IsRunnable (file : List ℕ) (m : Module) : Type 0 where
+  pub holds : IsPayload file m
+  pub form : is_first_form m ≡ true
+
+-- a file holds another payload, which is told at its first place
+pub record IsOutside (file : List ℕ) (f : Fault) : Type 0 where
+  pub payload : Module
+  pub holds : IsPayload file payload
+  pub form : is_first_form payload ≡ false
+  pub is : f ≡ fault_at code.N1 first_place
 
 -- ---- the text that is due
 
@@ -40,8 +48,7 @@ pub record SpellsFile (file : List ℕ) (m : Module) : Type 0 where
 -- weight of what the payload's module holds
 pub record Reaches (file : List ℕ) (journal : List Entry) (after : Module) : Type 0 where
   pub before : Module
-  pub spells : SpellsFile file before
-  pub valid : IsValid before
+  pub holds : IsRunnable file before
   pub runs : Runs before journal after
   pub few : length journal ≤ weight_at before (record { 0 = 0 }) + 1
   pub keeps : KeepsMeaning before after
@@ -53,7 +60,7 @@ pub record Reaches (file : List ℕ) (journal : List Entry) (after : Module) : T
 pub record Headline (file : List ℕ) (journal : List Entry) (text : List ℕ) : Type 0 where
   pub after : Module
   pub reaches : Reaches file journal after
-  pub is : text ≡ first_printed_form after
+  pub is : text ≡ printed_form after
   pub again : Module
   pub spells : Spells text again
   pub renamed : IsRenamed after again
@@ -89,13 +96,13 @@ WritesAtMost asked file old new = (new ≡ old) ⊎ ((journal : List Entry) × W
 
 -- a payload's file is refused with this fault
 abbrev pub Refuses : Asked → List ℕ → Fault → Type 0
-Refuses (run script payload) file f = (f ≡ plain_fault code.N1) × ((m : Module) → SpellsFile file m → ⊥)
+Refuses (run script payload) file f = IsNoPayload file f ⊎ IsOutside file f
 Refuses (verify payload) file f = IsNoPayload file f
 Refuses (print payload) file f = IsNoPayload file f
 
 -- or it is taken
 abbrev pub Takes : Asked → List ℕ → Type 0
-Takes (run script payload) file = (m : Module) × SpellsFile file m
+Takes (run script payload) file = (m : Module) × IsRunnable file m
 Takes (verify payload) file = (m : Module) × IsPayload file m
 Takes (print payload) file = (m : Module) × IsPayload file m
 

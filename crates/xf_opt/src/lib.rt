@@ -2,6 +2,7 @@
 #![tactic(auto)]
 
 mod journal;
+mod judged;
 mod outcome;
 mod run;
 mod schedule;

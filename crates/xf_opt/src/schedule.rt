@@ -1,22 +1,25 @@
 //! The command `run`: a schedule carried out on a payload, both as their bytes.
-ghost use Rattle.std.specs.Prelude.{◌≡◌, ◌≤◌, ◌⊎◌, ◌↔◌, ℕ, List, [], length, IsTrue, IfOk, IfErr, IsErrOf, OnOk};
+ghost use Rattle.std.specs.Prelude.{◌≡◌, ◌⊎◌, ◌≤◌, ◌↔◌, ℕ, List, [], length, true, IsTrue, IfOk, IfErr, IsErrOf, OnOk};
+ghost use Rattle.xf_lex.specs.Lexes.{first_place};
 ghost use Rattle.xf_span.specs.declared.code.Code.TheVariants as code;
-ghost use Rattle.xf_span.specs.Fault.{plain_fault};
-ghost use Rattle.xf_text.specs.Form.{IsFirstForm};
+ghost use Rattle.xf_span.specs.Fault.{fault_at};
 ghost use Rattle.xf_payload.specs.Payload.{file_limit};
 ghost use Rattle.xf_opt.specs.Words.{run};
 ghost use Rattle.xf_opt.specs.Ended.{refusal_at, EndsPlainly, EndsByScript, EndsByPayload, IsPastReads, RefusesBy};
-ghost use Rattle.xf_opt.specs.Ends.{IsScriptFile, SpellsFile};
+ghost use Rattle.xf_opt.specs.Ends.{IsScriptFile, IsRunnable};
 
+use crate::form::is_first_form;
 use crate::journal::Journal;
+use crate::judged::payload_of;
 use crate::outcome::Refusal;
 use crate::run::erase_dead;
 use std::alloc::Global;
 use xf_host::sink::{Sink, SinkFail};
 use xf_ir::Module;
 use xf_payload::FILE_LIMIT;
-use xf_span::{Code, Fault};
-use xf_text::{ReadFault, is_script, print, read_module};
+use xf_print::print;
+use xf_span::{Code, Fault, Place};
+use xf_text::is_script;
 
 /// Whether a file of these bytes is not too long.
 fn fits(bytes: &[u8]) -> bool
@@ -41,26 +44,27 @@ fn judge_script(alloc: Global, bytes: &[u8]) -> Result<(), Refusal>
     }
 }
 
-/// The refusal of a payload that is not of the form that a run supports.
-fn not_built() -> Refusal
-    ensures { result ≡ Refusal.Payload (plain_fault code.N1) }
+/// The refusal of a valid payload that is not of the form that a run takes.
+fn outside() -> Refusal
+    ensures { result ≡ Refusal.Payload (fault_at code.N1 first_place) }
 {
-    Refusal::Payload(Fault::plain(Code::N1))
+    Refusal::Payload(Fault::at(Code::N1, Place { line: 1, col: 1 }))
 }
 
-/// Reads the bytes of a payload, themselves read up to one byte past the greatest length.
-fn read_form(alloc: Global, bytes: &[u8]) -> Result<Module, Refusal>
-    ensures ok { IfOk result (λ m. SpellsFile bytes.now m) }
-    ensures form { IfOk result (λ m. IsFirstForm m) }
+/// The payload of a run: a valid module of the form that it takes.
+#[tactic(auto, using(crate::proofs::Ending::refused_alike, crate::proofs::Ending::outside_refused))]
+fn runnable(alloc: Global, bytes: &[u8]) -> Result<Module, Refusal>
+    ensures ok { IfOk result (λ m. IsRunnable bytes.now m) }
     ensures refusal { IfErr result (RefusesBy (run [] []) bytes.now) }
 {
-    if !fits(bytes) {
-        return Err(not_built());
-    }
-    match read_module(alloc, bytes) {
-        Ok(module) => Ok(module),
-        Err(ReadFault::NotBuilt) => Err(not_built()),
-        Err(ReadFault::NoMemory) => Err(Refusal::NoMemory),
+    let module = match payload_of(alloc, bytes) {
+        Ok(module) => module,
+        Err(refusal) => return Err(refusal),
+    };
+    if is_first_form(&module) {
+        Ok(module)
+    } else {
+        Err(outside())
     }
 }
 
@@ -83,7 +87,7 @@ pub fn carry_out<S: Sink>(
         Ok(()) => {}
         Err(refusal) => return Err(refusal),
     }
-    let mut module = match read_form(alloc, payload) {
+    let mut module = match runnable(alloc, payload) {
         Ok(module) => module,
         Err(refusal) => return Err(refusal),
     };

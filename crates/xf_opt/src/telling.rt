@@ -1,38 +1,13 @@
 //! The commands `verify` and `print`: a payload judged, as its bytes, and what is told of it.
-ghost use Rattle.std.specs.Prelude.{◌≡◌, [], ℕ, List, IfOk, IfErr};
-ghost use Rattle.xf_payload.specs.Payload.{IsPayload};
+ghost use Rattle.std.specs.Prelude.{◌≡◌, [], ℕ, List};
 ghost use Rattle.xf_opt.specs.Words.{verify, print};
-ghost use Rattle.xf_opt.specs.Ended.{refusal_at, EndsPlainly, EndsByPayload, IsPastPayload, RefusesBy, write_refusal};
+ghost use Rattle.xf_opt.specs.Ended.{refusal_at, EndsPlainly, EndsByPayload, IsPastPayload};
 
+use crate::judged::{payload_of, write_refusal};
 use crate::outcome::Refusal;
 use std::alloc::Global;
-use xf_host::sink::{Sink, SinkFail};
-use xf_ir::Module;
-use xf_payload::read_payload;
+use xf_host::sink::Sink;
 use xf_print::print;
-use xf_span::TextFault;
-
-/// The refusal of a write.
-fn write_refusal(fail: SinkFail) -> Refusal
-    ensures { result ≡ write_refusal fail }
-{
-    match fail {
-        SinkFail::Failed => Refusal::Write,
-        SinkFail::NoMemory => Refusal::NoMemory,
-    }
-}
-
-/// The valid module that a payload's bytes spell.
-fn payload_of(alloc: Global, bytes: &[u8]) -> Result<Module, Refusal>
-    ensures ok { IfOk result (λ m. IsPayload bytes.now m) }
-    ensures refusal { IfErr result (RefusesBy (verify []) bytes.now) }
-{
-    match read_payload(alloc, bytes) {
-        Ok(module) => Ok(module),
-        Err(TextFault::At(fault)) => Err(Refusal::Payload(fault)),
-        Err(TextFault::NoMemory) => Err(Refusal::NoMemory),
-    }
-}
 
 /// Judges a payload, and writes `ok` where it is valid.
 #[tactic(auto, using(crate::proofs::Ending::payload_refused, crate::proofs::Ending::refused_idly, crate::proofs::Ending::refused_past))]

@@ -163,14 +163,14 @@ fn each_refusal_has_its_status_and_line(rt: HostRuntime) -> Result<(), Fail> {
             script: Some(SCRIPT),
             payload: Some(b"module"),
             status: 4,
-            line: b"p: N1 NotBuilt\n",
+            line: b"p:1:7: A1 SyntaxAt\n",
         },
         Row {
             words: &RUN,
             script: Some(SCRIPT),
             payload: Some(b""),
             status: 4,
-            line: b"p: N1 NotBuilt\n",
+            line: b"p:1:1: N1 NotBuilt\n",
         },
     ];
     for row in rows.iter() {

@@ -63,13 +63,6 @@ pub fn refuses(err: &str) -> End<'_> {
     }
 }
 
-/// The end of a run whose payload is not of its form.
-pub const PAYLOAD_REFUSED: End<'static> = End {
-    status: 4,
-    out: "",
-    err: "p: N1 NotBuilt\n",
-};
-
 /// The end of a call that refuses its script.
 pub const SCRIPT_REFUSED: End<'static> = End {
     status: 5,
@@ -78,6 +71,13 @@ pub const SCRIPT_REFUSED: End<'static> = End {
 };
 
 impl Ended {
+    /// Asserts that the call refused its payload and wrote nothing; the message says which call it was.
+    pub fn assert_refused(&self, rt: &impl Abort, message: &str) {
+        assert_eq!(rt; self.outcome.status, 4, "{message}");
+        assert!(rt; self.out.bytes().is_empty(), "{message}");
+        assert!(rt; self.err.bytes().starts_with(b"p:"), "{message}");
+    }
+
     /// What the call wrote.
     pub fn text(&self) -> &[u8] {
         self.out.bytes()

@@ -1,6 +1,6 @@
 //! Files at the greatest length, and one byte past it.
 
-use crate::calls::{PAYLOAD, PAYLOAD_REFUSED, PRINTED, SCRIPT, SCRIPT_REFUSED, run, writes};
+use crate::calls::{PAYLOAD, PRINTED, SCRIPT, SCRIPT_REFUSED, refuses, run, writes};
 use std::alloc::{AllocError, Global};
 use std::test::Fail;
 
@@ -18,7 +18,11 @@ fn filled(alloc: Global, text: &str, len: usize) -> Result<Vec<u8>, AllocError> 
 fn a_payload_past_the_limit_is_refused(rt: HostRuntime) -> Result<(), Fail> {
     let rows = [
         (LIMIT, writes(PRINTED), "at the limit"),
-        (LIMIT + 1, PAYLOAD_REFUSED, "past the limit"),
+        (
+            LIMIT + 1,
+            refuses("p:1:1: A8 TooLong\n"),
+            "past the limit",
+        ),
     ];
     for (len, end, message) in rows {
         let payload = filled(rt.alloc(), PAYLOAD, len)?;
