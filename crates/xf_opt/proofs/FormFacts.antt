@@ -1,0 +1,1 @@
+-- Modules of the first form are core modules, as they are stored, and no larger than a payload may be.
