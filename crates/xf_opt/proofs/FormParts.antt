@@ -121,3 +121,17 @@ parts m e =
     let p = and_parts (is_plain_module m.root.kind) (is_empty m.root.attrs && holds_one_function m.root.regions) e in
     let q = and_parts (is_empty m.root.attrs) (holds_one_function m.root.regions) p.1 in
     record { symbol = plain_parts m.root.kind p.0; attributes = empty m.root.attrs q.0; region = region_parts m.root.regions q.1 }
+
+-- the regions of such a module, laid out
+abbrev pub laid_out : (rs : Regions) → OneRegion rs → Regions
+laid_out rs o =
+    region [] (op o.function.name (kind.Func o.function.heads.symbol false o.function.heads.results) [] o.function.operands o.function.gives (region o.function.block.args o.function.block.ops no_regions) no_ops) no_regions
+
+pub are_laid_out : (rs : Regions) (o : OneRegion rs) → rs ≡ laid_out rs o
+are_laid_out rs o =
+    let f = o.function in
+    let a : rs ≡ region [] o.ops no_regions = o.is in
+    let b : o.ops ≡ op f.name f.head [] f.operands f.gives f.regions no_ops = f.is in
+    let c : f.head ≡ kind.Func f.heads.symbol false f.heads.results = f.heads.is in
+    let d : f.regions ≡ region f.block.args f.block.ops no_regions = f.block.is in
+    cc
