@@ -1,6 +1,9 @@
 pub mod Ending
 pub mod Files
+pub mod FormFacts
 pub mod FormKept
+pub mod FormLists
+pub mod FormParts
 pub mod Renaming
 pub mod Runs
 pub mod Statuses

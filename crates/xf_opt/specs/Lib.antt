@@ -1,4 +1,5 @@
 pub mod Words
+pub mod Form
 pub mod Run
 pub mod Ends
 pub mod Ended

@@ -1,6 +1,7 @@
 //! The top call: a schedule carried out on a payload, from bytes to bytes.
 #![tactic(auto)]
 
+mod form;
 mod journal;
 mod judged;
 mod outcome;

@@ -1,0 +1,108 @@
+-- The modules that a run takes: one function over i32, of constants, additions and a return.
+use Rattle.std.specs.Prelude.{◌≡◌, ◌^◌, List, [], ◌∷◌, length, Option, Some, None, Bool, true, false, not, ◌&&◌, nat_lt, nat_le, ℕ}
+use Rattle.xf_type.specs.declared.payload_type.PayloadType.{PayloadType}
+use Rattle.xf_type.specs.declared.payload_type.PayloadType.TheVariants.{Scalar}
+use Rattle.xf_type.specs.declared.payload_type.Width.{Width}
+use Rattle.xf_type.specs.declared.payload_type.Width.TheVariants.{I32}
+use Rattle.xf_type.specs.declared.kind.BinKind.{BinKind}
+use Rattle.xf_type.specs.declared.kind.BinKind.TheVariants.{Addi}
+use Rattle.xf_ir.specs.declared.kind.Attr.{Attr}
+use Rattle.xf_ir.specs.declared.kind.Kind.{Kind}
+use Rattle.xf_ir.specs.declared.kind.Kind.TheVariants as kind
+use Rattle.xf_ir.specs.declared.op.Module.{Module}
+use Rattle.xf_ir.specs.Lists.{every, is_empty}
+use Rattle.xf_ir.specs.RuleBlocks.{is_end}
+use Rattle.xf_ir.specs.Spots.{ops_length}
+use Rattle.xf_ir.specs.Tree.{Ops, no_ops, op, Regions, no_regions, region}
+use Rattle.xf_ir.specs.Valid.{IsValid}
+
+-- ---- types
+
+abbrev pub is_width : Width → Bool
+is_width I32 = true
+is_width _ = false
+
+abbrev pub is_i32 : PayloadType → Bool
+is_i32 (Scalar width) = is_width width
+is_i32 _ = false
+
+-- at most one result
+abbrev pub has_few : List PayloadType → Bool
+has_few [] = true
+has_few (t ∷ ts) = is_i32 t && is_empty ts
+
+abbrev pub is_one_i32 : List PayloadType → Bool
+is_one_i32 [] = false
+is_one_i32 (t ∷ ts) = is_i32 t && is_empty ts
+
+-- ---- operations of the function
+
+abbrev pub is_addition : BinKind → Bool
+is_addition Addi = true
+is_addition _ = false
+
+abbrev pub is_step_kind : Kind → Bool
+is_step_kind kind.Return = true
+is_step_kind (kind.Constant width bits) = is_width width
+is_step_kind (kind.Binary which width) = is_addition which && is_width width
+is_step_kind _ = false
+
+abbrev pub holds_none : Regions → Bool
+holds_none no_regions = true
+holds_none (region args ops rest) = false
+
+-- an operation without attributes and regions
+abbrev pub is_step : Kind → List Attr → List PayloadType → Regions → Bool
+is_step k ds ts rs = is_step_kind k && (is_empty ds && (has_few ts && holds_none rs))
+
+abbrev pub are_steps : Ops → Bool
+are_steps no_ops = true
+are_steps (op n k ds os ts rs rest) = is_step k ds ts rs && are_steps rest
+
+-- ---- the function
+
+-- fewer arguments than a number of 32 bits can count
+abbrev pub are_parameters : List PayloadType → Bool
+are_parameters ts = every is_i32 ts && nat_lt (length ts) (2 ^ 32)
+
+-- as many operations as a payload may have, besides the module and the function
+abbrev pub is_block : List PayloadType → Ops → Bool
+is_block args ops = are_parameters args && (are_steps ops && nat_le (ops_length ops) 999998)
+
+abbrev pub is_one_block : Regions → Bool
+is_one_block no_regions = false
+is_one_block (region args ops rest) = is_block args ops && holds_none rest
+
+abbrev pub is_head : Kind → Bool
+is_head (kind.Func symbol private results) = not private && is_one_i32 results
+is_head _ = false
+
+abbrev pub is_function : Kind → List Attr → Regions → Bool
+is_function k ds rs = is_head k && (is_empty ds && is_one_block rs)
+
+-- ---- the module
+
+abbrev pub is_one_function : Ops → Bool
+is_one_function no_ops = false
+is_one_function (op n k ds os ts rs rest) = is_function k ds rs && is_end rest
+
+abbrev pub holds_one_function : Regions → Bool
+holds_one_function no_regions = false
+holds_one_function (region args ops rest) = (is_empty args && is_one_function ops) && holds_none rest
+
+abbrev pub has_no_symbol : Option (List ℕ) → Bool
+has_no_symbol None = true
+has_no_symbol (Some s) = false
+
+abbrev pub is_plain_module : Kind → Bool
+is_plain_module (kind.Module symbol) = has_no_symbol symbol
+is_plain_module _ = false
+
+-- the module and the function have no attributes, and there is nothing else
+abbrev pub is_first_form : Module → Bool
+is_first_form m = is_plain_module m.root.kind && (is_empty m.root.attrs && holds_one_function m.root.regions)
+
+-- a valid module of this form
+pub record IsFirstForm (m : Module) : Type 0 where
+  pub valid : IsValid m
+  pub shape : is_first_form m ≡ true

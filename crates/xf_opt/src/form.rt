@@ -1,0 +1,187 @@
+//! The modules that a run takes: one function over i32, of constants, additions and a return.
+ghost use Rattle.std.specs.Prelude.{◌≡◌, ◌&&◌, not};
+ghost use Rattle.xf_ir.specs.Lists.{every};
+ghost use Rattle.xf_ir.specs.View.{ops_of, regions_of};
+ghost use Rattle.xf_opt.specs.Form.{is_width, is_i32, has_few, is_one_i32, is_addition, is_step_kind, is_step, are_steps, are_parameters, is_block, is_one_block, is_head, is_function, is_one_function, holds_one_function, is_plain_module, is_first_form};
+
+use xf_ir::{Block, Kind, Module, Op};
+use xf_type::{BinKind, PayloadType, Width};
+
+/// The number that the function has fewer arguments than.
+const PARAMETERS_END: usize = 1 << 32;
+
+/// How many operations the function holds at most: as many as a payload may have, without the module
+/// and the function itself.
+const MOST_STEPS: usize = 999_998;
+
+fn is_width(width: Width) -> bool
+    ensures { result ≡ is_width width }
+{
+    match width {
+        Width::I32 => true,
+        _ => false,
+    }
+}
+
+fn is_i32(ty: &PayloadType) -> bool
+    ensures { result ≡ is_i32 ty.now }
+{
+    match ty {
+        PayloadType::Scalar(width) => is_width(*width),
+        PayloadType::Tensor(_) => false,
+    }
+}
+
+fn are_i32(types: &[PayloadType]) -> bool
+    ensures { result ≡ every is_i32 types.now }
+{
+    for ty in types {
+        if !is_i32(ty) {
+            return false;
+        }
+    }
+    true
+}
+
+/// Whether there is one type alone, i32.
+fn is_one_i32(types: &[PayloadType]) -> bool
+    ensures { result ≡ is_one_i32 types.now }
+{
+    match types {
+        [] => false,
+        [first, rest @ ..] => is_i32(first) && rest.is_empty(),
+    }
+}
+
+/// Whether there is one type at most, i32.
+fn has_few(types: &[PayloadType]) -> bool
+    ensures { result ≡ has_few types.now }
+{
+    match types {
+        [] => true,
+        [first, rest @ ..] => is_i32(first) && rest.is_empty(),
+    }
+}
+
+fn is_addition(kind: BinKind) -> bool
+    ensures { result ≡ is_addition kind }
+{
+    match kind {
+        BinKind::Addi => true,
+        _ => false,
+    }
+}
+
+fn is_step_kind(kind: &Kind) -> bool
+    ensures { result ≡ is_step_kind kind.now }
+{
+    match kind {
+        Kind::Return => true,
+        Kind::Constant { width, .. } => is_width(*width),
+        Kind::Binary { kind, width } => is_addition(*kind) && is_width(*width),
+        _ => false,
+    }
+}
+
+/// Whether an operation may stand in the function.
+#[tactic(auto, using(crate::proofs::FormLists::no_blocks))]
+fn is_step(op: &Op) -> bool
+    ensures { result ≡ is_step op.now.kind op.now.attrs op.now.results op.now.regions }
+{
+    is_step_kind(&op.kind)
+        && (op.attrs.as_slice().is_empty()
+            && (has_few(op.results.as_slice()) && op.regions.is_empty()))
+}
+
+fn are_steps(ops: &[Op]) -> bool
+    ensures { result ≡ are_steps (ops_of ops.now) }
+{
+    for op in ops {
+        if !is_step(op) {
+            return false;
+        }
+    }
+    true
+}
+
+fn are_parameters(types: &[PayloadType]) -> bool
+    ensures { result ≡ are_parameters types.now }
+{
+    are_i32(types) && types.len() < PARAMETERS_END
+}
+
+/// Whether it is the block of such a function.
+#[tactic(auto, using(crate::proofs::FormLists::as_long))]
+fn is_block(block: &Block) -> bool
+    ensures { result ≡ is_block block.now.args block.now.ops }
+{
+    are_parameters(block.args.as_slice())
+        && (are_steps(&block.ops) && block.ops.len() <= MOST_STEPS)
+}
+
+#[tactic(auto, using(crate::proofs::FormLists::no_blocks))]
+fn is_one_block(regions: &[Block]) -> bool
+    ensures { result ≡ is_one_block (regions_of regions.now) }
+{
+    match regions {
+        [] => false,
+        [first, rest @ ..] => is_block(first) && rest.is_empty(),
+    }
+}
+
+fn is_head(kind: &Kind) -> bool
+    ensures { result ≡ is_head kind.now }
+{
+    match kind {
+        Kind::Func { private, results, .. } => !*private && is_one_i32(results.as_slice()),
+        _ => false,
+    }
+}
+
+fn is_function(op: &Op) -> bool
+    ensures { result ≡ is_function op.now.kind op.now.attrs op.now.regions }
+{
+    is_head(&op.kind) && (op.attrs.as_slice().is_empty() && is_one_block(&op.regions))
+}
+
+#[tactic(auto, using(crate::proofs::FormLists::no_operations))]
+fn is_one_function(ops: &[Op]) -> bool
+    ensures { result ≡ is_one_function (ops_of ops.now) }
+{
+    match ops {
+        [] => false,
+        [first, rest @ ..] => is_function(first) && rest.is_empty(),
+    }
+}
+
+#[tactic(auto, using(crate::proofs::FormLists::no_blocks))]
+fn holds_one_function(regions: &[Block]) -> bool
+    ensures { result ≡ holds_one_function (regions_of regions.now) }
+{
+    match regions {
+        [] => false,
+        [first, rest @ ..] => {
+            (first.args.as_slice().is_empty() && is_one_function(&first.ops)) && rest.is_empty()
+        }
+    }
+}
+
+fn is_plain_module(kind: &Kind) -> bool
+    ensures { result ≡ is_plain_module kind.now }
+{
+    match kind {
+        Kind::Module { symbol } => symbol.is_none(),
+        _ => false,
+    }
+}
+
+/// Whether a module is of the form that a run takes: a module without a symbol, with one function
+/// over i32 alone, of constants, additions and a return, and without attributes.
+///
+/// Takes time in the number of operations and arguments of the function.
+pub fn is_first_form(m: &Module) -> bool
+    ensures { result ≡ is_first_form m.now }
+{
+    is_plain_module(&m.root.kind)
+        && (m.root.attrs.as_slice().is_empty() && holds_one_function(&m.root.regions))
+}
