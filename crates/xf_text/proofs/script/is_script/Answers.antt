@@ -1,4 +1,4 @@
-use Rattle.std.proofs.Common.{◌≡◌, sym, ◌∙◌}
+use Rattle.std.proofs.Common.{sym, ◌∙◌}
 use Rattle.xf_text.specs.Script.{script_tokens}
 use Rattle.xf_text.proofs.Scripts.{taken_is, refused_is_not}
 use Rattle.xf_text.proofs.script.is_script.Goals as goal
