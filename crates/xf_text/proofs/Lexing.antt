@@ -38,7 +38,7 @@ pub is_nil : (bs : List ℕ) → length bs ≡ 0 → bs ≡ []
 is_nil [] e = refl
 is_nil (b ∷ bs) e = absurd (omega arith)
 
-some_is : {A : Type 0} (a b : A) → Some a ≡ Some b → a ≡ b
+pub some_is : {A : Type 0} (a b : A) → Some a ≡ Some b → a ≡ b
 some_is a b e = cc
 
 kind_and_length : (k k' : TokenKind) (n n' : ℕ) → let a : Found = Some (k, n) in let b : Found = Some (k', n') in a ≡ b → (k ≡ k') × (n ≡ n')

@@ -1,14 +1,4 @@
 pub mod Tokens
 pub mod Classes
-pub mod Written
 pub mod Reading
-pub mod Sources
-pub mod Spells
-pub mod Building
-pub mod Scopes
-pub mod Form
-pub mod Printed
-pub mod Names
-pub mod Renamed
 pub mod Script
-pub mod Laws

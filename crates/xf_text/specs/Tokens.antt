@@ -71,3 +71,24 @@ pub record IsFirst (bs : List ℕ) (t : Token) : Type 0 where
 abbrev pub Lexes : List ℕ → List Token → Type 0
 Lexes bs [] = text_at bs ≡ []
 Lexes bs (t ∷ ts) = IsFirst bs t × Lexes (drop (length t.bytes) (text_at bs)) ts
+
+-- ---- tokens by what they are made of
+
+-- the bytes of a token, as of `%a`
+abbrev pub Name : Type 0
+Name = List ℕ
+
+abbrev pub token : TokenKind → List ℕ → Token
+token k bs = record { kind = k; bytes = bs }
+
+abbrev pub word : List ℕ → Token
+word bs = token kind.Word bs
+
+abbrev pub value : Name → Token
+value bs = token kind.Value bs
+
+abbrev pub mark : ℕ → Token
+mark b = token (kind.Mark b) (b ∷ [])
+
+abbrev pub colon : Token
+colon = mark 58

@@ -1,7 +1,7 @@
 //! Bytes by class, and the token at the front of a text.
 ghost use Rattle.std.specs.Prelude.{◌≡◌, ◌≤◌, ◌<◌, ◌+◌, length, IfSome};
 ghost use Rattle.xf_ir.specs.Words.{is_digit, is_letter, is_word_byte};
-ghost use Rattle.xf_text.specs.Tokens.{is_blank, is_mark, is_name_start, is_name_byte, run, starts, value_at, named_at, token_at};
+ghost use Rattle.xf_text.specs.Tokens.{is_blank, is_mark, is_name_start, run, starts, value_at, named_at, token_at};
 ghost use Rattle.xf_text.specs.Classes.{has};
 
 use crate::token::TokenKind;

@@ -1,18 +1,17 @@
-//! The schedule of the first form.
+//! The schedule of a run.
 ghost use Rattle.std.specs.Prelude.{◌≡◌, true, false, IfOk};
 ghost use Rattle.xf_text.specs.Script.{any_op, IsScript};
 ghost use Rattle.xf_text.specs.Reading.{Gives, behind, sequence_front, step_front, yield_front, script_front, script_read};
 
 use crate::bytes::same_bytes;
 use crate::cursor::Cursor;
-use crate::fault::ReadFault;
 use crate::lex::tokens;
 use crate::token::{Token, TokenKind};
-use std::alloc::{AllocError, Global};
+use std::alloc::Global;
 use xf_type::NoMemory;
 
 /// `!transform.any_op`.
-fn handle_type(cursor: &mut Cursor) -> Result<(), ReadFault>
+fn handle_type(cursor: &mut Cursor) -> Option<()>
     ensures { Gives (λ _. cursor.new) result (behind any_op cursor.old) }
 {
     cursor.expect(TokenKind::DialectType, b"!transform.any_op")
@@ -20,7 +19,7 @@ fn handle_type(cursor: &mut Cursor) -> Result<(), ReadFault>
 
 /// The module and its main sequence, up to the `{` of that, with the name of its argument.
 #[tactic(auto, unfolding(crate::specs::Reading::sequence_front))]
-fn sequence<'a>(cursor: &mut Cursor<'a>) -> Result<&'a [u8], ReadFault>
+fn sequence<'a>(cursor: &mut Cursor<'a>) -> Option<&'a [u8]>
     ensures { Gives (λ name. (name.now, cursor.new)) result (sequence_front cursor.old) }
 {
     cursor.word(b"module")?;
@@ -37,12 +36,12 @@ fn sequence<'a>(cursor: &mut Cursor<'a>) -> Result<&'a [u8], ReadFault>
     handle_type(cursor)?;
     cursor.mark(b')')?;
     cursor.mark(b'{')?;
-    Ok(argument)
+    Some(argument)
 }
 
 /// The step that erases dead code, with the name of its target.
 #[tactic(auto, unfolding(crate::specs::Reading::step_front))]
-fn step<'a>(cursor: &mut Cursor<'a>) -> Result<&'a [u8], ReadFault>
+fn step<'a>(cursor: &mut Cursor<'a>) -> Option<&'a [u8]>
     ensures { Gives (λ name. (name.now, cursor.new)) result (step_front cursor.old) }
 {
     cursor.word(b"transform.apply_dce")?;
@@ -50,47 +49,47 @@ fn step<'a>(cursor: &mut Cursor<'a>) -> Result<&'a [u8], ReadFault>
     let target = cursor.bytes(TokenKind::Value)?;
     cursor.mark(b':')?;
     handle_type(cursor)?;
-    Ok(target)
+    Some(target)
 }
 
 /// The end of the sequence, which may be left out.
 #[tactic(auto, unfolding(crate::specs::Reading::yield_front))]
-fn yield_step(cursor: &mut Cursor) -> Result<(), ReadFault>
+fn yield_step(cursor: &mut Cursor) -> Option<()>
     ensures { Gives (λ _. cursor.new) result (yield_front cursor.old) }
 {
     if cursor.is_at_word(b"transform.yield") {
         cursor.word(b"transform.yield")
     } else {
-        Ok(())
+        Some(())
     }
 }
 
 #[tactic(auto, unfolding(crate::specs::Reading::script_front))]
-fn script<'a>(cursor: &mut Cursor<'a>) -> Result<&'a [u8], ReadFault>
+fn script<'a>(cursor: &mut Cursor<'a>) -> Option<&'a [u8]>
     ensures { Gives (λ name. (name.now, cursor.new)) result (script_front cursor.old) }
 {
     let argument = sequence(cursor)?;
     let target = step(cursor)?;
     if !same_bytes(argument, target) {
-        return Err(ReadFault::NotBuilt);
+        return None;
     }
     yield_step(cursor)?;
     cursor.mark(b'}')?;
     cursor.mark(b'}')?;
-    Ok(argument)
+    Some(argument)
 }
 
 /// The name of a script's argument.
 #[tactic(auto, unfolding(crate::specs::Reading::script_read))]
-fn argument<'a>(tokens: &'a [Token]) -> Result<&'a [u8], ReadFault>
+fn argument<'a>(tokens: &'a [Token]) -> Option<&'a [u8]>
     ensures { Gives (λ name. name.now) result (script_read tokens.now) }
 {
     let mut cursor = Cursor::new(tokens);
     let argument = script(&mut cursor)?;
     if !cursor.is_at_end() {
-        return Err(ReadFault::NotBuilt);
+        return None;
     }
-    Ok(argument)
+    Some(argument)
 }
 
 /// Whether a text is the schedule that erases the dead code of its argument. It takes time in the length of the text.
@@ -102,9 +101,5 @@ pub fn is_script(alloc: Global, bytes: &[u8]) -> Result<bool, NoMemory>
         Some(tokens) => tokens,
         None => return Ok(false),
     };
-    match argument(tokens.as_slice()) {
-        Ok(_) => Ok(true),
-        Err(ReadFault::NotBuilt) => Ok(false),
-        Err(ReadFault::NoMemory) => Err(AllocError),
-    }
+    Ok(argument(tokens.as_slice()).is_some())
 }
