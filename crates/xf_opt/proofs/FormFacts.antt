@@ -1,5 +1,5 @@
 -- Modules of the first form are core modules, as they are stored, and no larger than a payload may be.
-use Rattle.std.proofs.Common.{◌≡◌, ℕ, ◌+◌, ◌^◌, ◌<◌, ◌≤◌, List, [], ◌∷◌, ◌++◌, length, Option, None, Some, Bool, true, false, refl, sym, ap, subst, arith}
+use Rattle.std.proofs.Common.{◌≡◌, ℕ, ◌+◌, ◌^◌, ◌<◌, ◌≤◌, List, [], ◌∷◌, ◌++◌, length, Option, None, true, false, refl, sym, subst, arith}
 use Rattle.std.specs.Prelude.{◌&&◌, map}
 use Rattle.std.proofs.lemmas.Bool.{and_parts, and_from}
 use Rattle.xf_type.specs.declared.payload_type.PayloadType.{PayloadType}
@@ -14,22 +14,21 @@ use Rattle.xf_ir.specs.Calls.{Signatures, signatures}
 use Rattle.xf_ir.specs.Count.{ops_count, regions_count, tree_count}
 use Rattle.xf_ir.specs.Kinds.{returned_types}
 use Rattle.xf_ir.specs.Lists.{Each, every, is_empty}
-use Rattle.xf_ir.specs.Placed.{Typed, type_at, Holder, holder_of, Placed, place, ops_placed, functions_placed, blocks_placed, placed, top, root_holder, block_of, functions_of}
+use Rattle.xf_ir.specs.Placed.{Typed, type_at, Holder, holder_of, Placed, place, ops_placed, functions_placed, blocks_placed, placed, top, root_holder, block_of}
 use Rattle.xf_ir.specs.Places.{inside, done}
 use Rattle.xf_ir.specs.RuleBlocks.{block_args}
-use Rattle.xf_ir.specs.RuleTypes.{takes_gives, row_of, has_its_types}
+use Rattle.xf_ir.specs.RuleTypes.{takes_gives, has_its_types}
 use Rattle.xf_ir.specs.Spots.{ops_length}
 use Rattle.xf_ir.specs.Tree.{Ops, no_ops, op, Regions, no_regions, region, Tree}
 use Rattle.xf_ir.specs.Types.{have_types, same_types}
 use Rattle.xf_ir.proofs.Lists.{each_both, each_map}
 use Rattle.xf_print.specs.Names.{Names, no_names, with_op, with_ops, next_number}
-use Rattle.xf_read.specs.Syntax.{most_open, most_operations}
 use Rattle.xf_roundtrip.specs.Printable.{AllBytes, FunctionsNumber}
 use Rattle.xf_roundtrip.specs.PrintedLaws.{OpsNest, RegionsNest, IsWithin}
 use Rattle.xf_roundtrip.specs.Printing.{is_core, all_scalar, is_core_op, IsCore}
 use Rattle.xf_roundtrip.specs.Stored.{IsStored}
-use Rattle.xf_opt.specs.Form.{is_i32, has_few, is_one_i32, is_step_kind, holds_none, is_step, are_steps, IsFirstForm}
-use Rattle.xf_opt.proofs.FormParts.{empty, no_more, OneBlock, OneHead, OneFunction, OneRegion, are_laid_out, Parts, parts}
+use Rattle.xf_opt.specs.Form.{is_i32, is_i32_at_most, is_one_i32, is_step_kind, has_no_regions, is_step, are_steps, IsFirstForm}
+use Rattle.xf_opt.proofs.FormParts.{empty, no_more, OneRegion, are_laid_out, parts}
 
 -- ---- scalars
 
@@ -47,7 +46,7 @@ record IsFew (ts : List PayloadType) : Type 0 where
   scalars : all_scalar ts ≡ true
   count : length ts ≤ 1
 
-few_are : (ts : List PayloadType) → has_few ts ≡ true → IsFew ts
+few_are : (ts : List PayloadType) → is_i32_at_most ts ≡ true → IsFew ts
 few_are [] e = record { scalars = refl; count = omega arith }
 few_are (t ∷ []) e = record { scalars = scalar t (and_parts (is_i32 t) (is_empty {A = PayloadType} []) e).0; count = omega arith }
 few_are (t ∷ (u ∷ ts)) e = let p = (and_parts (is_i32 t) (is_empty (u ∷ ts)) e).1 in absurd cc
@@ -77,9 +76,9 @@ record Step (k : Kind) (ds : List Attr) (ts : List PayloadType) (rs : Regions) :
 
 step_parts : (k : Kind) (ds : List Attr) (ts : List PayloadType) (rs : Regions) → is_step k ds ts rs ≡ true → Step k ds ts rs
 step_parts k ds ts rs e =
-    let p = and_parts (is_step_kind k) (is_empty ds && (has_few ts && holds_none rs)) e in
-    let q = and_parts (is_empty ds) (has_few ts && holds_none rs) p.1 in
-    let r = and_parts (has_few ts) (holds_none rs) q.1 in
+    let p = and_parts (is_step_kind k) (is_empty ds && (is_i32_at_most ts && has_no_regions rs)) e in
+    let q = and_parts (is_empty ds) (is_i32_at_most ts && has_no_regions rs) p.1 in
+    let r = and_parts (is_i32_at_most ts) (has_no_regions rs) q.1 in
     record { kind_is = step_kind k p.0; bare = empty ds q.0; few = few_are ts r.0; leaf = no_more rs r.1 }
 
 -- ---- each operation where it stands
@@ -126,9 +125,10 @@ function_placed : (h : Holder) (n : OpName) (symbol : List ℕ) (results : List 
     → Each IsSimple (functions_placed h (op n (kind.Func symbol false results) [] os [] (region args ops no_regions) no_ops))
 function_placed h n symbol results os args ops r a s =
     let k = holder_of (kind.Func symbol false results) (map (type_at []) os) [] in
-    let env : Typed = (inside n 0 (length args), args) ∷ [] in
-    (function_simple h n symbol results os args ops no_ops r a,
-     each_both IsSimple (ops_placed k env ops ++ []) [] (each_both IsSimple (ops_placed k env ops) [] (steps_simple k env ops s) tt) tt)
+    let env : Typed = (inside n 0 (length args), args) ∷ [] in (
+      function_simple h n symbol results os args ops no_ops r a,
+      each_both IsSimple (ops_placed k env ops ++ []) [] (each_both IsSimple (ops_placed k env ops) [] (steps_simple k env ops s) tt) tt,
+    )
 
 blocks_placed_simply : (sigs : Signatures) (h : Holder) (n : OpName) (symbol : List ℕ) (results : List PayloadType) (os : List ValueName) (ts args : List PayloadType) (ops : Ops)
     → Each (λ p. has_its_types sigs p ≡ true) (blocks_placed h (region [] (op n (kind.Func symbol false results) [] os ts (region args ops no_regions) no_ops) no_regions))
@@ -144,7 +144,7 @@ blocks_simple sigs h rs o typed =
     let e = are_laid_out rs o in
     subst (λ (x : Regions). Each IsSimple (blocks_placed h x)) (sym e)
     (blocks_placed_simply sigs h f.name f.heads.symbol f.heads.results f.operands f.gives f.block.args f.block.ops
-        (subst (λ (x : Regions). Each (λ p. has_its_types sigs p ≡ true) (blocks_placed h x)) e typed) f.heads.type f.block.types f.block.steps)
+    (subst (λ (x : Regions). Each (λ p. has_its_types sigs p ≡ true) (blocks_placed h x)) e typed) f.heads.type f.block.types f.block.steps)
 
 plain_block : (rs : Regions) → OneRegion rs → every all_scalar (block_args rs) ≡ true
 plain_block rs o = subst (λ (x : Regions). every all_scalar (block_args x) ≡ true) (sym (are_laid_out rs o)) refl

@@ -1,7 +1,7 @@
 -- The parts of a module of the first form.
-use Rattle.std.proofs.Common.{◌≡◌, ◌^◌, ◌<◌, ◌≤◌, ◌⊎◌, List, [], ◌∷◌, length, Option, None, Bool, true, false, refl, sym, ap, arith}
-use Rattle.std.specs.Prelude.{ℕ, Some, not, ◌&&◌, nat_lt, nat_le}
-use Rattle.std.proofs.lemmas.Bool.{and_parts, and_from}
+use Rattle.std.proofs.Common.{◌≡◌, ◌+◌, ◌^◌, ◌<◌, ◌≤◌, List, [], ◌∷◌, length, None, true, false, refl, ap, arith}
+use Rattle.std.specs.Prelude.{ℕ, Some, ◌&&◌, nat_lt, nat_le}
+use Rattle.std.proofs.lemmas.Bool.{and_parts}
 use Rattle.std.proofs.lemmas.Bool.Decides.{nat_tests}
 use Rattle.xf_type.specs.declared.payload_type.PayloadType.{PayloadType}
 use Rattle.xf_ir.specs.declared.name.OpName.{OpName}
@@ -14,7 +14,8 @@ use Rattle.xf_ir.specs.Lists.{every, is_empty}
 use Rattle.xf_ir.specs.RuleBlocks.{is_end}
 use Rattle.xf_ir.specs.Spots.{ops_length}
 use Rattle.xf_ir.specs.Tree.{Ops, no_ops, op, Regions, no_regions, region}
-use Rattle.xf_opt.specs.Form.{is_i32, is_one_i32, are_steps, are_parameters, is_block, holds_none, is_one_block, is_head, is_function, is_one_function, has_no_symbol, is_plain_module, holds_one_function, is_first_form}
+use Rattle.xf_read.specs.Syntax.{most_operations}
+use Rattle.xf_opt.specs.Form.{is_i32, is_one_i32, are_steps, are_parameters, is_plain_block, has_no_regions, is_one_block, is_plain_head, is_plain_function, is_one_function, is_plain_module, holds_one_function, is_first_form}
 
 -- ---- empty lists
 
@@ -22,7 +23,7 @@ pub empty : {A : Type 0} (xs : List A) → is_empty xs ≡ true → xs ≡ []
 empty [] e = refl
 empty (x ∷ xs) e = absurd cc
 
-pub no_more : (rs : Regions) → holds_none rs ≡ true → rs ≡ no_regions
+pub no_more : (rs : Regions) → has_no_regions rs ≡ true → rs ≡ no_regions
 no_more no_regions e = refl
 no_more (region args ops rest) e = absurd cc
 
@@ -45,17 +46,17 @@ pub record OneBlock (rs : Regions) : Type 0 where
 below : (m n : ℕ) → nat_lt m n ≡ true → m < n
 below m n e = grind (arith, nat_tests)
 
-at_most : (m n : ℕ) → nat_le m n ≡ true → m ≤ n
-at_most m n e = grind (arith, nat_tests)
+fewer : (n : ℕ) → nat_le (n + 2) most_operations ≡ true → n ≤ 999998
+fewer n e = grind (arith, nat_tests)
 
 pub block_parts : (rs : Regions) → is_one_block rs ≡ true → OneBlock rs
 block_parts no_regions e = absurd cc
 block_parts (region args ops rest) e =
-    let p = and_parts (is_block args ops) (holds_none rest) e in
-    let q = and_parts (are_parameters args) (are_steps ops && nat_le (ops_length ops) 999998) p.0 in
+    let p = and_parts (is_plain_block args ops) (has_no_regions rest) e in
+    let q = and_parts (are_parameters args) (are_steps ops && nat_le (ops_length ops + 2) most_operations) p.0 in
     let t = and_parts (every is_i32 args) (nat_lt (length args) (2 ^ 32)) q.0 in
-    let s = and_parts (are_steps ops) (nat_le (ops_length ops) 999998) q.1 in
-    record { args = args; ops = ops; is = ap (region args ops) (no_more rest p.1); types = t.0; count = below (length args) (2 ^ 32) t.1; steps = s.0; few = at_most (ops_length ops) 999998 s.1 }
+    let s = and_parts (are_steps ops) (nat_le (ops_length ops + 2) most_operations) q.1 in
+    record { args = args; ops = ops; is = ap (region args ops) (no_more rest p.1); types = t.0; count = below (length args) (2 ^ 32) t.1; steps = s.0; few = fewer (ops_length ops) s.1 }
 
 pub record OneHead (k : Kind) : Type 0 where
   pub symbol : List ℕ
@@ -63,7 +64,7 @@ pub record OneHead (k : Kind) : Type 0 where
   pub is : k ≡ kind.Func symbol false results
   pub type : is_one_i32 results ≡ true
 
-pub head_parts : (k : Kind) → is_head k ≡ true → OneHead k
+pub head_parts : (k : Kind) → is_plain_head k ≡ true → OneHead k
 head_parts (kind.Func symbol false results) e = record { symbol = symbol; results = results; is = refl; type = e }
 head_parts (kind.Func symbol true results) e = absurd cc
 head_parts _ e = absurd cc
@@ -84,8 +85,8 @@ one n k ds os ts rs rest p q = cc
 pub function_parts : (ops : Ops) → is_one_function ops ≡ true → OneFunction ops
 function_parts no_ops e = absurd cc
 function_parts (op n k ds os ts rs rest) e =
-    let p = and_parts (is_function k ds rs) (is_end rest) e in
-    let q = and_parts (is_head k) (is_empty ds && is_one_block rs) p.0 in
+    let p = and_parts (is_plain_function k ds rs) (is_end rest) e in
+    let q = and_parts (is_plain_head k) (is_empty ds && is_one_block rs) p.0 in
     let r = and_parts (is_empty ds) (is_one_block rs) q.1 in
     record { name = n; head = k; operands = os; gives = ts; regions = rs; is = one n k ds os ts rs rest (empty ds r.0) (the_end rest p.1); heads = head_parts k q.0; block = block_parts rs r.1 }
 
@@ -102,7 +103,7 @@ whole args ops rest p q = cc
 pub region_parts : (rs : Regions) → holds_one_function rs ≡ true → OneRegion rs
 region_parts no_regions e = absurd cc
 region_parts (region args ops rest) e =
-    let p = and_parts (is_empty args && is_one_function ops) (holds_none rest) e in
+    let p = and_parts (is_empty args && is_one_function ops) (has_no_regions rest) e in
     let q = and_parts (is_empty args) (is_one_function ops) p.0 in
     record { ops = ops; is = whole args ops rest (empty args q.0) (no_more rest p.1); function = function_parts ops q.1 }
 

@@ -10,7 +10,7 @@ use Rattle.xf_ir.proofs.ErasingLaws.{lowers_count, lowers_weight}
 use Rattle.xf_sem.specs.Keeps.{KeepsMeaning}
 use Rattle.xf_sem.proofs.Keeping.{keeping_composes, keeping_is_reflexive}
 use Rattle.xf_sem.proofs.Erasing.{erasing_keeps}
-use Rattle.xf_text.specs.Form.{IsFirstForm}
+use Rattle.xf_opt.specs.Form.{IsFirstForm}
 use Rattle.xf_opt.specs.declared.journal.Entry.{Entry}
 use Rattle.xf_opt.specs.declared.journal.Entry.TheVariants.{Choose, EndScope}
 use Rattle.xf_opt.specs.Run.{ScopeRuns, Runs}

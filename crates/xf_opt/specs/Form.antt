@@ -1,5 +1,5 @@
 -- The modules that a run takes: one function over i32, of constants, additions and a return.
-use Rattle.std.specs.Prelude.{◌≡◌, ◌^◌, List, [], ◌∷◌, length, Option, Some, None, Bool, true, false, not, ◌&&◌, nat_lt, nat_le, ℕ}
+use Rattle.std.specs.Prelude.{◌≡◌, ℕ, ◌+◌, ◌^◌, List, [], ◌∷◌, length, Option, Some, None, Bool, true, false, not, ◌&&◌, nat_lt, nat_le}
 use Rattle.xf_type.specs.declared.payload_type.PayloadType.{PayloadType}
 use Rattle.xf_type.specs.declared.payload_type.PayloadType.TheVariants.{Scalar}
 use Rattle.xf_type.specs.declared.payload_type.Width.{Width}
@@ -15,21 +15,22 @@ use Rattle.xf_ir.specs.RuleBlocks.{is_end}
 use Rattle.xf_ir.specs.Spots.{ops_length}
 use Rattle.xf_ir.specs.Tree.{Ops, no_ops, op, Regions, no_regions, region}
 use Rattle.xf_ir.specs.Valid.{IsValid}
+use Rattle.xf_read.specs.Syntax.{most_operations}
 
 -- ---- types
 
-abbrev pub is_width : Width → Bool
-is_width I32 = true
-is_width _ = false
+abbrev pub is_i32_width : Width → Bool
+is_i32_width I32 = true
+is_i32_width _ = false
 
 abbrev pub is_i32 : PayloadType → Bool
-is_i32 (Scalar width) = is_width width
+is_i32 (Scalar width) = is_i32_width width
 is_i32 _ = false
 
--- at most one result
-abbrev pub has_few : List PayloadType → Bool
-has_few [] = true
-has_few (t ∷ ts) = is_i32 t && is_empty ts
+-- nothing, or one type alone
+abbrev pub is_i32_at_most : List PayloadType → Bool
+is_i32_at_most [] = true
+is_i32_at_most (t ∷ ts) = is_i32 t && is_empty ts
 
 abbrev pub is_one_i32 : List PayloadType → Bool
 is_one_i32 [] = false
@@ -41,19 +42,20 @@ abbrev pub is_addition : BinKind → Bool
 is_addition Addi = true
 is_addition _ = false
 
+-- a return, a constant and an addition
 abbrev pub is_step_kind : Kind → Bool
 is_step_kind kind.Return = true
-is_step_kind (kind.Constant width bits) = is_width width
-is_step_kind (kind.Binary which width) = is_addition which && is_width width
+is_step_kind (kind.Constant width bits) = is_i32_width width
+is_step_kind (kind.Binary which width) = is_addition which && is_i32_width width
 is_step_kind _ = false
 
-abbrev pub holds_none : Regions → Bool
-holds_none no_regions = true
-holds_none (region args ops rest) = false
+abbrev pub has_no_regions : Regions → Bool
+has_no_regions no_regions = true
+has_no_regions (region args ops rest) = false
 
--- an operation without attributes and regions
+-- such an operation, without attributes and regions
 abbrev pub is_step : Kind → List Attr → List PayloadType → Regions → Bool
-is_step k ds ts rs = is_step_kind k && (is_empty ds && (has_few ts && holds_none rs))
+is_step k ds ts rs = is_step_kind k && (is_empty ds && (is_i32_at_most ts && has_no_regions rs))
 
 abbrev pub are_steps : Ops → Bool
 are_steps no_ops = true
@@ -65,40 +67,42 @@ are_steps (op n k ds os ts rs rest) = is_step k ds ts rs && are_steps rest
 abbrev pub are_parameters : List PayloadType → Bool
 are_parameters ts = every is_i32 ts && nat_lt (length ts) (2 ^ 32)
 
--- as many operations as a payload may have, besides the module and the function
-abbrev pub is_block : List PayloadType → Ops → Bool
-is_block args ops = are_parameters args && (are_steps ops && nat_le (ops_length ops) 999998)
+-- with the module and the function there are no more operations than a payload may have
+abbrev pub is_plain_block : List PayloadType → Ops → Bool
+is_plain_block args ops = are_parameters args && (are_steps ops && nat_le (ops_length ops + 2) most_operations)
 
 abbrev pub is_one_block : Regions → Bool
 is_one_block no_regions = false
-is_one_block (region args ops rest) = is_block args ops && holds_none rest
+is_one_block (region args ops rest) = is_plain_block args ops && has_no_regions rest
 
-abbrev pub is_head : Kind → Bool
-is_head (kind.Func symbol private results) = not private && is_one_i32 results
-is_head _ = false
+-- a function that has a body, and gives one value
+abbrev pub is_plain_head : Kind → Bool
+is_plain_head (kind.Func symbol private results) = not private && is_one_i32 results
+is_plain_head _ = false
 
-abbrev pub is_function : Kind → List Attr → Regions → Bool
-is_function k ds rs = is_head k && (is_empty ds && is_one_block rs)
+abbrev pub is_plain_function : Kind → List Attr → Regions → Bool
+is_plain_function k ds rs = is_plain_head k && (is_empty ds && is_one_block rs)
 
 -- ---- the module
 
 abbrev pub is_one_function : Ops → Bool
 is_one_function no_ops = false
-is_one_function (op n k ds os ts rs rest) = is_function k ds rs && is_end rest
+is_one_function (op n k ds os ts rs rest) = is_plain_function k ds rs && is_end rest
 
 abbrev pub holds_one_function : Regions → Bool
 holds_one_function no_regions = false
-holds_one_function (region args ops rest) = (is_empty args && is_one_function ops) && holds_none rest
+holds_one_function (region args ops rest) = (is_empty args && is_one_function ops) && has_no_regions rest
 
 abbrev pub has_no_symbol : Option (List ℕ) → Bool
 has_no_symbol None = true
 has_no_symbol (Some s) = false
 
+-- a module without a symbol
 abbrev pub is_plain_module : Kind → Bool
 is_plain_module (kind.Module symbol) = has_no_symbol symbol
 is_plain_module _ = false
 
--- the module and the function have no attributes, and there is nothing else
+-- a module of one function alone, neither of which has attributes
 abbrev pub is_first_form : Module → Bool
 is_first_form m = is_plain_module m.root.kind && (is_empty m.root.attrs && holds_one_function m.root.regions)
 

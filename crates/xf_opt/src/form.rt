@@ -2,7 +2,7 @@
 ghost use Rattle.std.specs.Prelude.{◌≡◌, ◌&&◌, not};
 ghost use Rattle.xf_ir.specs.Lists.{every};
 ghost use Rattle.xf_ir.specs.View.{ops_of, regions_of};
-ghost use Rattle.xf_opt.specs.Form.{is_width, is_i32, has_few, is_one_i32, is_addition, is_step_kind, is_step, are_steps, are_parameters, is_block, is_one_block, is_head, is_function, is_one_function, holds_one_function, is_plain_module, is_first_form};
+ghost use Rattle.xf_opt.specs.Form.{is_i32_width, is_i32, is_i32_at_most, is_one_i32, is_addition, is_step_kind, is_step, are_steps, are_parameters, is_plain_block, is_one_block, is_plain_head, is_plain_function, is_one_function, holds_one_function, is_plain_module, is_first_form};
 
 use xf_ir::{Block, Kind, Module, Op};
 use xf_type::{BinKind, PayloadType, Width};
@@ -10,12 +10,12 @@ use xf_type::{BinKind, PayloadType, Width};
 /// The number that the function has fewer arguments than.
 const PARAMETERS_END: usize = 1 << 32;
 
-/// How many operations the function holds at most: as many as a payload may have, without the module
+/// How many operations the function holds at most: as many as a payload may have, but for the module
 /// and the function itself.
 const MOST_STEPS: usize = 999_998;
 
-fn is_width(width: Width) -> bool
-    ensures { result ≡ is_width width }
+fn is_i32_width(width: Width) -> bool
+    ensures { result ≡ is_i32_width width }
 {
     match width {
         Width::I32 => true,
@@ -27,7 +27,7 @@ fn is_i32(ty: &PayloadType) -> bool
     ensures { result ≡ is_i32 ty.now }
 {
     match ty {
-        PayloadType::Scalar(width) => is_width(*width),
+        PayloadType::Scalar(width) => is_i32_width(*width),
         PayloadType::Tensor(_) => false,
     }
 }
@@ -54,8 +54,8 @@ fn is_one_i32(types: &[PayloadType]) -> bool
 }
 
 /// Whether there is one type at most, i32.
-fn has_few(types: &[PayloadType]) -> bool
-    ensures { result ≡ has_few types.now }
+fn is_i32_at_most(types: &[PayloadType]) -> bool
+    ensures { result ≡ is_i32_at_most types.now }
 {
     match types {
         [] => true,
@@ -72,13 +72,14 @@ fn is_addition(kind: BinKind) -> bool
     }
 }
 
+/// Whether it is a return, a constant or an addition.
 fn is_step_kind(kind: &Kind) -> bool
     ensures { result ≡ is_step_kind kind.now }
 {
     match kind {
         Kind::Return => true,
-        Kind::Constant { width, .. } => is_width(*width),
-        Kind::Binary { kind, width } => is_addition(*kind) && is_width(*width),
+        Kind::Constant { width, .. } => is_i32_width(*width),
+        Kind::Binary { kind, width } => is_addition(*kind) && is_i32_width(*width),
         _ => false,
     }
 }
@@ -90,7 +91,7 @@ fn is_step(op: &Op) -> bool
 {
     is_step_kind(&op.kind)
         && (op.attrs.as_slice().is_empty()
-            && (has_few(op.results.as_slice()) && op.regions.is_empty()))
+            && (is_i32_at_most(op.results.as_slice()) && op.regions.is_empty()))
 }
 
 fn are_steps(ops: &[Op]) -> bool
@@ -111,9 +112,9 @@ fn are_parameters(types: &[PayloadType]) -> bool
 }
 
 /// Whether it is the block of such a function.
-#[tactic(auto, using(crate::proofs::FormLists::as_long))]
-fn is_block(block: &Block) -> bool
-    ensures { result ≡ is_block block.now.args block.now.ops }
+#[tactic(auto, using(crate::proofs::FormLists::as_many))]
+fn is_plain_block(block: &Block) -> bool
+    ensures { result ≡ is_plain_block block.now.args block.now.ops }
 {
     are_parameters(block.args.as_slice())
         && (are_steps(&block.ops) && block.ops.len() <= MOST_STEPS)
@@ -125,23 +126,28 @@ fn is_one_block(regions: &[Block]) -> bool
 {
     match regions {
         [] => false,
-        [first, rest @ ..] => is_block(first) && rest.is_empty(),
+        [first, rest @ ..] => is_plain_block(first) && rest.is_empty(),
     }
 }
 
-fn is_head(kind: &Kind) -> bool
-    ensures { result ≡ is_head kind.now }
+/// Whether it is a function that has a body and gives one value.
+fn is_plain_head(kind: &Kind) -> bool
+    ensures { result ≡ is_plain_head kind.now }
 {
     match kind {
-        Kind::Func { private, results, .. } => !*private && is_one_i32(results.as_slice()),
+        Kind::Func {
+            private,
+            results,
+            ..
+        } => !*private && is_one_i32(results.as_slice()),
         _ => false,
     }
 }
 
-fn is_function(op: &Op) -> bool
-    ensures { result ≡ is_function op.now.kind op.now.attrs op.now.regions }
+fn is_plain_function(op: &Op) -> bool
+    ensures { result ≡ is_plain_function op.now.kind op.now.attrs op.now.regions }
 {
-    is_head(&op.kind) && (op.attrs.as_slice().is_empty() && is_one_block(&op.regions))
+    is_plain_head(&op.kind) && (op.attrs.as_slice().is_empty() && is_one_block(&op.regions))
 }
 
 #[tactic(auto, using(crate::proofs::FormLists::no_operations))]
@@ -150,7 +156,7 @@ fn is_one_function(ops: &[Op]) -> bool
 {
     match ops {
         [] => false,
-        [first, rest @ ..] => is_function(first) && rest.is_empty(),
+        [first, rest @ ..] => is_plain_function(first) && rest.is_empty(),
     }
 }
 

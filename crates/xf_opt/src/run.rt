@@ -3,7 +3,7 @@ ghost use Rattle.std.specs.Prelude.{◌≡◌, ◌≤◌, ◌+◌, [], length, O
 ghost use Rattle.xf_ir.specs.Choices.{MayErase, weight_at};
 ghost use Rattle.xf_ir.specs.Edits.{edited};
 ghost use Rattle.xf_sem.specs.Keeps.{KeepsMeaning};
-ghost use Rattle.xf_text.specs.Form.{IsFirstForm};
+ghost use Rattle.xf_opt.specs.Form.{IsFirstForm};
 ghost use Rattle.xf_opt.specs.Run.{Runs};
 
 use crate::journal::{Entry, Journal};
