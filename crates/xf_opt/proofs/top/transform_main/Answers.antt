@@ -24,3 +24,6 @@ returns-in-Err-clause-fault g c = fault_told c.in-Err.refusal c.status.result c.
 
 pub returns-in-Err-clause-untouched : goal.returns-in-Err-clause-untouched
 returns-in-Err-clause-untouched g c = λ zero three nine. idle_left c.in-Err.refusal c.status.result _ _ _ _ c.status.ensures c.in-Err.ensures.plain three nine
+
+pub returns-in-Ok-clause-payload : goal.returns-in-Ok-clause-payload
+returns-in-Ok-clause-payload g c = payload_taken _ (asked_by c.in-Some.command) _ _ _ _ c.in-Some.ensures c.in-Ok.ensures.payload
