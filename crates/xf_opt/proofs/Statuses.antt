@@ -1,7 +1,6 @@
 -- What the status of a refusal says.
 use Rattle.std.proofs.Common.{◌≡◌, ◌≢◌, ℕ, List, [], Option, Some, None, refl, sym, ap, subst, inl, inr, ◌∙◌, arith}
 use Rattle.std.specs.Prelude.{IfSome}
-use Rattle.xf_host.specs.Count.{HasRisen}
 use Rattle.xf_span.specs.declared.fault.Fault.{Fault}
 use Rattle.xf_span.specs.Line.{line_of, HasLine}
 use Rattle.xf_opt.specs.declared.journal.Entry.{Entry}

@@ -1,5 +1,5 @@
 -- The fault of a file that holds no payload has what its line tells.
-use Rattle.std.proofs.Common.{◌≡◌, ◌⊎◌, ℕ, suc, List, [], ◌∷◌, length, take, drop, Option, Some, None, Bool, true, false, ◌==◌, ◌&&◌, if◌then◌else◌, inl, inr, refl, sym, ap, subst, ◌∙◌}
+use Rattle.std.proofs.Common.{◌≡◌, ℕ, suc, List, [], ◌∷◌, take, drop, Option, Some, None, Bool, true, false, ◌==◌, ◌&&◌, if◌then◌else◌, inl, inr, refl, sym, subst}
 use Rattle.xf_span.specs.declared.place.Place.{Place}
 use Rattle.xf_span.specs.declared.code.Code.{Code}
 use Rattle.xf_span.specs.declared.code.Code.TheVariants.{L1, L2, L3, A2, A3, A4, V1, V2, V3, V4, V5, V6, V7, V8, V9, V10, V11, V12, V13, V14, V15, V16}
@@ -15,14 +15,14 @@ use Rattle.xf_lex.specs.declared.front.Front.{Front}
 use Rattle.xf_lex.specs.declared.front.Front.TheVariants as front
 use Rattle.xf_lex.specs.Bytes.{is_digit, is_letter, is_word_byte, is_name_start, is_name_byte, is_mark, run, starts}
 use Rattle.xf_lex.specs.Fronts.{quoted_in, string_of, string_at, value_at, named_at, hash_at, shape_at, integer_of, sign_at, token_at}
-use Rattle.xf_lex.specs.Lexes.{HasFault, front_of, text_at}
+use Rattle.xf_lex.specs.Lexes.{HasFault, text_at}
 use Rattle.xf_read_base.specs.declared.verdict.Verdict.{Verdict}
 use Rattle.xf_read_base.specs.declared.verdict.Verdict.TheVariants.{Syntax, OutOfProfile, NotBuilt}
 use Rattle.xf_read.specs.declared.fault.Cause.{Cause}
 use Rattle.xf_read.specs.declared.fault.Cause.TheVariants as cause
-use Rattle.xf_read.specs.Spells.{judged, syntax_fault, mismatch_fault, twice_fault_or, undefined_fault_or, first_fault, Misspells}
+use Rattle.xf_read.specs.Spells.{judged, syntax_fault, mismatch_fault, twice_fault_or, undefined_fault_or, Misspells}
 use Rattle.xf_read.specs.Meant.{file_faults}
-use Rattle.xf_payload.specs.Payload.{rule_code, rule_fault, IsNoPayload, IsRefused, IsTellable}
+use Rattle.xf_payload.specs.Payload.{rule_code, IsNoPayload, IsRefused, IsTellable}
 
 -- ---- tokens
 

@@ -1,5 +1,5 @@
 -- A file holds one valid module or has one fault, and not both.
-use Rattle.std.proofs.Common.{◌≡◌, inl, inr, ℕ, suc, ◌<◌, List, length, Some, None, Ok, refl, sym, ap, subst, ◌∙◌, arith}
+use Rattle.std.proofs.Common.{◌≡◌, inl, inr, ℕ, suc, ◌<◌, List, length, Some, None, Ok, sym, ap, subst, ◌∙◌, arith}
 use Rattle.xf_span.specs.declared.place.Place.{Place}
 use Rattle.xf_span.specs.declared.fault.Fault.{Fault}
 use Rattle.xf_lex.specs.declared.token.Token.{Token}
@@ -16,7 +16,7 @@ use Rattle.xf_read.specs.Meant.{places_of}
 use Rattle.xf_read.specs.Spells.{HasPlaces}
 use Rattle.xf_read.specs.Syntax.{file_at}
 use Rattle.xf_read.proofs.Meanings.{spells_one, misspells_one, spells_or_not}
-use Rattle.xf_payload.specs.Payload.{IsPayload, BreaksARule, rule_fault}
+use Rattle.xf_payload.specs.Payload.{BreaksARule, rule_fault}
 use Rattle.xf_payload.specs.Laws.{HoldsOne, HasOneFault, HoldsOrNot}
 
 -- ---- places

@@ -1,5 +1,5 @@
 -- Why a file of which a part is refused holds no payload.
-use Rattle.std.proofs.Common.{◌≡◌, ◌≤◌, ℕ, List, length, inl, inr}
+use Rattle.std.proofs.Common.{◌≤◌, ℕ, List, length, inl, inr}
 use Rattle.xf_span.specs.declared.place.Place.{Place}
 use Rattle.xf_span.specs.declared.fault.TextFault.{TextFault}
 use Rattle.xf_span.specs.declared.fault.TextFault.TheVariants as text_fault
