@@ -18,11 +18,7 @@ fn filled(alloc: Global, text: &str, len: usize) -> Result<Vec<u8>, AllocError> 
 fn a_payload_past_the_limit_is_refused(rt: HostRuntime) -> Result<(), Fail> {
     let rows = [
         (LIMIT, writes(PRINTED), "at the limit"),
-        (
-            LIMIT + 1,
-            refuses("p:1:1: A8 TooLong\n"),
-            "past the limit",
-        ),
+        (LIMIT + 1, refuses("p:1:1: A8 TooLong\n"), "past the limit"),
     ];
     for (len, end, message) in rows {
         let payload = filled(rt.alloc(), PAYLOAD, len)?;
