@@ -1,11 +1,12 @@
 -- What a grammar reads is what it writes.
-use Rattle.std.proofs.Common.{◌≡◌, ◌⊎◌, inl, inr, ℕ, zero, suc, ◌+◌, ◌<◌, ◌≤◌, Bool, true, false, cond, List, [], ◌∷◌, ◌++◌, length, Option, Some, None, Result, Ok, Err, refl, sym, ap, subst, ◌∙◌, arith, slice_get}
+use Rattle.std.proofs.Common.{◌≡◌, ◌⊎◌, inl, inr, ℕ, zero, suc, ◌+◌, ◌-◌, ◌<◌, ◌≤◌, ◌==◌, Bool, true, false, cond, nat_lt, List, [], ◌∷◌, ◌++◌, length, Option, Some, None, Result, Ok, Err, refl, sym, ap, subst, ◌∙◌, arith, slice_get}
+use Rattle.std.proofs.lemmas.Bool.{ltb-true, lt-ltb}
 use Rattle.std.proofs.lemmas.Bool.Decides.{nat_tests}
 use Rattle.xf_lex.specs.declared.token.Token.{Token}
 use Rattle.xf_lex.specs.declared.token.TokenKind.{TokenKind}
 use Rattle.xf_lex.specs.declared.token.TokenKind.TheVariants as kind
 use Rattle.xf_grammar.specs.Tokens.{Seen, sees, seen, seen_of, telling, same_kind, is_kind, comma, looks}
-use Rattle.xf_grammar.specs.Reading.{Out, ◌>>=◌, Reader, more, one_or_more}
+use Rattle.xf_grammar.specs.Reading.{Out, ◌>>=◌, one_too_many, Reader, more, one_or_more}
 use Rattle.xf_grammar.specs.Place.{Steady}
 use Rattle.xf_grammar.specs.Grammar.{Grammar, finish, refuse, take, peek, both, listed, read, AllStand, first_seen, Writing, more_written, WritesMore, Writes, Tells}
 use Rattle.xf_grammar.proofs.Steady.{true_or_false, done, stops, later, by_seen, ask, chain, list_steady, past}
@@ -24,7 +25,7 @@ grammar_steady (take test on off) all h at =
     taken false all at r s p q = q
 grammar_steady (peek test on off) all h at = ask test all at _ _ (grammar_steady on all h at) (grammar_steady off all h at)
 grammar_steady (both g k) all h at = chain all at _ _ (grammar_steady g all h at) (λ x. grammar_steady k all x.0 x.1)
-grammar_steady (listed g) all h at = list_steady all (read g) h at (record { steady = λ h' n. grammar_steady g all h' n })
+grammar_steady (listed n full g) all h at = list_steady n full all (read g) h at (record { steady = λ ts h' i. grammar_steady g ts h' i })
 
 -- ---- tokens that stand
 
@@ -94,35 +95,47 @@ comma_is all at e = comma_token (slice_get all at) e
 abbrev Found : {T : Type 0} → Writing T → List Token → ℕ → ℕ → T → T → Type 0
 Found W all at next t u = (ps : List Seen) × (AllStand all at ps next × W at ps (seen all next) t u)
 
-more_found : {A D T : Type 0} (f : ℕ) (said : A → T) (item : Reader A D) (W : Writing T) (all : List Token) (h h' : A) (at next : ℕ)
+not_too_many : {A D : Type 0} (at : ℕ) (full : D) (o : Out A D) (y : A × ℕ) → one_too_many at full o ≡ Ok y → ⊥
+not_too_many at full (Ok x) y e = absurd cc
+not_too_many {A} {D} at full (Err d) y e = elim (either {A = A} {D = D} (d.0 == at) _ _ y e) [ inl w ↦ absurd (let v = w.1 in cc) | inr w ↦ absurd (let v = w.1 in cc) ]
+
+more_found : {A D T : Type 0} (f n : ℕ) (full : D) (said : A → T) (item : Reader A D) (W : Writing T) (all : List Token) (h h' : A) (at next : ℕ)
     → ((h h' : A) (at next : ℕ) → item all h at ≡ Ok (h', next) → Found W all at next (said h) (said h'))
-    → length all ≤ f + at → more f all item h at ≡ Ok (h', next)
-    → (ps : List (List Seen)) × (AllStand all at (more_written ps) next × WritesMore W at ps (seen all next) (said h) (said h'))
-more_found zero said item W all h h' at next find room e =
+    → length all ≤ f + at → more f n full all item h at ≡ Ok (h', next)
+    → (ps : List (List Seen)) × (AllStand all at (more_written ps) next × ((length ps ≤ n) × WritesMore W at ps (seen all next) (said h) (said h')))
+more_found zero n full said item W all h h' at next find room e =
     let a = answer_is h h' at next e in
-    ([], (a.1, (subst (λ n. is_kind comma (seen all n) ≡ false) a.1 (past all at comma (omega (arith, room))), ap said a.0)))
-more_found (suc f) said item W all h h' at next find room e =
+    ([], (a.1, (omega arith, (subst (λ n. is_kind comma (seen all n) ≡ false) a.1 (past all at comma (omega (arith, room))), ap said a.0))))
+more_found (suc f) n full said item W all h h' at next find room e =
     elim (either (is_kind comma (seen all at)) _ _ (h', next) e) [
-      | inl w ↦
-          let b = bind_ok (item all h (at + 1)) (λ x. more f all item x.0 x.1) (h', next) w.1 in
-          let x = find h b.0.0 (at + 1) b.0.1 b.1.0 in
-          let n = ends_at x.0 all (at + 1) b.0.1 x.1.0 in
-          let xs = more_found f said item W all b.0.0 h' b.0.1 next find (omega arith) b.1.1 in (
-            x.0 ∷ xs.0,
-            (
-              (comma_is all at w.0, join x.0 (more_written xs.0) all (at + 1) b.0.1 next x.1.0 xs.1.0),
+      | inl v ↦ elim (either (nat_lt 0 n) _ _ (h', next) v.1) [
+        | inl w ↦
+            let lt = ltb-true 0 n w.0 in
+            let b = bind_ok (item all h (at + 1)) (λ x. more f (n - 1) full all item x.0 x.1) (h', next) w.1 in
+            let x = find h b.0.0 (at + 1) b.0.1 b.1.0 in
+            let i = ends_at x.0 all (at + 1) b.0.1 x.1.0 in
+            let xs = more_found f (n - 1) full said item W all b.0.0 h' b.0.1 next find (omega arith) b.1.1 in
+            let few = xs.1.1.0 in (
+              x.0 ∷ xs.0,
               (
-                said b.0.0,
+                (comma_is all at v.0, join x.0 (more_written xs.0) all (at + 1) b.0.1 next x.1.0 xs.1.0),
                 (
-                  subst (λ y. W (at + 1) x.0 y (said h) (said b.0.0)) (first_is (more_written xs.0) all b.0.1 next xs.1.0) x.1.1,
-                  subst (λ m. WritesMore W m xs.0 (seen all next) (said b.0.0) (said h')) n xs.1.1,
+                  omega (arith, few, lt),
+                  (
+                    said b.0.0,
+                    (
+                      subst (λ y. W (at + 1) x.0 y (said h) (said b.0.0)) (first_is (more_written xs.0) all b.0.1 next xs.1.0) x.1.1,
+                      subst (λ m. WritesMore W m xs.0 (seen all next) (said b.0.0) (said h')) i xs.1.1.1,
+                    ),
+                  ),
                 ),
               ),
-            ),
-          )
+            )
+        | inr w ↦ absurd (not_too_many (at + 1) full (item all h (at + 1)) (h', next) w.1)
+      ]
       | inr w ↦
           let a = answer_is h h' at next w.1 in
-          ([], (a.1, (subst (λ n. is_kind comma (seen all n) ≡ false) a.1 w.0, ap said a.0)))
+          ([], (a.1, (omega arith, (subst (λ n. is_kind comma (seen all n) ≡ false) a.1 w.0, ap said a.0))))
     ]
 
 pub found : {A D T : Type 0} (g : Grammar A D T) (said : A → T) (all : List Token) (h h' : A) (at next : ℕ) → Tells said all g at → read g all h at ≡ Ok (h', next) → Found (Writes g) all at next (said h) (said h')
@@ -174,11 +187,11 @@ found (both g k) said all h h' at next t e =
         ),
       ),
     )
-found (listed g) said all h h' at next t e =
-    let b = bind_ok (read g all h at) (λ x. more (length all) all (read g) x.0 x.1) (h', next) e in
+found (listed m full g) said all h h' at next t e =
+    let b = bind_ok (read g all h at) (λ x. more (length all) m full all (read g) x.0 x.1) (h', next) e in
     let p = found g said all h b.0.0 at b.0.1 (t at) b.1.0 in
     let n = ends_at p.0 all at b.0.1 p.1.0 in
-    let q = more_found (length all) said (read g) (Writes g) all b.0.0 h' b.0.1 next (λ k k' m l o. found g said all k k' m l (t m) o) (omega arith) b.1.1 in (
+    let q = more_found (length all) m full said (read g) (Writes g) all b.0.0 h' b.0.1 next (λ k k' m l o. found g said all k k' m l (t m) o) (omega arith) b.1.1 in (
       p.0 ++ more_written q.0,
       (
         join p.0 (more_written q.0) all at b.0.1 next p.1.0 q.1.0,
@@ -191,8 +204,11 @@ found (listed g) said all h h' at next t e =
               (
                 refl,
                 (
-                  subst (λ y. Writes g at p.0 y (said h) (said b.0.0)) (first_is (more_written q.0) all b.0.1 next q.1.0) p.1.1,
-                  subst (λ m. WritesMore (Writes g) m q.0 (seen all next) (said b.0.0) (said h')) n q.1.1,
+                  q.1.1.0,
+                  (
+                    subst (λ y. Writes g at p.0 y (said h) (said b.0.0)) (first_is (more_written q.0) all b.0.1 next q.1.0) p.1.1,
+                    subst (λ m. WritesMore (Writes g) m q.0 (seen all next) (said b.0.0) (said h')) n q.1.1.1,
+                  ),
                 ),
               ),
             ),
@@ -207,22 +223,23 @@ found (listed g) said all h h' at next t e =
 abbrev Again : {A D T : Type 0} → (A → T) → Out A D → ℕ → T → Type 0
 Again {A} said r next u = (h' : A) × ((r ≡ Ok (h', next)) × (said h' ≡ u))
 
-more_again : {A D T : Type 0} (f : ℕ) (said : A → T) (item : Reader A D) (W : Writing T) (all : List Token) (h : A) (at next : ℕ) (ps : List (List Seen)) (u : T)
+more_again : {A D T : Type 0} (f n : ℕ) (full : D) (said : A → T) (item : Reader A D) (W : Writing T) (all : List Token) (h : A) (at next : ℕ) (ps : List (List Seen)) (u : T)
     → ((h : A) (at next : ℕ) (ps : List Seen) (u : T) → AllStand all at ps next → W at ps (seen all next) (said h) u → Again said (item all h at) next u)
-    → length all ≤ f + at → AllStand all at (more_written ps) next → WritesMore W at ps (seen all next) (said h) u → Again said (more f all item h at) next u
-more_again zero said item W all h at next [] u again room s w = (h, (ap (λ n. Ok (h, n)) s, w.1))
-more_again (suc f) said item W all h at next [] u again room s w =
+    → length all ≤ f + at → length ps ≤ n → AllStand all at (more_written ps) next → WritesMore W at ps (seen all next) (said h) u → Again said (more f n full all item h at) next u
+more_again zero n full said item W all h at next [] u again room few s w = (h, (ap (λ n. Ok (h, n)) s, w.1))
+more_again (suc f) n full said item W all h at next [] u again room few s w =
     let e : is_kind comma (seen all at) ≡ false = subst (λ n. is_kind comma (seen all n) ≡ false) (sym s) w.0 in
     (h, (rw e (ap (λ n. Ok (h, n)) s), w.1))
-more_again zero said item W all h at next (p ∷ ps) u again room s w = absurd (comma_within all at (ap (is_kind comma) s.0) (omega (arith, room)))
-more_again {A} {D} (suc f) said item W all h at next (p ∷ ps) u again room s w =
+more_again zero n full said item W all h at next (p ∷ ps) u again room few s w = absurd (comma_within all at (ap (is_kind comma) s.0) (omega (arith, room)))
+more_again {A} {D} (suc f) n full said item W all h at next (p ∷ ps) u again room few s w =
     let e : is_kind comma (seen all at) ≡ true = ap (is_kind comma) s.0 in
+    let lt : nat_lt 0 n ≡ true = lt-ltb 0 n (omega (arith, few)) in
     let m = split p (more_written ps) all (at + 1) next s.1 in
-    let n = ends_at p all (at + 1) m.0 m.1.0 in
+    let i = ends_at p all (at + 1) m.0 m.1.0 in
     let x = again h (at + 1) m.0 p w.0 m.1.0 (subst (λ y. W (at + 1) p y (said h) w.0) (sym (first_is (more_written ps) all m.0 next m.1.1)) w.1.0) in
-    let v = subst (λ t. WritesMore W m.0 ps (seen all next) t u) (sym x.1.1) (subst (λ k. WritesMore W k ps (seen all next) w.0 u) (sym n) w.1.1) in
-    let r = more_again f said item W all x.0 m.0 next ps u again (omega (arith, n)) m.1.1 v in
-    (r.0, (rw (e, x.1.0) r.1.0, r.1.1))
+    let v = subst (λ t. WritesMore W m.0 ps (seen all next) t u) (sym x.1.1) (subst (λ k. WritesMore W k ps (seen all next) w.0 u) (sym i) w.1.1) in
+    let r = more_again f (n - 1) full said item W all x.0 m.0 next ps u again (omega (arith, i)) (omega (arith, few)) m.1.1 v in
+    (r.0, (rw (e, lt, x.1.0) r.1.0, r.1.1))
 
 pub again : {A D T : Type 0} (g : Grammar A D T) (said : A → T) (all : List Token) (h : A) (at next : ℕ) (ps : List Seen) (u : T) → Tells said all g at → AllStand all at ps next → Writes g at ps (seen all next) (said h) u → Again said (read g all h at) next u
 again (finish add tell) said all h at next ps u t s w =
@@ -263,14 +280,14 @@ again (both g k) said all h at next ps u t s w =
     let d = subst (λ a. Writes k m.0 q (seen all next) a u) (sym x.1.1) (subst (λ i. Writes k i q (seen all next) v u) (sym n) c.1.1) in
     let r = again k said all x.0 m.0 next q u (t.1 m.0) m.1.1 d in
     (r.0, (rw x.1.0 r.1.0, r.1.1))
-again (listed g) said all h at next ps u t s w =
+again (listed o full g) said all h at next ps u t s w =
     let p = w.0 in
     let q = w.1.0 in
     let v = w.1.1.0 in
     let c = w.1.1.1 in
     let m = split p (more_written q) all at next (subst (λ qs. AllStand all at qs next) c.0 s) in
     let n = ends_at p all at m.0 m.1.0 in
-    let x = again g said all h at m.0 p v (t at) m.1.0 (subst (λ y. Writes g at p y (said h) v) (sym (first_is (more_written q) all m.0 next m.1.1)) c.1.0) in
-    let d = subst (λ a. WritesMore (Writes g) m.0 q (seen all next) a u) (sym x.1.1) (subst (λ i. WritesMore (Writes g) i q (seen all next) v u) (sym n) c.1.1) in
-    let r = more_again (length all) said (read g) (Writes g) all x.0 m.0 next q u (λ k i l qs b a z. again g said all k i l qs b (t i) a z) (omega arith) m.1.1 d in
+    let x = again g said all h at m.0 p v (t at) m.1.0 (subst (λ y. Writes g at p y (said h) v) (sym (first_is (more_written q) all m.0 next m.1.1)) c.1.1.0) in
+    let d = subst (λ a. WritesMore (Writes g) m.0 q (seen all next) a u) (sym x.1.1) (subst (λ i. WritesMore (Writes g) i q (seen all next) v u) (sym n) c.1.1.1) in
+    let r = more_again (length all) o full said (read g) (Writes g) all x.0 m.0 next q u (λ k i l qs b a z. again g said all k i l qs b (t i) a z) (omega arith) c.1.0 m.1.1 d in
     (r.0, (rw x.1.0 r.1.0, r.1.1))

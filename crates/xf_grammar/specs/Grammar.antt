@@ -1,5 +1,5 @@
 -- Grammars as data: what is read of a list of tokens, and what tokens a grammar writes. A choice goes by the next token alone.
-use Rattle.std.specs.Prelude.{◌≡◌, ◌⊎◌, ℕ, ◌+◌, List, [], ◌∷◌, ◌++◌, length, Ok, Err, Bool, true, false, if◌then◌else◌}
+use Rattle.std.specs.Prelude.{◌≡◌, ◌⊎◌, ℕ, ◌+◌, ◌≤◌, List, [], ◌∷◌, ◌++◌, length, Ok, Err, Bool, true, false, if◌then◌else◌}
 use Rattle.xf_lex.specs.declared.token.Token.{Token}
 use Rattle.xf_grammar.specs.Tokens.{Seen, sees, seen, is_kind, comma}
 use Rattle.xf_grammar.specs.Reading.{◌>>=◌, Reader, one_or_more}
@@ -16,8 +16,8 @@ pub data Grammar (A D T : Type 0) : Type 0 where
   peek : (test : Seen → Bool) (on off : Grammar A D T) → Grammar A D T
   -- one behind the other
   both : (first second : Grammar A D T) → Grammar A D T
-  -- one item or several, with commas between them
-  listed : (item : Grammar A D T) → Grammar A D T
+  -- one item and others, so many at most, with commas between them; where one more begins, this is due
+  listed : (others : ℕ) (full : D) (item : Grammar A D T) → Grammar A D T
 
 -- ---- reading
 
@@ -27,7 +27,7 @@ read (refuse due) all h at = Err (at, due)
 read (take test on off) all h at = if test (seen all at) then read (on (seen all at) at) all h (at + 1) else read off all h at
 read (peek test on off) all h at = if test (seen all at) then read on all h at else read off all h at
 read (both g k) all h at = read g all h at >>= λ x. read k all x.0 x.1
-read (listed g) all h at = one_or_more all (read g) h at
+read (listed n full g) all h at = one_or_more n full all (read g) h at
 
 -- ---- writing
 
@@ -63,8 +63,8 @@ Writes (take test on off) at ps y t u =
 Writes (peek test on off) at ps y t u = ((test (first_seen ps y) ≡ true) × Writes on at ps y t u) ⊎ ((test (first_seen ps y) ≡ false) × Writes off at ps y t u)
 Writes {A} {D} {T} (both g k) at ps y t u =
     (p : List Seen) × ((q : List Seen) × ((v : T) × ((ps ≡ p ++ q) × (Writes g at p (first_seen q y) t v × Writes k (at + length p) q y v u))))
-Writes {A} {D} {T} (listed g) at ps y t u =
-    (p : List Seen) × ((rest : List (List Seen)) × ((v : T) × ((ps ≡ p ++ more_written rest) × (Writes g at p (first_seen (more_written rest) y) t v × WritesMore (Writes g) (at + length p) rest y v u))))
+Writes {A} {D} {T} (listed n full g) at ps y t u =
+    (p : List Seen) × ((rest : List (List Seen)) × ((v : T) × ((ps ≡ p ++ more_written rest) × ((length rest ≤ n) × (Writes g at p (first_seen (more_written rest) y) t v × WritesMore (Writes g) (at + length p) rest y v u)))))
 
 -- from a number on, what is added to what was read is what is told
 abbrev pub Tells : {A D T : Type 0} → (A → T) → List Token → Grammar A D T → ℕ → Type 0
@@ -73,7 +73,7 @@ Tells said all (refuse due) at = Unit {0}
 Tells said all (take test on off) at = (test (seen all at) ≡ true → Tells said all (on (seen all at) at) (at + 1)) × (test (seen all at) ≡ false → Tells said all off at)
 Tells said all (peek test on off) at = (test (seen all at) ≡ true → Tells said all on at) × (test (seen all at) ≡ false → Tells said all off at)
 Tells said all (both g k) at = Tells said all g at × ((n : ℕ) → Tells said all k n)
-Tells said all (listed g) at = (n : ℕ) → Tells said all g n
+Tells said all (listed others full g) at = (n : ℕ) → Tells said all g n
 
 -- ---- short forms
 
@@ -84,7 +84,3 @@ skip = finish (λ h. h) (λ t. t)
 -- a token that passes a test, of which nothing is said
 abbrev pub token : {A D T : Type 0} → D → (Seen → Bool) → Grammar A D T
 token due test = take test (λ x at. skip) (refuse due)
-
--- items with commas between them, possibly none, and the token that ends them, which is due behind an item
-abbrev pub until : {A D T : Type 0} → (Seen → Bool) → D → Grammar A D T → Grammar A D T
-until close due item = take close (λ x at. skip) (both (listed item) (token due close))

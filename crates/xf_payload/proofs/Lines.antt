@@ -20,7 +20,8 @@ use Rattle.xf_read_base.specs.declared.verdict.Verdict.{Verdict}
 use Rattle.xf_read_base.specs.declared.verdict.Verdict.TheVariants.{Syntax, OutOfProfile, NotBuilt}
 use Rattle.xf_read.specs.declared.fault.Cause.{Cause}
 use Rattle.xf_read.specs.declared.fault.Cause.TheVariants as cause
-use Rattle.xf_read.specs.Spells.{judged, syntax_fault, mismatch_fault, twice_fault_or, undefined_fault_or, Misspells}
+use Rattle.xf_read_base.specs.Stops.{judged}
+use Rattle.xf_read.specs.Spells.{syntax_fault, mismatch_fault, twice_fault_or, undefined_fault_or, Misspells}
 use Rattle.xf_read.specs.Meant.{file_faults}
 use Rattle.xf_payload.specs.Payload.{rule_code, IsNoPayload, IsRefused, IsTellable}
 

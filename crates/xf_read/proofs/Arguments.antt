@@ -7,7 +7,8 @@ use Rattle.xf_lex.specs.declared.token.Token.{Token}
 use Rattle.xf_read_base.specs.declared.parts.Ref.{Ref}
 use Rattle.xf_read.specs.declared.scope.Named.{Named}
 use Rattle.xf_read.specs.Names.{earlier, argument_named, with_args, args_twice}
-use Rattle.xf_read.specs.Scopes.{text, Scope, with_name}
+use Rattle.xf_read_base.specs.Values.{text}
+use Rattle.xf_read.specs.Scopes.{Scope, with_name}
 use Rattle.xf_read.proofs.Earlier.{earlier_regrouped}
 
 module _ (all : List Token) (n i : ℕ) (ts : List PayloadType) (rs : List Ref) (d : Ref) (name : List ℕ) (named : Named) (old new : Scope) (lt : i < length rs) (p : name ≡ text all (get_or rs i d).token) (q : named ≡ argument_named n i (slice_get ts i)) (e : new ≡ with_name name named old)

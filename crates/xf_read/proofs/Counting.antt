@@ -4,8 +4,8 @@ use Rattle.std.specs.Prelude.{if◌then◌else◌, codes}
 use Rattle.std.proofs.lemmas.Bool.{ltb-true}
 use Rattle.xf_lex.specs.declared.token.Token.{Token}
 use Rattle.xf_grammar.specs.Tokens.{Seen, seen, looks, says, comma, open_brace, close_brace}
-use Rattle.xf_grammar.specs.Reading.{Out, ◌>>=◌, Reader, more}
-use Rattle.xf_grammar.specs.Grammar.{Grammar, finish, refuse, take, peek, both, listed, read}
+use Rattle.xf_grammar.specs.Reading.{Out, ◌>>=◌}
+use Rattle.xf_grammar.proofs.Kept.{Keeps, Has, kept}
 use Rattle.xf_read_base.specs.declared.due.Due.{Due}
 use Rattle.xf_read_base.specs.declared.due.Due.TheVariants as due
 use Rattle.xf_read_base.specs.declared.list.Item.TheVariants as item
@@ -16,7 +16,7 @@ use Rattle.xf_read_base.specs.declared.row.Row.{Row}
 use Rattle.xf_read_base.specs.declared.row.Row.TheVariants as row
 use Rattle.xf_read_base.specs.Heads.{head_at}
 use Rattle.xf_read_base.specs.Reading.{dictionary_at}
-use Rattle.xf_read_base.specs.Rules.{kind_rule, entry_width_rule, entry_number_rule, entry_value_rule, entry_rule, until_rule, dictionary_rule}
+use Rattle.xf_read_base.specs.Rules.{Rule, kind_rule, entry_width_rule, entry_number_rule, entry_value_rule, entry_rule, until_rule, dictionary_rule}
 use Rattle.xf_read.specs.declared.fault.Cause.{Cause}
 use Rattle.xf_read.specs.declared.fault.Cause.TheVariants as cause
 use Rattle.xf_read.specs.declared.tree.File.{File}
@@ -27,75 +27,37 @@ use Rattle.xf_read.specs.Tree.{Nodes, Bodies, no_bodies, body, Block}
 
 -- ---- what a grammar keeps
 
--- what is added to what was read leaves this as it is
-abbrev pub Keeps : {A B D T : Type 0} → (A → B) → Grammar A D T → Type 0
-Keeps {A} said (finish add tell) = (h : A) → said (add h) ≡ said h
-Keeps said (refuse due) = Unit {0}
-Keeps said (take test on off) = ((x : Seen) (n : ℕ) → Keeps said (on x n)) × Keeps said off
-Keeps said (peek test on off) = Keeps said on × Keeps said off
-Keeps said (both g k) = Keeps said g × Keeps said k
-Keeps said (listed g) = Keeps said g
-
-abbrev Kept : {A B D : Type 0} → (A → B) → A → Out A D → Type 0
-Kept said h (Ok x) = said x.0 ≡ said h
-Kept said h (Err e) = Unit {0}
-
-kept_if : {A B D : Type 0} (said : A → B) (h : A) (b : Bool) (x y : Out A D) → Kept said h x → Kept said h y → Kept said h (if b then x else y)
-kept_if said h true x y p q = p
-kept_if said h false x y p q = q
-
-kept_then : {A B D : Type 0} (said : A → B) (h : A) (r : Out A D) (f : A × ℕ → Out A D) → Kept said h r → ((x : A × ℕ) → said x.0 ≡ said h → Kept said h (f x)) → Kept said h (r >>= f)
-kept_then said h (Ok x) f p q = q x p
-kept_then said h (Err e) f p q = tt
-
-kept_from : {A B D : Type 0} (said : A → B) (g h : A) (r : Out A D) → said g ≡ said h → Kept said g r → Kept said h r
-kept_from said g h (Ok x) e p = p ∙ e
-kept_from said g h (Err i) e p = tt
-
-kept_more : {A B D : Type 0} (said : A → B) (item : Reader A D) (all : List Token) → ((h : A) (at : ℕ) → Kept said h (item all h at)) → (f : ℕ) (h : A) (at : ℕ) → Kept said h (more f all item h at)
-kept_more said item all k zero h at = refl
-kept_more said item all k (suc f) h at =
-    kept_if said h (looks all at comma) (item all h (at + 1) >>= λ x. more f all item x.0 x.1) (Ok (h, at))
-    (kept_then said h (item all h (at + 1)) (λ x. more f all item x.0 x.1) (k h (at + 1)) (λ x e. kept_from said x.0 h (more f all item x.0 x.1) e (kept_more said item all k f x.0 x.1)))
-    refl
-
-pub kept : {A B D T : Type 0} (said : A → B) (g : Grammar A D T) → Keeps said g → (all : List Token) (h : A) (at : ℕ) → Kept said h (read g all h at)
-kept said (finish add tell) k all h at = k h
-kept said (refuse due) k all h at = tt
-kept said (take test on off) k all h at =
-    kept_if said h (test (seen all at)) (read (on (seen all at) at) all h (at + 1)) (read off all h at) (kept said (on (seen all at) at) (k.0 (seen all at) at) all h (at + 1)) (kept said off k.1 all h at)
-kept said (peek test on off) k all h at = kept_if said h (test (seen all at)) (read on all h at) (read off all h at) (kept said on k.0 all h at) (kept said off k.1 all h at)
-kept said (both g j) k all h at =
-    kept_then said h (read g all h at) (λ x. read j all x.0 x.1) (kept said g k.0 all h at) (λ x e. kept_from said x.0 h (read j all x.0 x.1) e (kept said j k.1 all x.0 x.1))
-kept said (listed g) k all h at =
-    kept_then said h (read g all h at) (λ x. more (length all) all (read g) x.0 x.1) (kept said g k all h at)
-    (λ x e. kept_from said x.0 h (more (length all) all (read g) x.0 x.1) e (kept_more said (read g) all (λ u n. kept said g k all u n) (length all) x.0 x.1))
-
 -- attributes leave the row and the types as they are
-width_keeps : (name : ℕ) (bytes : List ℕ) (negative : Bool) (at : ℕ) (x : Seen) → Keeps may_end_open (entry_width_rule name bytes negative at x)
+abbrev Ends : Bool → Parts → Type 0
+Ends b p = may_end_open p ≡ b
+
+abbrev Keep : Bool → Rule → Type 0
+Keep b rule = (all : List Token) (at : ℕ) → Keeps (Ends b) all rule at
+
+width_keeps : (b : Bool) (name : ℕ) (bytes : List ℕ) (negative : Bool) (digits : ℕ) (x : Seen) → Keep b (entry_width_rule name bytes negative digits x)
 unfolding entry_width_rule
-width_keeps name bytes negative at x = (((λ z n. λ h. refl), tt), tt)
+width_keeps b name bytes negative digits x all at = (λ e. (λ f h q. q, λ f. tt), λ e. tt)
 
-number_keeps : (name : ℕ) (bytes : List ℕ) (negative : Bool) (d : Due) → Keeps may_end_open (entry_number_rule name bytes negative d)
+number_keeps : (b : Bool) (name : ℕ) (bytes : List ℕ) (negative : Bool) (d : Due) → Keep b (entry_number_rule name bytes negative d)
 unfolding entry_number_rule
-number_keeps name bytes negative d = (((λ x at. ((λ c n. width_keeps name bytes negative at x), λ h. refl)), tt), tt)
+number_keeps b name bytes negative d all at = (λ e. (λ f. (λ c. width_keeps b name bytes negative at (seen all at) all _, λ c h q. q), λ f. tt), λ e. tt)
 
-value_keeps : (name : ℕ) (bytes : List ℕ) → Keeps may_end_open (entry_value_rule name bytes)
+value_keeps : (b : Bool) (name : ℕ) (bytes : List ℕ) → Keep b (entry_value_rule name bytes)
 unfolding entry_value_rule
-value_keeps name bytes =
-    ((λ x n. λ h. refl), ((λ x n. λ h. refl), ((λ x n. λ h. refl), ((λ x n. λ h. refl), ((λ x n. number_keeps name bytes true due.Other), number_keeps name bytes false due.AttributeValue)))))
+value_keeps b name bytes all at =
+    (λ e h q. q, λ e. (λ f h q. q, λ f. (λ g h q. q, λ g. (λ i h q. q, λ i. (λ j. number_keeps b name bytes true due.Other all (at + 1), λ j. number_keeps b name bytes false due.AttributeValue all at)))))
 
-entry_keeps : Keeps may_end_open entry_rule
+entry_keeps : (b : Bool) → Keep b entry_rule
 unfolding entry_rule
-entry_keeps = ((λ x at. ((λ e n. value_keeps at _), λ h. refl)), tt)
+entry_keeps b all at = (λ e. (λ f. value_keeps b at _ all _, λ f h q. q), λ e. tt)
 
-until_keeps : Keeps may_end_open (until_rule close_brace due.Other item.Entry)
+until_keeps : (b : Bool) → Keep b (until_rule close_brace due.Other item.Entry)
 unfolding until_rule kind_rule
-until_keeps = ((λ x n. λ h. refl), (entry_keeps, ((λ x n. λ h. refl), tt)))
+until_keeps b all at = (λ e h q. q, λ e. (λ n. entry_keeps b all n, λ n. (λ f h q. q, λ f. tt)))
 
-dictionary_keeps : Keeps may_end_open dictionary_rule
+dictionary_keeps : (b : Bool) → Keep b dictionary_rule
 unfolding dictionary_rule
-dictionary_keeps = ((λ x n. until_keeps), λ h. refl)
+dictionary_keeps b all at = (λ e. until_keeps b all (at + 1), λ e h q. q)
 
 -- ---- numbers of operations
 
@@ -182,17 +144,17 @@ same_bodies : (p q : Parts) (bs : Bodies) → may_end_open p ≡ may_end_open q 
 same_bodies p q no_bodies e = refl
 same_bodies p q (body ns close rest) e = let a = same_yield p q ns e in let b = same_bodies p q rest e in omega arith
 
-part_kept : (p : Parts) (o : Out Parts Due) → Kept may_end_open p o → Kept may_end_open p (part o)
-part_kept p (Ok x) k = k
-part_kept p (Err e) k = tt
+part_kept : (b : Bool) (o : Out Parts Due) → Has (Ends b) o → Has (Ends b) (part o)
+part_kept b (Ok x) k = k
+part_kept b (Err e) k = tt
 
-tail_kept : (all : List Token) (r : Row) (p : Parts) (at : ℕ) → Kept may_end_open p (tail_at all r p at)
-tail_kept all row.For p at = part_kept p (dictionary_at all p at) (kept may_end_open dictionary_rule dictionary_keeps all p at)
-tail_kept all row.If p at = part_kept p (dictionary_at all p at) (kept may_end_open dictionary_rule dictionary_keeps all p at)
+tail_kept : (all : List Token) (r : Row) (p : Parts) (at : ℕ) → Has (Ends (may_end_open p)) (tail_at all r p at)
+tail_kept all row.For p at = part_kept (may_end_open p) (dictionary_at all p at) (kept (Ends (may_end_open p)) dictionary_rule all p at (dictionary_keeps (may_end_open p) all at) refl)
+tail_kept all row.If p at = part_kept (may_end_open p) (dictionary_at all p at) (kept (Ends (may_end_open p)) dictionary_rule all p at (dictionary_keeps (may_end_open p) all at) refl)
 tail_kept all r p at = refl
 
-keeps_it : (p : Parts) (o : Out Parts Cause) (x : Parts × ℕ) → o ≡ Ok x → Kept may_end_open p o → may_end_open x.0 ≡ may_end_open p
-keeps_it p o x e k = subst (Kept may_end_open p) e k
+keeps_it : (p : Parts) (o : Out Parts Cause) (x : Parts × ℕ) → o ≡ Ok x → Has (Ends (may_end_open p)) o → may_end_open x.0 ≡ may_end_open p
+keeps_it p o x e k = subst (Has (Ends (may_end_open p))) e k
 
 many_not : {A : Type 0} (at : ℕ) (r : Out A Cause) (x : A × ℕ) → too_many at r ≡ Ok x → ⊥
 many_not at (Ok y) x e = absurd (cc)

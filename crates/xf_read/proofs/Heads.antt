@@ -5,7 +5,8 @@ use Rattle.xf_read_base.specs.declared.parts.Parts.{Parts}
 use Rattle.xf_ir.specs.Tree.{Regions}
 use Rattle.xf_read.specs.declared.head.Head.{Head}
 use Rattle.xf_read.specs.Meant.{bodies_meant, tree_meant}
-use Rattle.xf_read.specs.Names.{op_name, earlier, with_faults, twice_fault, args_twice, entries_twice, names_twice, inside, head_faults}
+use Rattle.xf_read_base.specs.Attributes.{entries_twice}
+use Rattle.xf_read.specs.Names.{op_name, earlier, with_faults, twice_fault, args_twice, names_twice, inside, head_faults}
 use Rattle.xf_read.specs.Scopes.{Scope}
 use Rattle.xf_read.specs.Tree.{Tree}
 use Rattle.xf_read.specs.Types.{args_by}

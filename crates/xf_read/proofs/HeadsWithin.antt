@@ -25,7 +25,7 @@ use Rattle.xf_read_base.specs.Words.{spelling, opening_of}
 use Rattle.xf_read_base.specs.Rows.{slots}
 use Rattle.xf_read_base.specs.Parts.{no_parts, ref, count_of, with_symbol, with_literal, with_define, with_arg, with_use, with_entry}
 use Rattle.xf_read_base.specs.Rules.{Rule, kind_rule, word_rule, symbol_rule, module_name_rule, function_name_rule, argument_rule, use_rule, width_rule, result_rule, predicate_rule, number_rule, truth_rule, literal_rule, entry_width_rule, entry_number_rule, entry_value_rule, entry_rule, param_rule, pair_rule, item_rule, list_rule, until_rule, enclosed_rule, dictionary_rule, attributes_rule, result_types_rule, call_results_rule, function_results_rule, listed_results_rule, if_results_rule, operands_rule, iter_args_rule, loop_width_rule, slot_rule, slots_rule, has_operations, row_opened, row_rule, defines_rule, head_rule}
-use Rattle.xf_read.proofs.KeptLemmas.{Keeps}
+use Rattle.xf_grammar.proofs.Kept.{Keeps}
 use Rattle.xf_read.proofs.OfKind.{IsOf, LiteralOf, ValueOf, EntryOf, NameOf, UseOf, Inside}
 
 -- ---- what is added

@@ -6,16 +6,13 @@ pub mod Heads
 pub mod HeadsWithin
 pub mod IsRead
 pub mod Joining
-pub mod KeptLemmas
 pub mod Meanings
 pub mod OfKind
 pub mod Place
 pub mod ReadAgain
 pub mod SameTypes
 pub mod Scoping
-pub mod Sorting
 pub mod Steps
-pub mod Stops
 pub mod TailLemmas
 pub mod Texts
 pub mod TreeLemmas

@@ -1,12 +1,11 @@
 -- The place of a fault: no text that agrees through that token is read.
 use Rattle.std.proofs.Common.{◌≡◌, ℕ, zero, suc, ◌+◌, ◌<◌, ◌==◌, Bool, true, false, cond, nat_lt, List, length, Result, Ok, Err, refl, sym, ap, subst, ◌∙◌, arith, inl, inr}
-use Rattle.std.proofs.lemmas.Bool.{eqb-true}
 use Rattle.std.specs.Prelude.{codes}
 use Rattle.xf_lex.specs.declared.token.Token.{Token}
 use Rattle.xf_grammar.specs.Tokens.{is_kind, is_word, open_brace, close_brace}
 use Rattle.xf_grammar.specs.Reading.{Out}
 use Rattle.xf_grammar.specs.Place.{Agree, reach, Steady}
-use Rattle.xf_grammar.proofs.Steady.{true_or_false, done, stops, later, ask, chain}
+use Rattle.xf_grammar.proofs.Steady.{done, stops, later, ask, chain, too_many_steady}
 use Rattle.xf_read_base.specs.declared.due.Due.{Due}
 use Rattle.xf_read_base.specs.declared.due.Due.TheVariants as due
 use Rattle.xf_read_base.specs.declared.parts.Parts.{Parts}
@@ -42,53 +41,12 @@ part_steady all at r s = record {
   same = λ us a. let a' : Agree (suc (reach (r all))) all us = subst (λ n. Agree (suc n) all us) (reach_part (r all)) a in ap part (s.same us a');
 }
 
--- ---- one operation too many
-
-abbrev first_fault : {A : Type 0} → ℕ → Out A Cause → Bool
-first_fault at (Ok x) = false
-first_fault at (Err e) = e.0 == at
-
-first_kept : {A : Type 0} (at : ℕ) (o : Out A Cause) → first_fault at o ≡ true → too_many at o ≡ o
-first_kept at (Ok x) e = absurd cc
-first_kept at (Err i) e = rw e refl
-
-first_lost : {A : Type 0} (at : ℕ) (o : Out A Cause) → first_fault at o ≡ false → too_many at o ≡ Err (at, cause.TooManyOps)
-first_lost at (Ok x) e = refl
-first_lost at (Err i) e = rw e refl
-
-first_reach : {A : Type 0} (at : ℕ) (o : Out A Cause) → first_fault at o ≡ true → reach o ≡ at
-first_reach at (Ok x) e = absurd cc
-first_reach at (Err i) e = eqb-true i.0 at e
-
--- a fault at the first token is one in each text that agrees through it
-lost_both : {A : Type 0} (all us : List Token) (at : ℕ) (r : List Token → Out A Cause) → ((ts : List Token) → Steady ts at r) → Agree (suc at) all us → first_fault at (r all) ≡ false → first_fault at (r us) ≡ false
-lost_both all us at r s a e = elim (true_or_false (first_fault at (r us))) [
-  | inl p ↦ absurd (
-      let n = first_reach at (r us) p in
-      let back : Agree (suc (reach (r us))) us all = λ i lt. sym (a i (omega (arith, n))) in
-      let q = ap (first_fault at) ((s us).same all back) in
-      cc)
-  | inr p ↦ p
-]
-
-too_many_steady : {A : Type 0} (all : List Token) (at : ℕ) (r : List Token → Out A Cause) → ((ts : List Token) → Steady ts at r) → Steady all at (λ ts. too_many at (r ts))
-too_many_steady all at r s = elim (true_or_false (first_fault at (r all))) [
-  | inl e ↦ let k = first_kept at (r all) e in record {
-    forward = rw k (s all).forward;
-    same = λ us a. let a' : Agree (suc (reach (r all))) all us = subst (λ o. Agree (suc (reach o)) all us) k a in ap (too_many at) ((s all).same us a');
-  }
-  | inr e ↦ let k = first_lost at (r all) e in record {
-    forward = rw k (omega arith);
-    same = λ us a. let a' : Agree (suc at) all us = subst (λ o. Agree (suc (reach o)) all us) k a in first_lost at (r us) (lost_both all us at r s a' e) ∙ sym k;
-  }
-]
-
 begins_steady : (l : Level) (count : ℕ) (all : List Token) (at : ℕ) → Steady all at (λ ts. begins_at ts l count at)
 unfolding begins_at
 begins_steady l count all at =
     let r : List Token → Out Parts Cause = λ ts. part (head_at ts l at) in
     let s : (ts : List Token) → Steady ts at r = λ ts. part_steady ts at (λ us. head_at us l at) (head_steady l ts at) in
-    either (nat_lt count most_operations) all at r (λ ts. too_many at (r ts)) (s all) (too_many_steady all at r s)
+    either (nat_lt count most_operations) all at r (λ ts. too_many at (r ts)) (s all) (too_many_steady all at cause.TooManyOps r s)
 
 -- ---- bodies
 

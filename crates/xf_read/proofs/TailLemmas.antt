@@ -9,7 +9,7 @@ use Rattle.xf_read_base.specs.declared.list.Item.TheVariants as item
 use Rattle.xf_read_base.specs.declared.parts.Parts.{Parts}
 use Rattle.xf_read_base.specs.Rules.{Rule, kind_rule, entry_width_rule, entry_number_rule, entry_value_rule, entry_rule, until_rule, dictionary_rule}
 use Rattle.xf_read_base.specs.Reading.{dictionary_at}
-use Rattle.xf_read.proofs.KeptLemmas.{Keeps, Has, kept}
+use Rattle.xf_grammar.proofs.Kept.{Keeps, Has, kept}
 
 -- the same row and the same results
 abbrev pub SameRow : Parts → Parts → Type 0

@@ -16,13 +16,14 @@ use Rattle.xf_read_base.specs.Rules.{dictionary_rule, head_rule}
 use Rattle.xf_read_base.specs.Heads.{head_at}
 use Rattle.xf_read_base.specs.Reading.{dictionary_at}
 use Rattle.xf_read.specs.declared.fault.Cause.{Cause}
+use Rattle.xf_read.specs.declared.fault.Cause.TheVariants as cause
 use Rattle.xf_read.specs.declared.fault.SyntaxFault.{SyntaxFault}
 use Rattle.xf_read.specs.declared.tree.File.{File}
 use Rattle.xf_read.specs.Tree.{Nodes, Bodies, Tree, Block}
-use Rattle.xf_read.specs.Syntax.{Gives, Counted, From, part, most_open, most_operations, too_many, begins_at, inside, behind, lacks_yield, yielded, closed, braced, single, with_else, bodies_at, tail_at, node_at, closes, nodes_at, is_end, ended, written_file, unwritten_file, file_at}
+use Rattle.xf_read.specs.Syntax.{Gives, Counted, From, part, most_open, most_operations, begins_at, inside, behind, lacks_yield, yielded, closed, braced, single, with_else, bodies_at, tail_at, node_at, closes, nodes_at, is_end, ended, written_file, unwritten_file, file_at}
 use Rattle.xf_read.specs.Laws.{IsText}
 use Rattle.xf_read.specs.Within.{ReadWithin}
-use Rattle.xf_read.proofs.KeptLemmas.{Has, has_either, has_behind, kept}
+use Rattle.xf_grammar.proofs.Kept.{Has, has_either, has_behind, too_many_has, kept}
 use Rattle.xf_read.proofs.HeadsWithin.{dictionary_stays, head_stays, nothing_inside}
 use Rattle.xf_read.proofs.OfKind.{at_token, Inside, NodesOf, BodiesOf, FileOf, file_within}
 
@@ -51,16 +52,12 @@ part_has : {A : Type 0} (P : A → Type 0) (o : Out A Due) → Has P o → Has P
 part_has P (Ok x) p = p
 part_has P (Err e) p = tt
 
-too_many_has : {A : Type 0} (P : A → Type 0) (at : ℕ) (o : Out A Cause) → Has P (too_many at o)
-too_many_has P at (Ok x) = tt
-too_many_has P at (Err e) = has_either P (e.0 == at) _ _ (λ q. tt) (λ q. tt)
-
 begins_has : (all : List Token) (l : Level) (count at : ℕ) → Has (Inside all) (begins_at all l count at)
 unfolding begins_at
 begins_has all l count at =
     has_either (Inside all) (nat_lt count most_operations) _ _
     (λ e. part_has (Inside all) (head_at all l at) (kept (Inside all) (head_rule l) all (no_parts row.Module) at (head_stays l all at) (nothing_inside all row.Module)))
-    (λ e. too_many_has (Inside all) at (part (head_at all l at)))
+    (λ e. too_many_has (Inside all) at cause.TooManyOps (part (head_at all l at)))
 
 dictionary_has : (all : List Token) (p : Parts) (at : ℕ) → Inside all p → Has (Inside all) (part (dictionary_at all p at))
 dictionary_has all p at w = part_has (Inside all) (dictionary_at all p at) (kept (Inside all) dictionary_rule all p at (dictionary_stays all at) w)

@@ -1,4 +1,3 @@
-pub mod Attributes
 pub mod Laws
 pub mod Meant
 pub mod Names
@@ -7,7 +6,6 @@ pub mod Spells
 pub mod Syntax
 pub mod Tree
 pub mod Types
-pub mod Values
 pub mod View
 pub mod Visible
 pub mod Walks

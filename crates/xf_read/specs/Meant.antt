@@ -18,7 +18,7 @@ use Rattle.xf_read.specs.Scopes.{Scope, no_names, value_used}
 use Rattle.xf_read.specs.Syntax.{lacks_yield}
 use Rattle.xf_read.specs.Tree.{Nodes, no_nodes, node, Bodies, no_bodies, body, Tree}
 use Rattle.xf_read.specs.Types.{results_by, args_by}
-use Rattle.xf_read.specs.Values.{attrs_of, kind_by}
+use Rattle.xf_read_base.specs.Values.{attrs_of, kind_by}
 
 -- ---- operations
 

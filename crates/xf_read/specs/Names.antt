@@ -1,18 +1,18 @@
 -- The checks of names and types: the first token in the text that each of them refuses.
-use Rattle.std.specs.Prelude.{ℕ, ◌+◌, ◌==◌, ◌&&◌, ◌||◌, min, List, [], ◌∷◌, length, Option, Some, None, Bool, true, false, if◌then◌else◌, is_some, slice_get}
-use Rattle.std.specs.Str.{bytes_eq}
+use Rattle.std.specs.Prelude.{ℕ, ◌+◌, ◌==◌, ◌&&◌, min, List, [], ◌∷◌, length, Option, Some, None, Bool, true, false, if◌then◌else◌, is_some, slice_get}
 use Rattle.xf_type.specs.declared.payload_type.PayloadType.{PayloadType}
 use Rattle.xf_lex.specs.declared.token.Token.{Token}
-use Rattle.xf_read_base.specs.declared.parts.Entry.{Entry}
 use Rattle.xf_read_base.specs.declared.parts.Parts.{Parts}
 use Rattle.xf_read_base.specs.declared.parts.Ref.{Ref}
 use Rattle.xf_read_base.specs.declared.row.Row.{Row}
 use Rattle.xf_read_base.specs.declared.row.Row.TheVariants as row
+use Rattle.xf_read_base.specs.Attributes.{entries_twice}
+use Rattle.xf_read_base.specs.Values.{text}
 use Rattle.xf_ir.specs.declared.name.OpName.{OpName}
 use Rattle.xf_read.specs.declared.faults.Faults.{Faults}
 use Rattle.xf_read.specs.declared.scope.Definer.TheVariants.{Results, Argument}
 use Rattle.xf_read.specs.declared.scope.Named.{Named}
-use Rattle.xf_read.specs.Scopes.{text, Scope, with_name, means, type_used}
+use Rattle.xf_read.specs.Scopes.{Scope, with_name, means, type_used}
 use Rattle.xf_read.specs.Syntax.{lacks_yield}
 use Rattle.xf_read.specs.Tree.{Nodes, no_nodes, node, Bodies, no_bodies, body, Tree}
 use Rattle.xf_read.specs.Types.{one_type, results_by, args_by, operands_by, stated_by, fits}
@@ -120,14 +120,6 @@ results_twice all scope (r ∷ rs) = visible_at all scope r.token
 abbrev pub args_twice : List Token → ℕ → ℕ → List PayloadType → List Ref → Scope → Option ℕ
 args_twice all n j ts [] scope = None
 args_twice all n j ts (r ∷ rs) scope = earlier (visible_at all scope r.token) (args_twice all n (j + 1) ts rs (with_name (text all r.token) (argument_named n j (slice_get ts j)) scope))
-
--- the first attribute that has a name of one before it, or one of these
-abbrev pub also : List ℕ → (List ℕ → Bool) → List ℕ → Bool
-also name names other = bytes_eq name other || names other
-
-abbrev pub entries_twice : List Token → (List ℕ → Bool) → List Entry → Option ℕ
-entries_twice all names [] = None
-entries_twice all names (e ∷ es) = if names (text all e.name) then Some e.name else entries_twice all (also (text all e.name) names) es
 
 -- the symbol of a function, or the name of results
 abbrev pub names_twice : List Token → Parts → Scope → Option ℕ

@@ -5,19 +5,12 @@ use Rattle.xf_type.specs.declared.payload_type.PayloadType.{PayloadType}
 use Rattle.xf_lex.specs.declared.token.Token.{Token}
 use Rattle.xf_grammar.specs.Tokens.{is_index_at}
 use Rattle.xf_read_base.specs.declared.parts.Ref.{Ref}
+use Rattle.xf_read_base.specs.Values.{text}
 use Rattle.xf_ir.specs.declared.name.ValueName.{ValueName}
 use Rattle.xf_ir.specs.declared.name.ValueName.TheVariants.{Result, Arg, Free}
 use Rattle.xf_read.specs.declared.scope.Definer.{Definer}
 use Rattle.xf_read.specs.declared.scope.Definer.TheVariants.{Results, Argument}
 use Rattle.xf_read.specs.declared.scope.Named.{Named}
-
-abbrev pub bytes_of : Option Token → List ℕ
-bytes_of None = []
-bytes_of (Some t) = t.bytes
-
--- the bytes of the token with a number
-abbrev pub text : List Token → ℕ → List ℕ
-text all at = bytes_of (slice_get all at)
 
 -- what each name stands for; a name that is not visible stands for nothing
 abbrev pub Scope : Type 0

@@ -1,17 +1,14 @@
 -- The module that a text spells, and why a text spells none.
-use Rattle.std.specs.Prelude.{◌≡◌, ◌⊎◌, ⊤, ℕ, ◌+◌, ◌<◌, List, [], ◌∷◌, length, Option, Some, None, Err, slice_get}
+use Rattle.std.specs.Prelude.{◌≡◌, ◌⊎◌, ⊤, ℕ, ◌<◌, List, length, Option, Some, None, Err}
 use Rattle.xf_span.specs.declared.place.Place.{Place}
-use Rattle.xf_span.specs.declared.code.Code.TheVariants.{A1, A2, A3, A4, A5, A6, A7, N1}
+use Rattle.xf_span.specs.declared.code.Code.TheVariants.{A2, A3, A4, A5, A7}
 use Rattle.xf_span.specs.declared.fault.Fault.{Fault}
 use Rattle.xf_span.specs.declared.fault.TextFault.{TextFault}
 use Rattle.xf_span.specs.declared.fault.TextFault.TheVariants as text_fault
-use Rattle.xf_span.specs.Fault.{fault_at, numbered_fault}
+use Rattle.xf_span.specs.Fault.{fault_at}
 use Rattle.xf_lex.specs.declared.token.Token.{Token}
-use Rattle.xf_lex.specs.Lexes.{Lexes, HasFault, first_place, place_after}
-use Rattle.xf_grammar.specs.Tokens.{seen}
-use Rattle.xf_read_base.specs.declared.verdict.Verdict.{Verdict}
-use Rattle.xf_read_base.specs.declared.verdict.Verdict.TheVariants.{Syntax, OutOfProfile, NotBuilt}
-use Rattle.xf_read_base.specs.Verdicts.{verdict}
+use Rattle.xf_lex.specs.Lexes.{Lexes, HasFault}
+use Rattle.xf_read_base.specs.Stops.{stop_place, due_fault}
 use Rattle.xf_ir.specs.declared.op.Module.{Module}
 use Rattle.xf_read.specs.declared.fault.Cause.{Cause}
 use Rattle.xf_read.specs.declared.fault.Cause.TheVariants as cause
@@ -45,27 +42,9 @@ pub record HasPlaces (bytes : List ℕ) (places : List Place) : Type 0 where
 
 -- ---- faults of the syntax
 
--- the place behind the last token
-abbrev pub end_place : Place → List Token → Place
-end_place p [] = p
-end_place p (t ∷ ts) = end_place (place_after t.place t.bytes) ts
-
-abbrev pub place_or_end : List Token → Option Token → Place
-place_or_end all None = end_place first_place all
-place_or_end all (Some t) = t.place
-
--- the place of a token, of which the end of the text is one
-abbrev pub stop_place : List Token → ℕ → Place
-stop_place all at = place_or_end all (slice_get all at)
-
-abbrev pub judged : Verdict → Place → Fault
-judged Syntax p = fault_at A1 p
-judged (OutOfProfile n) p = numbered_fault A6 p n
-judged NotBuilt p = fault_at N1 p
-
 -- the fault of a reading that stops at a token, by its cause
 abbrev pub syntax_fault : List Token → ℕ → Cause → Fault
-syntax_fault all at (cause.Due d) = judged (verdict d (seen all at) (seen all (at + 1))) (stop_place all at)
+syntax_fault all at (cause.Due d) = due_fault all at d
 syntax_fault all at cause.NestLimit = fault_at A5 (stop_place all at)
 syntax_fault all at cause.TooManyOps = fault_at A7 (stop_place all at)
 

@@ -3,7 +3,7 @@ use Rattle.std.specs.Prelude.{◌≡◌, ℕ, zero, suc, ◌+◌, List, length, 
 use Rattle.xf_lex.specs.declared.token.Token.{Token}
 use Rattle.xf_type.specs.declared.payload_type.PayloadType.{PayloadType}
 use Rattle.xf_grammar.specs.Tokens.{Seen, the_end, sees, seen, is_kind, looks, says, open_brace, close_brace}
-use Rattle.xf_grammar.specs.Reading.{Out, ◌>>=◌}
+use Rattle.xf_grammar.specs.Reading.{Out, ◌>>=◌, one_too_many}
 use Rattle.xf_read_base.specs.declared.due.Due.{Due}
 use Rattle.xf_read_base.specs.declared.due.Due.TheVariants as due
 use Rattle.xf_read_base.specs.declared.due.HeadFault.{HeadFault}
@@ -62,8 +62,7 @@ most_operations = 1000000
 
 -- an operation begins at this token, and is one too many: that is its fault, unless it has another at this very token
 abbrev pub too_many : {A : Type 0} → ℕ → Out A Cause → Out A Cause
-too_many at (Ok x) = Err (at, cause.TooManyOps)
-too_many at (Err e) = if e.0 == at then Err e else Err (at, cause.TooManyOps)
+too_many at read = one_too_many at cause.TooManyOps read
 
 abbrev pub limited : {A : Type 0} → ℕ → ℕ → Out A Cause → Out A Cause
 limited count at read = if nat_lt count most_operations then read else too_many at read

@@ -12,10 +12,11 @@ use Rattle.xf_read.specs.declared.walk.Walk.{Walk}
 use Rattle.xf_read.specs.declared.read.Built.{Built}
 use Rattle.xf_read.specs.declared.tree.File.{File}
 use Rattle.xf_read.specs.Meant.{operands_of, meant, places_of, file_faults}
-use Rattle.xf_read.specs.Names.{op_name, earlier, with_faults, undefined_in, entries_twice, names_twice, agrees}
+use Rattle.xf_read_base.specs.Attributes.{entries_twice}
+use Rattle.xf_read.specs.Names.{op_name, earlier, with_faults, undefined_in, names_twice, agrees}
 use Rattle.xf_read.specs.Scopes.{Scope}
 use Rattle.xf_read.specs.Types.{results_by, args_by}
-use Rattle.xf_read.specs.Values.{attrs_of, kind_by}
+use Rattle.xf_read_base.specs.Values.{attrs_of, kind_by}
 use Rattle.xf_read.specs.Visible.{names_in}
 
 -- so many operations were built, which have these places and these faults

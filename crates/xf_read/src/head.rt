@@ -3,16 +3,14 @@ ghost use Rattle.std.specs.Prelude.{IfOk};
 ghost use Rattle.xf_read.specs.Visible.{names_in};
 ghost use Rattle.xf_read.specs.Walks.{IsHead};
 
-use crate::attributes::attributes;
 use crate::faults::{Faults, earlier, names_twice, token_if};
-use crate::kinds::kind_of;
 use crate::scope::Scope;
 use crate::types::{agrees, arg_types, result_types};
 use crate::uses::{operands, undefined};
 use std::alloc::Global;
 use xf_ir::{AttrList, Kind, ValueList};
 use xf_lex::Token;
-use xf_read_base::Parts;
+use xf_read_base::{Parts, attributes, kind_of};
 use xf_type::{NoMemory, TypeList};
 
 /// What an operation holds beside its name and its regions, the types of its block arguments, and

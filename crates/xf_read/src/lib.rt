@@ -2,16 +2,13 @@
 //! module.
 #![tactic(auto)]
 
-mod attributes;
 mod defining;
 mod fault;
 mod faults;
 mod head;
-mod kinds;
 mod law;
 #[cfg(test)]
 mod meaning_tests;
-mod quoted;
 mod read;
 mod reader;
 mod scope;

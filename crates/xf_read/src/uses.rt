@@ -4,7 +4,7 @@ ghost use Rattle.std.specs.Option.{option_copied};
 ghost use Rattle.xf_grammar.specs.Tokens.{is_index_at};
 ghost use Rattle.xf_read.specs.Meant.{operands_of};
 ghost use Rattle.xf_read.specs.Names.{undefined_in};
-ghost use Rattle.xf_read.specs.Scopes.{text, means, value_used, type_used};
+ghost use Rattle.xf_read.specs.Scopes.{means, value_used, type_used};
 ghost use Rattle.xf_read.specs.Visible.{names_in};
 
 use crate::scope::{Definer, Scope};
@@ -12,19 +12,8 @@ use std::alloc::Global;
 use xf_grammar::is_index_at;
 use xf_ir::{ValueList, ValueName};
 use xf_lex::Token;
-use xf_read_base::Ref;
+use xf_read_base::{Ref, text};
 use xf_type::{NoMemory, PayloadType};
-
-/// The bytes of the token with a number; none behind the last.
-pub fn text(tokens: &[Token], at: usize) -> &[u8]
-    ensures { result.now ≡ text tokens.now at }
-{
-    if at < tokens.len() {
-        tokens[at].bytes.as_slice()
-    } else {
-        &[]
-    }
-}
 
 /// Whether a number stands behind a name.
 #[tactic(auto, using(crate::proofs::Ends::no_index_past))]

@@ -1,7 +1,9 @@
 -- Pieces are written by the rules of their slots.
-use Rattle.std.proofs.Common.{◌≡◌, inl, inr, ℕ, ◌+◌, Bool, true, false, not, List, [], ◌∷◌, ◌++◌, Option, Some, None, refl, sym, ap, subst, ◌∙◌, arith, append_assoc}
+use Rattle.std.proofs.Common.{◌≡◌, inl, inr, ℕ, ◌+◌, ◌-◌, ◌≤◌, Bool, true, false, not, nat_lt, length, List, [], ◌∷◌, ◌++◌, Option, Some, None, refl, sym, ap, subst, ◌∙◌, arith, append_assoc}
 use Rattle.std.specs.Prelude.{map, ◌&&◌, codes}
+use Rattle.std.proofs.lemmas.Bool.{ltb-true}
 use Rattle.std.proofs.lemmas.Bool.Decides.{nat_tests}
+use Rattle.std.proofs.lemmas.List.{length-map}
 use Rattle.xf_lex.specs.declared.token.TokenKind.{TokenKind}
 use Rattle.xf_lex.specs.declared.token.TokenKind.TheVariants as kind
 use Rattle.xf_type.specs.declared.kind.CmpKind.{CmpKind}
@@ -20,7 +22,7 @@ use Rattle.xf_read_base.specs.declared.row.Slot.{Slot}
 use Rattle.xf_read_base.specs.declared.row.Slot.TheVariants as slot
 use Rattle.xf_read_base.specs.Words.{spelling}
 use Rattle.xf_read_base.specs.Parts.{Said, text_of, truth, number, no_value, truth_value, number_value, text_value, ValueSaid, says_arg, says_width, says_result, says_entry, says_predicate, says_literal, says_symbol, says_private}
-use Rattle.xf_read_base.specs.Rules.{room_for, is_width, width_meant, is_predicate, predicate_meant, kind_rule, word_rule, symbol_rule, module_name_rule, function_name_rule, argument_rule, use_rule, width_rule, result_rule, predicate_rule, number_rule, truth_rule, literal_rule, entry_width_rule, entry_number_rule, entry_value_rule, entry_rule, param_rule, pair_rule, item_rule, list_rule, until_rule, dictionary_rule, attributes_rule, result_types_rule, call_results_rule, function_results_rule, listed_results_rule, if_results_rule, operands_rule, iter_args_rule, loop_width_rule, slot_rule, slots_rule}
+use Rattle.xf_read_base.specs.Rules.{room_for, is_width, width_meant, is_predicate, predicate_meant, kind_rule, word_rule, symbol_rule, module_name_rule, function_name_rule, argument_rule, use_rule, width_rule, result_rule, predicate_rule, number_rule, truth_rule, literal_rule, entry_width_rule, entry_number_rule, entry_value_rule, entry_rule, param_rule, pair_rule, item_rule, most_items, list_rule, until_rule, dictionary_rule, attributes_rule, result_types_rule, call_results_rule, function_results_rule, listed_results_rule, if_results_rule, operands_rule, iter_args_rule, loop_width_rule, slot_rule, slots_rule}
 use Rattle.xf_read_base.specs.Pieces.{mark, word, value_name, width_word, predicate_word, truth_word, Use, Param, Pair, Attribute, hash, use_written, hash_suits, use_suits, use_says, type_written, always, param_written, param_says, pair_written, pair_suits, pair_says, value_written, attribute_written, value_suits, attribute_suits, attribute_says, follow, more_suit, list_suits, says_all, list_written, until_written, until_suits, Piece, nothing, a_symbol, a_private_symbol, a_name, an_operand, a_width, a_predicate, a_truth, a_number, attributes, operands, types, params, typed_operands, pairs, piece_written, suits, piece_says, row_written, row_suits, row_says}
 
 not_true : (b : Bool) → not b ≡ true → b ≡ false
@@ -250,17 +252,21 @@ more_writes i l (x ∷ xs) at y t e =
     let b = and_both _ _ e in
     (l.say x t, (subst (λ z. Writes (item_rule i) (at + 1) (l.print x) z t (l.say x t)) (sym (follow_is l.print xs y)) (l.writes x (at + 1) (follow xs y) t b.0), more_writes i l xs _ y (l.say x t) b.1))
 
-list_writes : {A : Type 0} (i : Item) (l : Items A i) (x : A) (xs : List A) (at : ℕ) (y : Seen) (t : Said) → list_suits l.ok x xs y ≡ true → Writes (list_rule i) at (list_written l.print x xs) y t (says_all l.say xs (l.say x t))
+few_others : {A : Type 0} (i : Item) (l : Items A i) (xs : List A) → nat_lt (length xs) (most_items i) ≡ true → length (map l.print xs) ≤ most_items i - 1
+few_others i l xs e = let n = length-map l.print xs in let lt = ltb-true (length xs) (most_items i) e in omega (arith, n, lt)
+
+list_writes : {A : Type 0} (i : Item) (l : Items A i) (x : A) (xs : List A) (at : ℕ) (y : Seen) (t : Said) → list_suits i l.ok x xs y ≡ true → Writes (list_rule i) at (list_written l.print x xs) y t (says_all l.say xs (l.say x t))
 list_writes i l x xs at y t e =
-    let b = and_both _ _ e in
-    (l.print x, (map l.print xs, (l.say x t, (refl, (subst (λ z. Writes (item_rule i) at (l.print x) z t (l.say x t)) (sym (follow_is l.print xs y)) (l.writes x at (follow xs y) t b.0), more_writes i l xs _ y (l.say x t) b.1)))))
+    let c = and_both (nat_lt (length xs) (most_items i)) _ e in
+    let b = and_both _ _ c.1 in
+    (l.print x, (map l.print xs, (l.say x t, (refl, (few_others i l xs c.0, (subst (λ z. Writes (item_rule i) at (l.print x) z t (l.say x t)) (sym (follow_is l.print xs y)) (l.writes x at (follow xs y) t b.0), more_writes i l xs _ y (l.say x t) b.1))))))
 
 -- up to a mark
 until_first : {A : Type 0} (print : A → List Seen) (x : A) (xs : List A) (close : TokenKind) (y : Seen) (k : TokenKind) → ((ps : List Seen) (y : Seen) → is_kind k (first_seen (print x ++ ps) y) ≡ false)
     → is_kind k (first_seen (list_written print x xs ++ mark close ∷ []) y) ≡ false
 until_first print x xs close y k opens = subst (λ ps. is_kind k (first_seen ps y) ≡ false) (sym (append_assoc (print x) (more_written (map print xs)) (mark close ∷ []))) (opens (more_written (map print xs) ++ mark close ∷ []) y)
 
-paren_writes : {A : Type 0} (i : Item) (l : Items A i) (d : Due) (xs : List A) (at : ℕ) (y : Seen) (t : Said) → until_suits close_paren l.ok xs ≡ true → Writes (until_rule close_paren d i) at (until_written close_paren l.print xs) y t (says_all l.say xs t)
+paren_writes : {A : Type 0} (i : Item) (l : Items A i) (d : Due) (xs : List A) (at : ℕ) (y : Seen) (t : Said) → until_suits i close_paren l.ok xs ≡ true → Writes (until_rule close_paren d i) at (until_written close_paren l.print xs) y t (says_all l.say xs t)
 unfolding until_rule
 paren_writes i l d [] at y t e = inl (mark close_paren, ([], (refl, (refl, (refl, refl)))))
 paren_writes i l d (x ∷ xs) at y t e =
@@ -269,7 +275,7 @@ paren_writes i l d (x ∷ xs) at y t e =
       (list_written l.print x xs, (mark close_paren ∷ [], (says_all l.say xs (l.say x t), (refl, (list_writes i l x xs at (mark close_paren) t e, kind_writes d close_paren (mark close_paren) refl _ y _))))),
     )
 
-brace_writes : {A : Type 0} (i : Item) (l : Items A i) (d : Due) (xs : List A) (at : ℕ) (y : Seen) (t : Said) → until_suits close_brace l.ok xs ≡ true → Writes (until_rule close_brace d i) at (until_written close_brace l.print xs) y t (says_all l.say xs t)
+brace_writes : {A : Type 0} (i : Item) (l : Items A i) (d : Due) (xs : List A) (at : ℕ) (y : Seen) (t : Said) → until_suits i close_brace l.ok xs ≡ true → Writes (until_rule close_brace d i) at (until_written close_brace l.print xs) y t (says_all l.say xs t)
 unfolding until_rule
 brace_writes i l d [] at y t e = inl (mark close_brace, ([], (refl, (refl, (refl, refl)))))
 brace_writes i l d (x ∷ xs) at y t e =
@@ -427,12 +433,12 @@ one_result_writes : (d : Due) (w : Width) (at : ℕ) (y : Seen) (t : Said) → W
 unfolding result_types_rule
 one_result_writes d w at y t = inr (no_paren w, result_writes w at y t)
 
-results_writes : (d : Due) (ws : List Width) (at : ℕ) (y : Seen) (t : Said) → until_suits close_paren always ws ≡ true
+results_writes : (d : Due) (ws : List Width) (at : ℕ) (y : Seen) (t : Said) → until_suits item.Result close_paren always ws ≡ true
     → Writes (result_types_rule d) at (mark open_paren ∷ until_written close_paren type_written ws) y t (says_all says_result ws t)
 unfolding result_types_rule
 results_writes d ws at y t e = inl (mark open_paren, (until_written close_paren type_written ws, (refl, (refl, paren_writes item.Result resulting d ws _ y t e))))
 
-listed_results_writes : (ws : List Width) (at : ℕ) (y : Seen) (t : Said) → until_suits close_paren always ws ≡ true
+listed_results_writes : (ws : List Width) (at : ℕ) (y : Seen) (t : Said) → until_suits item.Result close_paren always ws ≡ true
     → Writes listed_results_rule at (mark open_paren ∷ until_written close_paren type_written ws) y t (says_all says_result ws t)
 unfolding listed_results_rule
 listed_results_writes ws at y t e =

@@ -1,3 +1,4 @@
+pub mod Attributes
 pub mod Heads
 pub mod Laws
 pub mod Parts
@@ -5,5 +6,8 @@ pub mod Pieces
 pub mod Reading
 pub mod Rows
 pub mod Rules
+pub mod Spelt
+pub mod Stops
+pub mod Values
 pub mod Verdicts
 pub mod Words

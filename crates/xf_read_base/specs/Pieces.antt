@@ -1,5 +1,5 @@
 -- Pieces: what is written for the slots of a row, by bytes, and what may stand behind.
-use Rattle.std.specs.Prelude.{ℕ, List, [], ◌∷◌, ◌++◌, map, Option, Some, None, Bool, true, false, not, ◌&&◌, option_map, codes}
+use Rattle.std.specs.Prelude.{ℕ, List, [], ◌∷◌, ◌++◌, map, Option, Some, None, Bool, true, false, not, ◌&&◌, nat_lt, length, option_map, codes}
 use Rattle.xf_lex.specs.declared.token.TokenKind.{TokenKind}
 use Rattle.xf_lex.specs.declared.token.TokenKind.TheVariants as kind
 use Rattle.xf_type.specs.declared.kind.BinKind.{BinKind}
@@ -12,6 +12,8 @@ use Rattle.xf_type.specs.declared.payload_type.Width.{Width}
 use Rattle.xf_type.specs.declared.payload_type.Width.TheVariants as width
 use Rattle.xf_grammar.specs.Tokens.{Seen, sees, is_kind, is_word, is_index, starts_digit, open_paren, close_paren, comma, minus, colon, equals, open_brace, close_brace}
 use Rattle.xf_grammar.specs.Grammar.{first_seen, more_written}
+use Rattle.xf_read_base.specs.declared.list.Item.{Item}
+use Rattle.xf_read_base.specs.declared.list.Item.TheVariants as item
 use Rattle.xf_read_base.specs.declared.row.Level.{Level}
 use Rattle.xf_read_base.specs.declared.row.Level.TheVariants as level
 use Rattle.xf_read_base.specs.declared.row.Row.{Row}
@@ -20,7 +22,7 @@ use Rattle.xf_read_base.specs.declared.row.Slot.{Slot}
 use Rattle.xf_read_base.specs.declared.row.Slot.TheVariants as slot
 use Rattle.xf_read_base.specs.Words.{spelling}
 use Rattle.xf_read_base.specs.Rows.{slots, fits}
-use Rattle.xf_read_base.specs.Rules.{room_for, has_operations}
+use Rattle.xf_read_base.specs.Rules.{room_for, most_items, has_operations}
 use Rattle.xf_read_base.specs.Parts.{count_of, truth, number, no_value, truth_value, number_value, text_value, ValueSaid, Said, says_symbol, says_private, says_predicate, says_literal, says_entry, says_arg, says_use, says_width, says_result, says_row, says_define}
 
 -- ---- tokens
@@ -158,8 +160,9 @@ abbrev pub more_suit : {A : Type 0} → (A → Seen → Bool) → List A → See
 more_suit ok [] y = not (is_kind comma y)
 more_suit ok (x ∷ xs) y = ok x (follow xs y) && more_suit ok xs y
 
-abbrev pub list_suits : {A : Type 0} → (A → Seen → Bool) → A → List A → Seen → Bool
-list_suits ok x xs y = ok x (follow xs y) && more_suit ok xs y
+-- one item, and others, fewer than so many
+abbrev pub list_suits : {A : Type 0} → Item → (A → Seen → Bool) → A → List A → Seen → Bool
+list_suits i ok x xs y = nat_lt (length xs) (most_items i) && (ok x (follow xs y) && more_suit ok xs y)
 
 abbrev pub says_all : {A : Type 0} → (A → Said → Said) → List A → Said → Said
 says_all say [] t = t
@@ -172,9 +175,9 @@ abbrev pub until_written : {A : Type 0} → TokenKind → (A → List Seen) → 
 until_written close print [] = mark close ∷ []
 until_written close print (x ∷ xs) = list_written print x xs ++ mark close ∷ []
 
-abbrev pub until_suits : {A : Type 0} → TokenKind → (A → Seen → Bool) → List A → Bool
-until_suits close ok [] = true
-until_suits close ok (x ∷ xs) = list_suits ok x xs (mark close)
+abbrev pub until_suits : {A : Type 0} → Item → TokenKind → (A → Seen → Bool) → List A → Bool
+until_suits i close ok [] = true
+until_suits i close ok (x ∷ xs) = list_suits i ok x xs (mark close)
 
 -- ---- pieces
 
@@ -234,29 +237,29 @@ suits slot.FunctionName (a_symbol b) y = true
 suits slot.FunctionName (a_private_symbol b) y = true
 suits slot.Symbol (a_symbol b) y = true
 suits slot.Attributes nothing y = not (is_word (codes "attributes") y)
-suits slot.Attributes (attributes es) y = until_suits close_brace attribute_suits es
+suits slot.Attributes (attributes es) y = until_suits item.Entry close_brace attribute_suits es
 suits slot.Dictionary nothing y = not (is_kind open_brace y)
-suits slot.Dictionary (attributes es) y = until_suits close_brace attribute_suits es
+suits slot.Dictionary (attributes es) y = until_suits item.Entry close_brace attribute_suits es
 suits slot.Literal (a_truth b) y = true
 suits slot.Literal (a_number negative digits w) y = true
 suits slot.Predicate (a_predicate k) y = true
 suits slot.Argument (a_name b) y = true
 suits slot.Use (an_operand u) y = use_suits u y
 suits slot.Width (a_width w) y = true
-suits slot.Uses (operands us) y = until_suits close_paren use_suits us
-suits slot.Types (types ws) y = until_suits close_paren always ws
-suits slot.Params (params ps) y = until_suits close_paren always ps
+suits slot.Uses (operands us) y = until_suits item.Use close_paren use_suits us
+suits slot.Types (types ws) y = until_suits item.Type close_paren always ws
+suits slot.Params (params ps) y = until_suits item.Param close_paren always ps
 suits slot.Operands nothing y = not (is_kind kind.Value y)
-suits slot.Operands (typed_operands u us w ws) y = list_suits use_suits u us (mark colon) && list_suits always w ws y
+suits slot.Operands (typed_operands u us w ws) y = list_suits item.Use use_suits u us (mark colon) && list_suits item.Type always w ws y
 suits slot.CallResults (a_width w) y = true
-suits slot.CallResults (types ws) y = until_suits close_paren always ws
+suits slot.CallResults (types ws) y = until_suits item.Result close_paren always ws
 suits slot.FunctionResults nothing y = not (is_kind kind.Arrow y)
 suits slot.FunctionResults (a_width w) y = true
-suits slot.FunctionResults (types ws) y = until_suits close_paren always ws
+suits slot.FunctionResults (types ws) y = until_suits item.Result close_paren always ws
 suits slot.IfResults nothing y = not (is_kind kind.Arrow y)
-suits slot.IfResults (types ws) y = until_suits close_paren always ws
+suits slot.IfResults (types ws) y = until_suits item.Result close_paren always ws
 suits slot.IterArgs nothing y = not (is_word (codes "iter_args") y)
-suits slot.IterArgs (pairs ps ws) y = until_suits close_paren pair_suits ps && until_suits close_paren always ws
+suits slot.IterArgs (pairs ps ws) y = until_suits item.Pair close_paren pair_suits ps && until_suits item.Result close_paren always ws
 suits slot.LoopWidth nothing y = not (is_kind colon y)
 suits slot.LoopWidth (a_width w) y = true
 suits s p y = false

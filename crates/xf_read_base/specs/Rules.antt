@@ -173,9 +173,15 @@ item_rule item.Param = param_rule
 item_rule item.Pair = pair_rule
 item_rule item.Entry = entry_rule
 
+-- how many items a list may have: no list of an operation has 2 ^ 32 entries, and before the pairs of a loop stand its bounds and
+-- its step among the operands
+abbrev pub most_items : Item → ℕ
+most_items item.Pair = 2 ^ 32 - 4
+most_items i = 2 ^ 32 - 1
+
 -- one item or several
 abbrev pub list_rule : Item → Rule
-list_rule i = listed (item_rule i)
+list_rule i = listed (most_items i - 1) due.ListEnd (item_rule i)
 
 -- items, possibly none, and the token that ends them, where this is due behind an item
 unfoldable pub until_rule : TokenKind → Due → Item → Rule

@@ -9,7 +9,7 @@ use Rattle.xf_grammar.specs.Tokens.{Seen, is_kind, is_word, word_of, less, open_
 use Rattle.xf_read_base.specs.declared.due.Due.{Due}
 use Rattle.xf_read_base.specs.declared.due.Due.TheVariants as due
 use Rattle.xf_read_base.specs.declared.verdict.Verdict.{Verdict}
-use Rattle.xf_read_base.specs.declared.verdict.Verdict.TheVariants.{Syntax, OutOfProfile, NotBuilt}
+use Rattle.xf_read_base.specs.declared.verdict.Verdict.TheVariants.{Syntax, OutOfProfile, NotBuilt, TooMany}
 use Rattle.xf_read_base.specs.Words.{lookup, widths}
 
 abbrev pub one_of : List (List ℕ) → List ℕ → Bool
@@ -120,6 +120,7 @@ listed_number due.FunctionName x = number_if (one_of (codes "public" ∷ codes "
 listed_number due.AfterArgument x = number_if (is_kind open_brace x) 13
 listed_number due.AfterResult x = number_if (is_kind open_brace x) 13
 listed_number due.FunctionBody x = number_if (is_kind close_brace x || is_word (codes "func.func") x) 19
+listed_number due.ListEnd x = None
 listed_number due.Other x = None
 
 -- what is a text, and not built yet: an alias, an operation of another reader, a tensor type
@@ -140,6 +141,7 @@ abbrev pub numbered_or : Option ℕ → Verdict → Verdict
 numbered_or (Some n) v = OutOfProfile n
 numbered_or None v = v
 
--- by what was due, the token that fits no head, and the one behind it
+-- by what was due, the token that fits no head, and the one behind it; an item that is one too many fits in itself
 abbrev pub verdict : Due → Seen → Seen → Verdict
+verdict due.ListEnd x y = TooMany
 verdict d x y = numbered_or (anywhere x y) (listed d x)

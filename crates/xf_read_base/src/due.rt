@@ -33,6 +33,8 @@ pub enum Due {
     AfterResult,
     /// The body of a function, or what may stand before it.
     FunctionBody,
+    /// The end of a list that has as many items as it may have.
+    ListEnd,
     /// Anything else.
     Other,
 }

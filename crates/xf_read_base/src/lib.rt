@@ -3,24 +3,35 @@
 //! one reading goes over it.
 #![tactic(auto)]
 
+mod entries;
 mod dictionary;
 mod due;
-mod head;
+mod heads;
+mod kinds;
 mod law;
 mod list;
 mod parts;
+mod quoted;
 mod row;
 mod single;
 mod slot;
+mod spelt;
+mod stop;
 #[cfg(test)]
 mod tests;
+mod texts;
 mod verdict;
 mod word;
 
+pub use entries::attributes;
 pub use due::{Due, HeadFault};
-pub use head::{due_at, head_at};
+pub use heads::{due_at, head_at};
+pub use kinds::kind_of;
 pub use law::{heads_are_read_as_written, no_head_goes_on};
-pub use parts::{Entry, EntryList, EntryValue, Literal, Parts, Ref, RefList};
+pub use parts::{Entry, EntryList, EntryValue, Head, Literal, Parts, Ref, RefList};
 pub use row::{Keyword, Level, Opening, Row, Slot, row_slots};
 pub use slot::{dictionary_at, slots_at};
+pub use spelt::head;
+pub use stop::{due_fault, stop_place};
+pub use texts::text;
 pub use verdict::{Verdict, judge};

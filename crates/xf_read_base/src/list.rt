@@ -1,7 +1,8 @@
 //! Lists in a head.
 ghost use Rattle.std.specs.Prelude.{◌≡◌, ◌≤◌, length, IfOk};
-ghost use Rattle.xf_read_base.specs.Reading.{Gives, by};
-ghost use Rattle.xf_read_base.specs.Rules.{item_rule, list_rule, pair_rule, param_rule, until_rule};
+ghost use Rattle.xf_grammar.specs.Reading.{one_too_many};
+ghost use Rattle.xf_read_base.specs.Reading.{Fails, Gives, by};
+ghost use Rattle.xf_read_base.specs.Rules.{item_rule, list_rule, most_items, pair_rule, param_rule, until_rule};
 ghost use Rattle.xf_lex.specs.declared.token.TokenKind.TheVariants as kind;
 ghost use Rattle.xf_read_base.specs.declared.due.Due.TheVariants as due;
 
@@ -66,7 +67,31 @@ fn item_at(tokens: &[Token], item: Item, parts: &mut Parts, at: usize) -> Result
     }
 }
 
-/// One item or several, with commas between them.
+/// How many items a list may have: no list of an operation has 2^32 entries, and before the pairs of
+/// a loop stand its bounds and its step among the operands.
+fn most_items(item: Item) -> u32
+    ensures value { result ≡ most_items item }
+    ensures some { 1 ≤ result }
+{
+    match item {
+        Item::Pair => 0xffff_fffc,
+        Item::Use | Item::Type | Item::Result | Item::Param | Item::Entry => 0xffff_ffff,
+    }
+}
+
+/// The fault of an item that is one too many: at its first token, unless it has another there.
+fn one_too_many(tokens: &[Token], item: Item, parts: &mut Parts, at: usize) -> HeadFault
+    ensures { Fails result (one_too_many at due.ListEnd (by (item_rule item) tokens.now parts.old at)) }
+{
+    match item_at(tokens, item, parts, at) {
+        Err(HeadFault::NoMemory) => HeadFault::NoMemory,
+        Err(HeadFault::At(stop, due)) if stop == at => HeadFault::At(stop, due),
+        _ => HeadFault::At(at, Due::ListEnd),
+    }
+}
+
+/// One item or several, with commas between them. The item with which they would be too many is
+/// refused.
 pub fn list_at(
     tokens: &[Token],
     item: Item,
@@ -77,8 +102,13 @@ pub fn list_at(
     ensures within { IfOk result (λ n. (at ≤ n) × (n ≤ length tokens.now)) }
 {
     let mut at = item_at(tokens, item, parts, at)?;
+    let mut others = most_items(item) - 1;
     'list: while looks(tokens, at, TokenKind::Mark(b',')) {
+        if others == 0 {
+            return Err(one_too_many(tokens, item, parts, at + 1));
+        }
         at = item_at(tokens, item, parts, at + 1)?;
+        others -= 1;
     }
     Ok(at)
 }

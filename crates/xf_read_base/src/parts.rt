@@ -4,6 +4,7 @@ ghost use Rattle.xf_read_base.specs.Reading.{no_parts};
 
 use crate::row::Row;
 use std::alloc::Global;
+use xf_ir::{AttrList, Kind};
 use xf_type::{CmpKind, ListOf, TypeList, Width};
 
 /// The name of a value by its token, with the number that stands at it: k of results `%n:k`, 1 of any
@@ -77,6 +78,21 @@ pub struct Parts {
     pub types: TypeList,
     /// The types behind `->`, in order.
     pub results: TypeList,
+}
+
+/// What stands before the first brace of a region of an operation: its kind; its discardable
+/// attributes, sorted by their names; the names of its results, of its block arguments and of its
+/// operands, by their tokens; the types that are stated, those behind `->` last; and the number of
+/// the first token behind it.
+#[derive(Drop)]
+pub struct Head {
+    pub kind: Kind,
+    pub attrs: AttrList,
+    pub defines: RefList,
+    pub args: RefList,
+    pub uses: RefList,
+    pub types: TypeList,
+    pub next: usize,
 }
 
 impl Parts {

@@ -17,6 +17,8 @@ pub enum Verdict {
     OutOfProfile(u32),
     /// A form that is not built yet.
     NotBuilt,
+    /// The item with which a list would have 2^32 of them.
+    TooMany,
 }
 
 fn is_division(word: &[u8]) -> bool
@@ -268,7 +270,7 @@ fn listed_number(tokens: &[Token], at: usize, due: Due) -> Option<u32>
             looks(tokens, at, TokenKind::Mark(b'}')) || says(tokens, at, b"func.func"),
             19,
         ),
-        Due::OtherReader | Due::Other => None,
+        Due::OtherReader | Due::ListEnd | Due::Other => None,
     }
 }
 
@@ -296,6 +298,9 @@ fn behind(tokens: &[Token], at: usize) -> usize
 pub fn judge(tokens: &[Token], at: usize, due: Due) -> Verdict
     ensures { result ≡ verdict due (seen tokens.now at) (seen tokens.now (at + 1)) }
 {
+    if due == Due::ListEnd {
+        return Verdict::TooMany;
+    }
     if let Some(number) = anywhere(tokens, at, behind(tokens, at)) {
         return Verdict::OutOfProfile(number);
     }

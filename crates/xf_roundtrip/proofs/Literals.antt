@@ -14,7 +14,7 @@ use Rattle.xf_type.specs.Integers.{bits_of, signed_value, wrapped}
 use Rattle.xf_grammar.specs.Tokens.{number_of}
 use Rattle.xf_read_base.specs.Parts.{number, number_value}
 use Rattle.xf_ir.specs.RuleAttributes.{fits_bits}
-use Rattle.xf_read.specs.Values.{signed, truth_bits, integer_bits}
+use Rattle.xf_read_base.specs.Values.{signed, truth_bits, integer_bits}
 use Rattle.xf_roundtrip.specs.Saying.{bits_said, attr_value}
 use Rattle.xf_roundtrip.specs.SaidPrinted.{signed_said, is_set, literal_printed, integer_printed}
 

@@ -11,9 +11,11 @@ use Rattle.xf_read_base.specs.declared.parts.Ref.{Ref}
 use Rattle.xf_read_base.specs.Parts.{text_at, use_said, define_said, arg_said, entry_said, said}
 use Rattle.xf_ir.specs.Lists.{every}
 use Rattle.xf_read.specs.declared.faults.Faults.{Faults}
-use Rattle.xf_read.specs.Names.{earlier, no_faults, with_faults, yield_count, nodes_count, bodies_count, argument_named, function_symbol, undefined_in, visible_at, symbol_twice, results_twice, args_twice, also, entries_twice, names_twice, twice, operands_fit, results_fit, agrees, head_faults, nodes_faults, bodies_faults}
+use Rattle.xf_read_base.specs.Attributes.{also, entries_twice}
+use Rattle.xf_read.specs.Names.{earlier, no_faults, with_faults, yield_count, nodes_count, bodies_count, argument_named, function_symbol, undefined_in, visible_at, symbol_twice, results_twice, args_twice, names_twice, twice, operands_fit, results_fit, agrees, head_faults, nodes_faults, bodies_faults}
 use Rattle.xf_read.specs.Names.{inside as inside_tokens, behind as behind_tokens}
-use Rattle.xf_read.specs.Scopes.{text, Scope, with_name, means}
+use Rattle.xf_read_base.specs.Values.{text}
+use Rattle.xf_read.specs.Scopes.{Scope, with_name, means}
 use Rattle.xf_read.specs.Tree.{Nodes, no_nodes, node, Bodies, no_bodies, body}
 use Rattle.xf_read.specs.Types.{results_by, args_by, fits}
 use Rattle.xf_read.specs.Written.{nodes_said, bodies_said}

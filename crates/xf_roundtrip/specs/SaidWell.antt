@@ -4,7 +4,8 @@ use Rattle.std.specs.Prelude.{ℕ, ◌+◌, ◌==◌, ◌&&◌, List, [], ◌∷
 use Rattle.xf_type.specs.declared.payload_type.PayloadType.{PayloadType}
 use Rattle.xf_read_base.specs.Parts.{UseSaid, DefineSaid, EntrySaid, Said}
 use Rattle.xf_ir.specs.Lists.{every}
-use Rattle.xf_read.specs.Names.{argument_named, also}
+use Rattle.xf_read_base.specs.Attributes.{also}
+use Rattle.xf_read.specs.Names.{argument_named}
 use Rattle.xf_read.specs.Scopes.{Scope, no_names, with_name}
 use Rattle.xf_read.specs.Types.{operands_by, stated_by, fits}
 use Rattle.xf_read.specs.Written.{SaidNodes, no_nodes_said, node_said, SaidBodies, no_bodies_said, body_said, operations, left_out, operations_inside}

@@ -2,10 +2,10 @@ use Rattle.std.proofs.Common.{false, ap, ◌∙◌}
 use Rattle.std.specs.Prelude.{is_some}
 use Rattle.xf_read_base.specs.declared.parts.Entry.{Entry}
 use Rattle.xf_read_base.specs.declared.parts.EntryValue.TheVariants.{Unit as NoValue}
-use Rattle.xf_read.specs.Names.{entries_twice}
-use Rattle.xf_read.specs.Values.{attrs_of}
-use Rattle.xf_read.proofs.Sorting.{attrs_more, twice_more}
-use Rattle.xf_read.proofs.attributes.attributes.Goals as goal
+use Rattle.xf_read_base.specs.Attributes.{entries_twice}
+use Rattle.xf_read_base.specs.Values.{attrs_of}
+use Rattle.xf_read_base.proofs.Sorting.{attrs_more, twice_more}
+use Rattle.xf_read_base.proofs.entries.attributes.Goals as goal
 
 abbrev no_entry : Entry
 no_entry = record { name = 0; value = NoValue }

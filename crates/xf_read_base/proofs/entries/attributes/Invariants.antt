@@ -1,9 +1,9 @@
 use Rattle.std.proofs.Common.{◌≡◌, drop, false}
 use Rattle.xf_ir.specs.Walk.{first_of}
-use Rattle.xf_read.specs.Attributes.{attrs_in, names_of}
-use Rattle.xf_read.specs.Names.{entries_twice}
-use Rattle.xf_read.specs.Values.{with_entries, attrs_of}
-use Rattle.xf_read.proofs.attributes.attributes.Given as goal
+use Rattle.xf_read_base.specs.Attributes.{attrs_in, names_of}
+use Rattle.xf_read_base.specs.Attributes.{entries_twice}
+use Rattle.xf_read_base.specs.Values.{with_entries, attrs_of}
+use Rattle.xf_read_base.proofs.entries.attributes.Given as goal
 
 abbrev pub invariant-loop-entry : goal.invariant-loop-entry
 invariant-loop-entry l = record {

@@ -1,18 +1,18 @@
 //! Discardable attributes.
 ghost use Rattle.std.specs.Prelude.{◌≡◌, if◌then◌else◌, Some, None, false, IfOk};
 ghost use Rattle.xf_ir.specs.Walk.{first_of};
-ghost use Rattle.xf_read.specs.Attributes.{attrs_in};
-ghost use Rattle.xf_read.specs.Names.{entries_twice};
-ghost use Rattle.xf_read.specs.Values.{signed, truth_bits, value_of_entry, attrs_of};
+ghost use Rattle.xf_read_base.specs.Attributes.{attrs_in};
+ghost use Rattle.xf_read_base.specs.Attributes.{entries_twice};
+ghost use Rattle.xf_read_base.specs.Values.{signed, truth_bits, value_of_entry, attrs_of};
 
+use crate::parts::{Entry, EntryValue};
 use crate::quoted::decoded;
-use crate::uses::text;
+use crate::texts::text;
 use std::alloc::Global;
 use std::collections::BTreeMap;
 use xf_grammar::number_at;
 use xf_ir::{Attr, AttrList};
 use xf_lex::Token;
-use xf_read_base::{Entry, EntryValue};
 use xf_type::{AttrValue, ByteList, ListOf, NoMemory, Width, wrap};
 
 /// The integer that digits write, with a `-` before them or not.

@@ -4,7 +4,7 @@ use Rattle.xf_span.specs.declared.place.Place.{Place}
 use Rattle.xf_lex.specs.declared.token.Token.{Token}
 use Rattle.xf_lex.specs.Lexes.{first_place, place_after}
 use Rattle.std.specs.Prelude.{slice_get}
-use Rattle.xf_read.specs.Spells.{end_place, place_or_end, stop_place}
+use Rattle.xf_read_base.specs.Stops.{end_place, place_or_end, stop_place}
 
 end_at : (q : Place) (ts : List Token) (n : ℕ) (t : Token) → length ts ≡ suc n → t ≡ slice_index_or ts n t → place_after t.place t.bytes ≡ end_place q ts
 end_at q [] n t le e = absurd (omega arith)

@@ -1,7 +1,7 @@
 use Rattle.std.proofs.Common.{◌≡◌, ◌≤◌, ◌-◌, length, ap, ◌∙◌, arith, slice_index_or}
 use Rattle.xf_lex.specs.Lexes.{place_after}
-use Rattle.xf_read.proofs.Stops.{stop_behind}
-use Rattle.xf_read.proofs.stop.stop_place.Goals as goal
+use Rattle.xf_read_base.proofs.Stops.{stop_behind}
+use Rattle.xf_read_base.proofs.stop.stop_place.Goals as goal
 
 pub returns-in-len1-up : goal.returns-in-len1-up
 returns-in-len1-up c =

@@ -13,10 +13,10 @@ use Rattle.xf_lex.specs.declared.token.Token.{Token}
 use Rattle.xf_read_base.specs.declared.parts.Entry.{Entry}
 use Rattle.xf_ir.specs.declared.kind.Attr.{Attr}
 use Rattle.xf_ir.specs.Walk.{first_of}
-use Rattle.xf_read.specs.Attributes.{attr_in, attrs_in, names_of}
-use Rattle.xf_read.specs.Names.{also, entries_twice}
-use Rattle.xf_read.specs.Scopes.{text}
-use Rattle.xf_read.specs.Values.{value_of_entry, attr_of, with_attr, with_entries}
+use Rattle.xf_read_base.specs.Attributes.{attr_in, attrs_in, names_of}
+use Rattle.xf_read_base.specs.Attributes.{also, entries_twice}
+use Rattle.xf_read_base.specs.Values.{text}
+use Rattle.xf_read_base.specs.Values.{value_of_entry, attr_of, with_attr, with_entries}
 
 abbrev Entries : Type 0
 Entries = List (Bor (List ℕ) × AttrValue)

@@ -1,4 +1,4 @@
--- What the parts of an operation mean: its kind, and its attributes.
+-- What the parts of a head mean: the kind of the operation, and its attributes.
 use Rattle.std.specs.Prelude.{ℕ, ◌+◌, ◌-◌, ◌*◌, ◌%◌, ◌^◌, ℤ, pos, neg_ℤ, List, [], ◌∷◌, drop, Option, Some, None, Bool, ◌==◌, if◌then◌else◌, slice_get}
 use Rattle.std.specs.Char.{digit_value}
 use Rattle.std.specs.Option.{option_map}
@@ -28,11 +28,20 @@ use Rattle.xf_read_base.specs.Rules.{has_room}
 use Rattle.xf_ir.specs.declared.kind.Attr.{Attr}
 use Rattle.xf_ir.specs.declared.kind.Kind.{Kind}
 use Rattle.xf_ir.specs.declared.kind.Kind.TheVariants as kind
-use Rattle.xf_read.specs.declared.quoted.Escape.{Escape}
-use Rattle.xf_read.specs.declared.quoted.Escape.TheVariants as escape
-use Rattle.xf_read.specs.declared.quoted.Step.{Step}
-use Rattle.xf_read.specs.declared.quoted.Step.TheVariants as step
-use Rattle.xf_read.specs.Scopes.{text}
+use Rattle.xf_read_base.specs.declared.quoted.Escape.{Escape}
+use Rattle.xf_read_base.specs.declared.quoted.Escape.TheVariants as escape
+use Rattle.xf_read_base.specs.declared.quoted.Step.{Step}
+use Rattle.xf_read_base.specs.declared.quoted.Step.TheVariants as step
+
+-- ---- texts
+
+abbrev pub bytes_of : Option Token → List ℕ
+bytes_of None = []
+bytes_of (Some t) = t.bytes
+
+-- the bytes of the token with a number
+abbrev pub text : List Token → ℕ → List ℕ
+text all at = bytes_of (slice_get all at)
 
 -- ---- numbers
 

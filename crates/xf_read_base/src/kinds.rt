@@ -2,16 +2,17 @@
 ghost use Rattle.std.specs.Prelude.{◌≡◌, IfOk};
 ghost use Rattle.std.specs.Option.{option_map};
 ghost use Rattle.xf_read_base.specs.Rules.{has_room};
-ghost use Rattle.xf_read.specs.Values.{integer_bits, literal_bits, symbol_of, symbol_or, width_at, predicate_or, kind_by};
+ghost use Rattle.xf_read_base.specs.Values.{integer_bits, literal_bits, symbol_of, symbol_or, width_at, predicate_or, kind_by};
 
-use crate::attributes::{signed, truth_bits};
+use crate::entries::{signed, truth_bits};
+use crate::parts::{Literal, Parts};
 use crate::quoted::behind_first;
-use crate::uses::text;
+use crate::row::Row;
+use crate::texts::text;
 use std::alloc::Global;
 use xf_grammar::number_at;
 use xf_ir::Kind;
 use xf_lex::Token;
-use xf_read_base::{Literal, Parts, Row};
 use xf_type::{ByteList, CmpKind, Duplicate, NoMemory, PayloadType, Width, wrap};
 
 /// Whether a width has room for a number.

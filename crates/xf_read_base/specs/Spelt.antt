@@ -1,0 +1,39 @@
+-- The head that is spelt at a token.
+use Rattle.std.specs.Prelude.{◌≡◌, ℕ, List, ◌++◌, Option, Some, None, Result, Ok, Err}
+use Rattle.xf_span.specs.declared.fault.Fault.{Fault}
+use Rattle.xf_span.specs.declared.fault.TextFault.{TextFault}
+use Rattle.xf_span.specs.declared.fault.TextFault.TheVariants as text_fault
+use Rattle.xf_lex.specs.declared.token.Token.{Token}
+use Rattle.xf_read_base.specs.declared.due.Due.{Due}
+use Rattle.xf_read_base.specs.declared.due.Due.TheVariants as due
+use Rattle.xf_read_base.specs.declared.parts.Parts.{Parts}
+use Rattle.xf_read_base.specs.declared.row.Level.TheVariants as level
+use Rattle.xf_read_base.specs.declared.parts.Head.{Head}
+use Rattle.xf_read_base.specs.Heads.{head_at}
+use Rattle.xf_read_base.specs.Reading.{Read}
+use Rattle.xf_read_base.specs.Stops.{due_fault}
+use Rattle.xf_read_base.specs.Values.{attrs_of, kind_by}
+
+-- the head with these parts, up to a token
+abbrev pub head_of : List Token → Parts → ℕ → Head
+head_of all p next = record { kind = kind_by all p.row p; attrs = attrs_of all p.entries; defines = p.defines; args = p.args; uses = p.uses; types = p.types ++ p.results; next = next }
+
+-- what reading says of a head: none where an operation of another reader stands there, and else the fault at the first token that
+-- fits no head
+abbrev pub stopped : List Token → ℕ → Due → Result (Option Head) Fault
+stopped all at due.OtherReader = Ok None
+stopped all at d = Err (due_fault all at d)
+
+abbrev pub head_told : List Token → Read → Result (Option Head) Fault
+head_told all (Ok x) = Ok (Some (head_of all x.0 x.1))
+head_told all (Err e) = stopped all e.0 e.1
+
+-- the head of the operation at a token, wherever it may stand
+abbrev pub head_spelt : List Token → ℕ → Result (Option Head) Fault
+head_spelt all at = head_told all (head_at all level.Any at)
+
+-- an answer is that, unless memory was refused
+abbrev pub Answers : Result (Option Head) TextFault → Result (Option Head) Fault → Type 0
+Answers (Ok h) told = told ≡ Ok h
+Answers (Err (text_fault.At f)) told = told ≡ Err f
+Answers (Err text_fault.NoMemory) told = Unit {0}

@@ -1,0 +1,71 @@
+//! The place and the code of a fault of the syntax.
+ghost use Rattle.std.specs.Prelude.{◌≡◌};
+ghost use Rattle.xf_lex.specs.Lexes.{next_place, place_after};
+ghost use Rattle.xf_read_base.specs.Stops.{stop_place, judged, due_fault};
+
+use crate::due::Due;
+use crate::verdict::{Verdict, judge};
+use xf_lex::Token;
+use xf_span::{Code, Fault, Place};
+
+/// The place behind a byte.
+fn next_place(place: Place, b: u8) -> Place
+    ensures { result ≡ next_place place b }
+{
+    if b == b'\n' {
+        Place {
+            line: place.line.saturating_add(1),
+            col: 1,
+        }
+    } else {
+        Place {
+            line: place.line,
+            col: place.col.saturating_add(1),
+        }
+    }
+}
+
+/// The place behind some bytes.
+fn place_after(place: Place, bytes: &[u8]) -> Place
+    ensures { result ≡ place_after place bytes.now }
+{
+    let mut at = place;
+    for b in bytes {
+        at = next_place(at, *b);
+    }
+    at
+}
+
+/// The place of a token, of which the end of the text is one.
+pub fn stop_place(tokens: &[Token], at: usize) -> Place
+    ensures { result ≡ stop_place tokens.now at }
+{
+    if at < tokens.len() {
+        return tokens[at].place;
+    }
+    match tokens {
+        [.., last] => place_after(last.place, last.bytes.as_slice()),
+        [] => Place { line: 1, col: 1 },
+    }
+}
+
+/// The fault of a token, by what it is.
+fn judged(verdict: Verdict, place: Place) -> Fault
+    ensures { result ≡ judged verdict place }
+{
+    match verdict {
+        Verdict::Syntax => Fault::at(Code::A1, place),
+        Verdict::OutOfProfile(number) => Fault::out_of_profile(place, number),
+        Verdict::NotBuilt => Fault::at(Code::N1, place),
+        Verdict::TooMany => Fault::at(Code::A7, place),
+    }
+}
+
+/// The fault at the first token that fits, by what was due there: out of profile where the token is
+/// listed as a form of MLIR that is not supported, too long where it is one item too many, and else
+/// of the syntax.
+pub fn due_fault(tokens: &[Token], at: usize, due: Due) -> Fault
+    ensures { result ≡ due_fault tokens.now at due }
+{
+    judged(judge(tokens, at, due), stop_place(tokens, at))
+}
