@@ -2,6 +2,7 @@ pub mod Laws
 pub mod Meant
 pub mod Names
 pub mod Scopes
+pub mod Short
 pub mod Spells
 pub mod Syntax
 pub mod Tree

@@ -6,6 +6,7 @@ pub mod Pieces
 pub mod Reading
 pub mod Rows
 pub mod Rules
+pub mod Short
 pub mod Spelt
 pub mod Stops
 pub mod Values
