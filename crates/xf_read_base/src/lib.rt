@@ -1,11 +1,13 @@
 //! The heads of the operations of the module, func, arith and scf dialects: what stands before the
 //! first brace of an operation. Which parts an operation has is data, a list of slots for each row;
-//! one reading goes over it.
+//! one reading goes over it. The kind and the attributes of an operation are made from its parts.
 #![tactic(auto)]
 
-mod entries;
 mod dictionary;
 mod due;
+mod entries;
+#[cfg(test)]
+mod head_tests;
 mod heads;
 mod kinds;
 mod law;
@@ -23,8 +25,8 @@ mod texts;
 mod verdict;
 mod word;
 
-pub use entries::attributes;
 pub use due::{Due, HeadFault};
+pub use entries::attributes;
 pub use heads::{due_at, head_at};
 pub use kinds::kind_of;
 pub use law::{heads_are_read_as_written, no_head_goes_on};

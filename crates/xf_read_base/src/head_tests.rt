@@ -1,0 +1,109 @@
+//! Heads by what they mean, none where another reader's operation stands, and the fault where no
+//! head is. The values are those of the table of operations, written by hand.
+
+use crate::{Ref, head};
+use std::alloc::Global;
+use std::process::Abort;
+use xf_ir::Kind;
+use xf_lex::{TokenList, tokens};
+use xf_span::{Code, Place, ReadFault};
+use xf_type::{PayloadType, Width};
+
+fn lexed(rt: &impl Abort, alloc: Global, text: &str) -> TokenList {
+    match tokens(alloc, text.as_bytes()) {
+        Ok(list) => list,
+        Err(_) => panic!(rt; "no tokens"),
+    }
+}
+
+#[test]
+fn a_loop_has_its_width_its_names_and_the_types_behind_it(rt: HostRuntime) {
+    let alloc = rt.alloc();
+    let list = lexed(
+        &rt,
+        alloc,
+        "%a:2 = scf.for %i = %b to %c#7 step %d iter_args(%x = %y, %z = %y) -> (i1, i8) : i64 { }",
+    );
+    let head = match head(alloc, list.as_slice(), 0) {
+        Ok(Some(head)) => head,
+        _ => panic!(rt; "no head"),
+    };
+    match head.kind {
+        Kind::For { width } => assert_eq!(rt; width, Width::I64),
+        _ => panic!(rt; "no loop"),
+    }
+    assert_eq!(rt; head.defines.as_slice(), [Ref { token: 0, count: 2 }].as_slice());
+    assert_eq!(rt; head.args.len(), 3);
+    assert_eq!(rt; head.uses.len(), 5);
+    assert_eq!(rt; head.uses.as_slice()[1], Ref { token: 9, count: 7 });
+    assert_eq!(rt; head.types.len(), 3);
+    match head.types.get(0) {
+        Some(PayloadType::Scalar(width)) => assert_eq!(rt; *width, Width::I64),
+        _ => panic!(rt; "no width"),
+    }
+    assert_eq!(rt; list.as_slice()[head.next].bytes.as_slice(), b"{".as_slice());
+}
+
+#[test]
+fn a_constant_has_its_bits_and_its_attributes_by_name(rt: HostRuntime) {
+    let alloc = rt.alloc();
+    let list = lexed(&rt, alloc, "arith.constant {b, a = 3 : i8} - 5 : i8");
+    let head = match head(alloc, list.as_slice(), 0) {
+        Ok(Some(head)) => head,
+        _ => panic!(rt; "no head"),
+    };
+    match head.kind {
+        Kind::Constant { width, bits } => {
+            assert_eq!(rt; width, Width::I8);
+            assert_eq!(rt; bits, 251);
+        }
+        _ => panic!(rt; "no constant"),
+    }
+    assert_eq!(rt; head.attrs.len(), 2);
+    assert_eq!(rt; head.attrs.as_slice()[0].name.as_slice(), b"a".as_slice());
+    assert_eq!(rt; head.next, list.len());
+}
+
+#[test]
+fn an_operation_of_another_reader_is_none(rt: HostRuntime) {
+    let alloc = rt.alloc();
+    let texts = [
+        "%0 = tensor.empty() : tensor<4xi8>",
+        "linalg.fill ins(%a : i8) outs(%b : tensor<4xi8>)",
+        "%0 = arith.constant {x} dense<1> : tensor<4xi8>",
+    ];
+    for text in texts.iter() {
+        let list = lexed(&rt, alloc, text);
+        match head(alloc, list.as_slice(), 0) {
+            Ok(None) => (),
+            _ => panic!(rt; "not none"),
+        }
+    }
+}
+
+/// A text, the code and the number of its fault, and the column.
+type Refused = (&'static str, Code, u32, u32);
+
+#[test]
+fn a_text_without_a_head_has_its_fault(rt: HostRuntime) {
+    let alloc = rt.alloc();
+    let texts: [Refused; 5] = [
+        ("", Code::A1, 0, 1),
+        ("arith.addi %a %b : i8", Code::A1, 0, 15),
+        ("%0 = arith.divsi %a, %b : i8", Code::A6, 2, 6),
+        ("func.func public @f()", Code::A6, 19, 11),
+        ("arith.addi %a, %b : tensor<4xi8>", Code::A6, 18, 21),
+    ];
+    for wanted in texts.iter() {
+        let (text, code, number, col) = *wanted;
+        let list = lexed(&rt, alloc, text);
+        match head(alloc, list.as_slice(), 0) {
+            Err(ReadFault::At(fault)) => {
+                assert_eq!(rt; fault.code, code);
+                assert_eq!(rt; fault.number, number);
+                assert_eq!(rt; fault.place, Some(Place { line: 1, col }));
+            }
+            _ => panic!(rt; "no fault"),
+        }
+    }
+}
