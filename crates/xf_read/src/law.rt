@@ -2,7 +2,7 @@
 ghost use Rattle.xf_read.specs.Spells.{SpellsOne, MisspellsOne, SpellsOrNot};
 ghost use Rattle.xf_read.specs.Written.{TextsAreWritten, TextsReadAgain};
 
-/// A text spells one module or has one fault, and not both.
+/// A text spells at most one module and has at most one fault, and never both.
 pub fn one_meaning()
     ensures spells { SpellsOne }
     ensures fault { MisspellsOne }
