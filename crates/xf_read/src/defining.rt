@@ -8,11 +8,10 @@ ghost use Rattle.xf_read.specs.Visible.{names_in, Grows};
 use crate::faults::{earlier, function_symbol, token_if};
 use crate::scope::{Definer, Named, Scope};
 use crate::types::one_type;
-use crate::uses::text;
 use std::alloc::Global;
 use xf_ir::OpName;
 use xf_lex::Token;
-use xf_read_base::{Parts, Ref};
+use xf_read_base::{Parts, Ref, text};
 use xf_type::{Duplicate, NoMemory, PayloadType, TypeList};
 
 /// The number of an argument, up to 2^32 - 1.

@@ -4,9 +4,8 @@ ghost use Rattle.xf_read.specs.Names.{earlier, with_faults, twice_fault, no_faul
 ghost use Rattle.xf_read.specs.Visible.{names_in};
 
 use crate::scope::Scope;
-use crate::uses::text;
 use xf_lex::Token;
-use xf_read_base::{Parts, Ref, Row};
+use xf_read_base::{Parts, Ref, Row, text};
 
 /// The first token in the text at which each check finds a fault.
 #[derive(Clone, Copy, Debug, PartialEq, Eq)]
