@@ -1,7 +1,9 @@
 pub mod Ends
+pub mod Growing
 pub mod HeadLaws
 pub mod HeadPieces
 pub mod Pieces
+pub mod Short
 pub mod Sorting
 pub mod Steady
 pub mod Stops

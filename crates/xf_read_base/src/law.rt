@@ -1,5 +1,6 @@
 //! What holds of the heads of all lists of tokens.
 ghost use Rattle.xf_read_base.specs.Laws.{HeadsAreWritten, HeadsReadAgain, HeadPiecesReadAgain, PiecesReadAgain, NoHeadGoesOn, StopsAgain, HeadsStay};
+ghost use Rattle.xf_read_base.specs.Short.{HeadsAreShort};
 
 /// A head is read exactly where its tokens are written, and its parts are what the tokens say. What
 /// pieces write for the slots of a row is read again.
@@ -16,4 +17,9 @@ pub fn no_head_goes_on()
     ensures none { NoHeadGoesOn }
     ensures stops { StopsAgain }
     ensures stays { HeadsStay }
+{}
+
+/// No list of a head has 2^32 entries.
+pub fn heads_are_short()
+    ensures { HeadsAreShort }
 {}

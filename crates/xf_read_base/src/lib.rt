@@ -29,7 +29,7 @@ pub use due::{Due, HeadFault};
 pub use entries::attributes;
 pub use heads::{due_at, head_at};
 pub use kinds::kind_of;
-pub use law::{heads_are_read_as_written, no_head_goes_on};
+pub use law::{heads_are_read_as_written, heads_are_short, no_head_goes_on};
 pub use parts::{Entry, EntryList, EntryValue, Head, Literal, Parts, Ref, RefList};
 pub use row::{Keyword, Level, Opening, Row, Slot, row_slots};
 pub use slot::{dictionary_at, slots_at};
