@@ -1,10 +1,8 @@
 -- How many entries each rule adds to the lists of a head.
-use Rattle.std.proofs.Common.{ℕ, ◌+◌, ◌-◌, ◌*◌, ◌≤◌, ◌≡◌, Bool, true, false, List, [], ◌∷◌, ◌++◌, length, refl, arith, length-append}
+use Rattle.std.proofs.Common.{ℕ, ◌+◌, ◌-◌, ◌≤◌, ◌≡◌, Bool, true, false, List, [], ◌∷◌, refl, arith}
 use Rattle.xf_lex.specs.declared.token.Token.{Token}
 use Rattle.xf_lex.specs.declared.token.TokenKind.{TokenKind}
 use Rattle.xf_lex.specs.declared.token.TokenKind.TheVariants as kind
-use Rattle.xf_type.specs.declared.kind.CmpKind.{CmpKind}
-use Rattle.xf_type.specs.declared.payload_type.Width.{Width}
 use Rattle.xf_type.specs.declared.payload_type.Width.TheVariants as width
 use Rattle.xf_grammar.specs.Tokens.{Seen, seen, close_paren, colon, equals, open_brace, close_brace, open_paren}
 use Rattle.xf_grammar.specs.Grammar.{both}
@@ -14,141 +12,22 @@ use Rattle.xf_read_base.specs.declared.due.Due.TheVariants as due
 use Rattle.xf_read_base.specs.declared.list.Item.{Item}
 use Rattle.xf_read_base.specs.declared.list.Item.TheVariants as item
 use Rattle.xf_read_base.specs.declared.parts.EntryValue.{EntryValue}
-use Rattle.xf_read_base.specs.declared.parts.EntryValue.TheVariants as value
-use Rattle.xf_read_base.specs.declared.parts.Literal.{Literal}
 use Rattle.xf_read_base.specs.declared.parts.Literal.TheVariants as literal
 use Rattle.xf_read_base.specs.declared.parts.Parts.{Parts}
-use Rattle.xf_read_base.specs.declared.parts.Ref.{Ref}
-use Rattle.xf_read_base.specs.declared.row.Row.{Row}
-use Rattle.xf_read_base.specs.declared.row.Row.TheVariants as row
 use Rattle.xf_read_base.specs.declared.row.Slot.{Slot}
 use Rattle.xf_read_base.specs.declared.row.Slot.TheVariants as slot
 use Rattle.xf_read_base.specs.Words.{spelling}
-use Rattle.xf_read_base.specs.Parts.{ref, count_of, with_symbol, as_private, with_predicate, with_literal, with_entry, with_define, with_arg, with_use, with_width, with_result}
+use Rattle.xf_read_base.specs.Parts.{ref, count_of, with_entry}
 use Rattle.xf_read_base.specs.Rules.{Rule, kind_rule, word_rule, symbol_rule, module_name_rule, function_name_rule, argument_rule, use_rule, width_meant, width_rule, result_rule, predicate_meant, predicate_rule, number_rule, truth_rule, literal_rule, entry_width_rule, entry_number_rule, entry_value_rule, entry_rule, param_rule, pair_rule, item_rule, most_items, list_rule, until_rule, enclosed_rule, dictionary_rule, attributes_rule, result_types_rule, call_results_rule, function_results_rule, listed_results_rule, if_results_rule, operands_rule, iter_args_rule, loop_width_rule, slot_rule, slots_rule}
-
--- ---- sizes
-
--- 1 for a loop and an if, whose attributes stand behind their bodies
-abbrev pub tail_of : Row → ℕ
-tail_of row.For = 1
-tail_of row.If = 1
-tail_of r = 0
-
--- the lists of a head, and whether its row has attributes behind its bodies
-pub data Counted : Type 0 where
-  in_entries : Counted
-  in_args : Counted
-  in_uses : Counted
-  in_types : Counted
-  in_results : Counted
-  in_tail : Counted
-
-abbrev pub size : Counted → Parts → ℕ
-size in_entries h = length h.entries
-size in_args h = length h.args
-size in_uses h = length h.uses
-size in_types h = length h.types
-size in_results h = length h.results
-size in_tail h = tail_of h.row
-
--- one more in one list, and none in the others
-abbrev pub one : Counted → Counted → ℕ
-one in_entries in_entries = 1
-one in_args in_args = 1
-one in_uses in_uses = 1
-one in_types in_types = 1
-one in_results in_results = 1
-one in_tail in_tail = 1
-one i j = 0
-
--- ---- bounds
-
-abbrev pub item_bound : Item → Counted → ℕ
-item_bound item.Use i = one in_uses i
-item_bound item.Type i = one in_types i
-item_bound item.Result i = one in_results i
-item_bound item.Param i = one in_args i + one in_types i
-item_bound item.Pair i = one in_args i + one in_uses i
-item_bound item.Entry i = one in_entries i
-
-abbrev pub list_bound : Item → Counted → ℕ
-list_bound t i = item_bound t i * most_items t
-
-abbrev pub slot_bound : Slot → Counted → ℕ
-slot_bound slot.Attributes i = list_bound item.Entry i
-slot_bound slot.Dictionary i = list_bound item.Entry i
-slot_bound slot.Literal i = one in_types i
-slot_bound slot.Argument i = one in_args i
-slot_bound slot.Use i = one in_uses i
-slot_bound slot.Width i = one in_types i
-slot_bound slot.Uses i = list_bound item.Use i
-slot_bound slot.Types i = list_bound item.Type i
-slot_bound slot.Params i = list_bound item.Param i
-slot_bound slot.Operands i = list_bound item.Use i + list_bound item.Type i
-slot_bound slot.CallResults i = list_bound item.Result i
-slot_bound slot.FunctionResults i = list_bound item.Result i
-slot_bound slot.IfResults i = list_bound item.Result i
-slot_bound slot.IterArgs i = list_bound item.Pair i + list_bound item.Result i
-slot_bound slot.LoopWidth i = one in_types i
-slot_bound s i = 0
-
-abbrev pub slots_bound : List Slot → Counted → ℕ
-slots_bound [] i = 0
-slots_bound (s ∷ ss) i = slot_bound s i + slots_bound ss i
-
--- ---- what is added
-
-pushed : {A : Type 0} (xs : List A) (x : A) → length (xs ++ x ∷ []) ≤ length xs + 1
-pushed xs x = omega (arith, length-append xs (x ∷ []))
-
-symbol_added : (i : Counted) (at : ℕ) (h : Parts) → size i (with_symbol at h) ≤ size i h + 0
-symbol_added in_entries at h = omega arith
-symbol_added i at h = omega arith
-
-private_added : (i : Counted) (h : Parts) → size i (as_private h) ≤ size i h + 0
-private_added in_entries h = omega arith
-private_added i h = omega arith
-
-predicate_added : (i : Counted) (k : CmpKind) (h : Parts) → size i (with_predicate k h) ≤ size i h + 0
-predicate_added in_entries k h = omega arith
-predicate_added i k h = omega arith
-
-literal_added : (i : Counted) (l : Literal) (h : Parts) → size i (with_literal l h) ≤ size i h + 0
-literal_added in_entries l h = omega arith
-literal_added i l h = omega arith
-
-pub define_added : (i : Counted) (r : Ref) (h : Parts) → size i (with_define r h) ≤ size i h + 0
-define_added in_entries r h = omega arith
-define_added i r h = omega arith
-
-entry_added : (i : Counted) (name : ℕ) (v : EntryValue) (h : Parts) → size i (with_entry name v h) ≤ size i h + one in_entries i
-entry_added in_entries name v h = pushed h.entries _
-entry_added i name v h = omega arith
-
-arg_added : (i : Counted) (r : Ref) (h : Parts) → size i (with_arg r h) ≤ size i h + one in_args i
-arg_added in_args r h = pushed h.args r
-arg_added i r h = omega arith
-
-use_added : (i : Counted) (r : Ref) (h : Parts) → size i (with_use r h) ≤ size i h + one in_uses i
-use_added in_uses r h = pushed h.uses r
-use_added i r h = omega arith
-
-width_added : (i : Counted) (w : Width) (h : Parts) → size i (with_width w h) ≤ size i h + one in_types i
-width_added in_types w h = pushed h.types _
-width_added i w h = omega arith
-
-result_added : (i : Counted) (w : Width) (h : Parts) → size i (with_result w h) ≤ size i h + one in_results i
-result_added in_results w h = pushed h.results _
-result_added i w h = omega arith
+use Rattle.xf_read_base.proofs.Sizes.{Measure, in_entries, in_args, in_uses, in_types, in_results, size, one, item_bound, list_bound, slot_bound, slots_bound, symbol_added, private_added, predicate_added, literal_added, entry_added, arg_added, use_added, width_added, result_added}
 
 -- ---- rules
 
 -- so many at most
-abbrev pub Adds : (Counted → ℕ) → Rule → Type 0
-Adds bound rule = (i : Counted) (n : ℕ) → bound i ≤ n → (all : List Token) (at : ℕ) → Grows (size i) n all rule at
+abbrev pub Adds : (Measure → ℕ) → Rule → Type 0
+Adds bound rule = (i : Measure) (n : ℕ) → bound i ≤ n → (all : List Token) (at : ℕ) → Grows (size i) n all rule at
 
-abbrev pub none : Counted → ℕ
+abbrev pub none : Measure → ℕ
 none i = 0
 
 no_less : (m n : ℕ) → m ≤ m + n
@@ -160,14 +39,14 @@ within x y b n p le = omega (arith, p, le)
 same : (m : ℕ) → m ≤ m
 same m = omega arith
 
-abbrev plus : (Counted → ℕ) → (Counted → ℕ) → Counted → ℕ
+abbrev plus : (Measure → ℕ) → (Measure → ℕ) → Measure → ℕ
 plus b c i = b i + c i
 
 -- one rule behind another
-pub both_add : (b c : Counted → ℕ) (g k : Rule) → Adds b g → Adds c k → Adds (plus b c) (both g k)
+pub both_add : (b c : Measure → ℕ) (g k : Rule) → Adds b g → Adds c k → Adds (plus b c) (both g k)
 both_add b c g k p q i n le all at = (b i, (c i, (le, (p i (b i) (same (b i)) all at, λ j. q i (c i) (same (c i)) all j))))
 
-pub skip_adds : (i : Counted) (n : ℕ) (h : Parts) → size i h ≤ size i h + n
+pub skip_adds : (i : Measure) (n : ℕ) (h : Parts) → size i h ≤ size i h + n
 skip_adds i n h = no_less (size i h) n
 
 pub kind_adds : (d : Due) (k : TokenKind) → Adds none (kind_rule d k)
@@ -244,7 +123,7 @@ literal_adds i n le all at = (
 
 -- ---- discardable attributes
 
-entry_within : (name : ℕ) (v : EntryValue) (i : Counted) (n : ℕ) → one in_entries i ≤ n → (h : Parts) → size i (with_entry name v h) ≤ size i h + n
+entry_within : (name : ℕ) (v : EntryValue) (i : Measure) (n : ℕ) → one in_entries i ≤ n → (h : Parts) → size i (with_entry name v h) ≤ size i h + n
 entry_within name v i n le h = within _ _ (one in_entries i) n (entry_added i name v h) le
 
 entry_width_adds : (name : ℕ) (bytes : List ℕ) (negative : Bool) (digits : ℕ) (x : Seen) → Adds (one in_entries) (entry_width_rule name bytes negative digits x)
@@ -332,7 +211,7 @@ attributes_adds i n le all at = (
 
 -- ---- types and operands
 
-one_result : (i : Counted) → one in_results i ≤ list_bound item.Result i
+one_result : (i : Measure) → one in_results i ≤ list_bound item.Result i
 one_result in_results = omega arith
 one_result i = omega arith
 
@@ -362,7 +241,7 @@ operands_adds : Adds (slot_bound slot.Operands) operands_rule
 unfolding operands_rule
 operands_adds i n le all at = (
   λ e. both_add (list_bound item.Use) (plus none (list_bound item.Type)) (list_rule item.Use) (both (kind_rule due.Other colon) (list_rule item.Type)) (list_adds item.Use)
-  (both_add none (list_bound item.Type) (kind_rule due.Other colon) (list_rule item.Type) (kind_adds due.Other colon) (list_adds item.Type)) i n (omega (arith, le)) all at,
+      (both_add none (list_bound item.Type) (kind_rule due.Other colon) (list_rule item.Type) (kind_adds due.Other colon) (list_adds item.Type)) i n (omega (arith, le)) all at,
   λ e h. skip_adds i n h,
 )
 
@@ -370,8 +249,8 @@ iter_args_adds : Adds (slot_bound slot.IterArgs) iter_args_rule
 unfolding iter_args_rule
 iter_args_adds i n le all at = (
   λ e. both_add none (plus (list_bound item.Pair) (plus none (list_bound item.Result))) (kind_rule due.Other open_paren) (both (enclosed_rule item.Pair due.Other) (both (kind_rule due.Other kind.Arrow) listed_results_rule)) (kind_adds due.Other open_paren)
-  (both_add (list_bound item.Pair) (plus none (list_bound item.Result)) (enclosed_rule item.Pair due.Other) (both (kind_rule due.Other kind.Arrow) listed_results_rule) (enclosed_adds item.Pair due.Other)
-  (both_add none (list_bound item.Result) (kind_rule due.Other kind.Arrow) listed_results_rule (kind_adds due.Other kind.Arrow) listed_results_adds)) i n (omega (arith, le)) all (at + 1),
+      (both_add (list_bound item.Pair) (plus none (list_bound item.Result)) (enclosed_rule item.Pair due.Other) (both (kind_rule due.Other kind.Arrow) listed_results_rule) (enclosed_adds item.Pair due.Other)
+      (both_add none (list_bound item.Result) (kind_rule due.Other kind.Arrow) listed_results_rule (kind_adds due.Other kind.Arrow) listed_results_adds)) i n (omega (arith, le)) all (at + 1),
   λ e h. skip_adds i n h,
 )
 

@@ -4,6 +4,7 @@ pub mod HeadLaws
 pub mod HeadPieces
 pub mod Pieces
 pub mod Short
+pub mod Sizes
 pub mod Sorting
 pub mod Steady
 pub mod Stops

@@ -1,15 +1,14 @@
 -- No list of a head has 2 ^ 32 entries, and the heads of a loop and of an if have no attributes.
-use Rattle.std.proofs.Common.{ℕ, ◌+◌, ◌-◌, ◌<◌, ◌≤◌, ◌^◌, ◌≡◌, ◌⊎◌, inl, inr, ◌==◌, ◌&&◌, Bool, true, false, List, length, Ok, Err, refl, subst, arith}
+use Rattle.std.proofs.Common.{ℕ, ◌+◌, ◌-◌, ◌≤◌, ◌^◌, ◌≡◌, ◌⊎◌, inl, inr, ◌&&◌, Bool, true, List, length, Ok, Err, refl, subst, arith}
 use Rattle.std.specs.Prelude.{nat_le}
 use Rattle.std.proofs.lemmas.Bool.{and_parts, leb-true}
 use Rattle.xf_lex.specs.declared.token.Token.{Token}
 use Rattle.xf_lex.specs.declared.token.TokenKind.TheVariants as kind
-use Rattle.xf_grammar.specs.Tokens.{Seen, seen, is_kind, word_of, colon, equals}
+use Rattle.xf_grammar.specs.Tokens.{Seen, seen, is_kind, word_of, equals}
 use Rattle.xf_grammar.specs.Grammar.{read}
 use Rattle.xf_grammar.specs.Reading.{Out}
 use Rattle.xf_grammar.proofs.Kept.{Has, has_either, has_behind}
 use Rattle.xf_grammar.proofs.Grown.{Grows, AtMost, grown}
-use Rattle.xf_read_base.specs.declared.due.Due.{Due}
 use Rattle.xf_read_base.specs.declared.due.Due.TheVariants as due
 use Rattle.xf_read_base.specs.declared.list.Item.TheVariants as item
 use Rattle.xf_read_base.specs.declared.parts.Parts.{Parts}
@@ -25,7 +24,8 @@ use Rattle.xf_read_base.specs.Rules.{slots_rule, dictionary_rule, has_operations
 use Rattle.xf_read_base.specs.Heads.{head_at}
 use Rattle.xf_read_base.specs.Reading.{dictionary_at}
 use Rattle.xf_read_base.specs.Short.{HasShortParts, HeadsAreShort}
-use Rattle.xf_read_base.proofs.Growing.{tail_of, Counted, in_entries, in_args, in_uses, in_types, in_results, in_tail, size, one, list_bound, slots_bound, define_added, skip_adds, kind_adds, dictionary_adds, slots_add}
+use Rattle.xf_read_base.proofs.Sizes.{tail_of, Measure, in_entries, in_args, in_uses, in_types, in_results, in_tail, size, one, list_bound, slots_bound, define_added}
+use Rattle.xf_read_base.proofs.Growing.{kind_adds, dictionary_adds, slots_add}
 
 -- ---- rows
 
@@ -42,7 +42,7 @@ rows_are_short : (r : Row) → is_short (slots r) ≡ true
 rows_are_short row.Module = refl
 rows_are_short r = refl
 
-slots_short : (ss : List Slot) → is_short ss ≡ true → (i : Counted) → one in_tail i + slots_bound ss i ≤ most
+slots_short : (ss : List Slot) → is_short ss ≡ true → (i : Measure) → one in_tail i + slots_bound ss i ≤ most
 slots_short ss e i =
     let a = and_parts _ _ e in
     let b = and_parts _ _ a.1 in
@@ -51,7 +51,7 @@ slots_short ss e i =
     let f = and_parts _ _ d.1 in
     of i (leb-true _ _ a.0) (leb-true _ _ b.0) (leb-true _ _ c.0) (leb-true _ _ d.0) (leb-true _ _ f.0) (leb-true _ _ f.1)
   where
-    of : (i : Counted) → slots_bound ss in_entries ≤ most → slots_bound ss in_args ≤ most → slots_bound ss in_uses ≤ most → slots_bound ss in_types ≤ most → slots_bound ss in_results ≤ most → slots_bound ss in_tail ≤ 0
+    of : (i : Measure) → slots_bound ss in_entries ≤ most → slots_bound ss in_args ≤ most → slots_bound ss in_uses ≤ most → slots_bound ss in_types ≤ most → slots_bound ss in_results ≤ most → slots_bound ss in_tail ≤ 0
         → one in_tail i + slots_bound ss i ≤ most
     of in_entries a b c d e f = omega (arith, a)
     of in_args a b c d e f = omega (arith, b)
@@ -62,7 +62,7 @@ slots_short ss e i =
 
 -- ---- heads
 
-defines_add : (x : Seen) (name : ℕ) (i : Counted) (n : ℕ) (all : List Token) (at : ℕ) → Grows (size i) n all (defines_rule x name) at
+defines_add : (x : Seen) (name : ℕ) (i : Measure) (n : ℕ) (all : List Token) (at : ℕ) → Grows (size i) n all (defines_rule x name) at
 unfolding defines_rule
 defines_add x name i n all at = (
   λ e. (
@@ -72,29 +72,29 @@ defines_add x name i n all at = (
   λ e. (0, (n, (omega arith, (λ h. define_added i (ref name 1) h, λ j. kind_adds due.Other equals i n (omega arith) all j)))),
 )
 
-row_added : (i : Counted) (r : Row) (h : Parts) → size i (with_row r h) ≤ size i h + one in_tail i
+row_added : (i : Measure) (r : Row) (h : Parts) → size i (with_row r h) ≤ size i h + one in_tail i
 row_added in_tail row.For h = omega arith
 row_added in_tail row.If h = omega arith
 row_added in_tail r h = omega arith
 row_added i r h = omega arith
 
-row_adds : (l : Level) (i : Counted) (all : List Token) (at : ℕ) → Grows (size i) most all (row_rule l) at
+row_adds : (l : Level) (i : Measure) (all : List Token) (at : ℕ) → Grows (size i) most all (row_rule l) at
 unfolding row_rule
 row_adds l i all at =
     let r : Row = row_opened (opening_of (word_of (seen all at))) in
     let b : ℕ = slots_bound (slots r) i in
     (λ e. (one in_tail i, (b, (slots_short (slots r) (rows_are_short r) i, (λ h. row_added i r h, λ j. slots_add (slots r) i b (omega arith) all j)))), λ e. (λ f. tt, λ f. tt))
 
-head_adds : (l : Level) (i : Counted) (all : List Token) (at : ℕ) → Grows (size i) most all (head_rule l) at
+head_adds : (l : Level) (i : Measure) (all : List Token) (at : ℕ) → Grows (size i) most all (head_rule l) at
 unfolding head_rule
 head_adds l i all at = (λ e. (0, (most, (omega arith, (defines_add (seen all at) at i 0 all (at + 1), λ j. row_adds level.Body i all j)))), λ e. row_adds l i all at)
 
-nothing_counted : (i : Counted) → size i (no_parts row.Module) ≡ 0
+nothing_counted : (i : Measure) → size i (no_parts row.Module) ≡ 0
 nothing_counted in_entries = refl
 nothing_counted i = refl
 
 -- each list is short
-each_short : {D : Type 0} (o : Out Parts D) → ((i : Counted) → AtMost (size i) most o) → Has HasShortParts o
+each_short : {D : Type 0} (o : Out Parts D) → ((i : Measure) → AtMost (size i) most o) → Has HasShortParts o
 each_short (Ok x) s = record {
   entries = let k = s in_entries in omega (arith, k);
   args = let k = s in_args in omega (arith, k);
@@ -163,11 +163,11 @@ heads_bare all l at =
 pub dictionary_short : (all : List Token) (p : Parts) (at : ℕ) → HasShortParts p → length p.entries ≤ 0 → Has HasShortParts (dictionary_at all p at)
 dictionary_short all p at s le = each_short (dictionary_at all p at) (λ i. bounded i (grown (size i) (list_bound item.Entry i) dictionary_rule all p at (dictionary_adds i (list_bound item.Entry i) (omega arith) all at)))
   where
-    at_most : {D : Type 0} (i : Counted) (m : ℕ) (o : Out Parts D) → m ≤ most → AtMost (size i) m o → AtMost (size i) most o
+    at_most : {D : Type 0} (i : Measure) (m : ℕ) (o : Out Parts D) → m ≤ most → AtMost (size i) m o → AtMost (size i) most o
     at_most i m (Ok x) l k = omega (arith, l, k)
     at_most i m (Err e) l k = tt
 
-    few : (i : Counted) → size i p + list_bound item.Entry i ≤ most
+    few : (i : Measure) → size i p + list_bound item.Entry i ≤ most
     few in_entries = omega (arith, le)
     few in_args = let k = s.args in omega (arith, k)
     few in_uses = let k = s.uses in omega (arith, k)
@@ -180,5 +180,5 @@ dictionary_short all p at s le = each_short (dictionary_at all p at) (λ i. boun
         of_tail row.If = omega arith
         of_tail r = omega arith
 
-    bounded : (i : Counted) → AtMost (size i) (size i p + list_bound item.Entry i) (dictionary_at all p at) → AtMost (size i) most (dictionary_at all p at)
+    bounded : (i : Measure) → AtMost (size i) (size i p + list_bound item.Entry i) (dictionary_at all p at) → AtMost (size i) most (dictionary_at all p at)
     bounded i k = at_most i _ (dictionary_at all p at) (few i) k
