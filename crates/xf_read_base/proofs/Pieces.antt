@@ -253,7 +253,7 @@ more_writes i l (x ∷ xs) at y t e =
     (l.say x t, (subst (λ z. Writes (item_rule i) (at + 1) (l.print x) z t (l.say x t)) (sym (follow_is l.print xs y)) (l.writes x (at + 1) (follow xs y) t b.0), more_writes i l xs _ y (l.say x t) b.1))
 
 few_others : {A : Type 0} (i : Item) (l : Items A i) (xs : List A) → nat_lt (length xs) (most_items i) ≡ true → length (map l.print xs) ≤ most_items i - 1
-few_others i l xs e = let n = length-map l.print xs in let lt = ltb-true (length xs) (most_items i) e in omega (arith, n, lt)
+few_others i l xs e = let n = length-map xs l.print in let lt = ltb-true (length xs) (most_items i) e in omega (arith, n, lt)
 
 list_writes : {A : Type 0} (i : Item) (l : Items A i) (x : A) (xs : List A) (at : ℕ) (y : Seen) (t : Said) → list_suits i l.ok x xs y ≡ true → Writes (list_rule i) at (list_written l.print x xs) y t (says_all l.say xs (l.say x t))
 list_writes i l x xs at y t e =
