@@ -1,5 +1,5 @@
 -- A module that a text spells has no list of 2 ^ 32 entries.
-use Rattle.std.proofs.Common.{◌≡◌, ℕ, suc, ◌+◌, ◌<◌, ◌≤◌, ◌^◌, ◌==◌, ◌&&◌, Bool, true, false, List, [], ◌∷◌, ◌++◌, length, Option, Some, None, Ordering, Less, Equal, Greater, refl, sym, ap, subst, ◌∙◌, arith}
+use Rattle.std.proofs.Common.{◌≡◌, ℕ, suc, ◌+◌, ◌<◌, ◌≤◌, ◌^◌, Bool, true, false, List, [], ◌∷◌, length, Option, Some, None, Ordering, Less, Equal, Greater, refl, ap, subst, arith}
 use Rattle.std.specs.Prelude.{map, if◌then◌else◌, slice_get}
 use Rattle.std.specs.Cmp.Lexicographic.{slice_cmp}
 use Rattle.std.specs.Ordering.{nat_cmp, match_ordering}
@@ -12,28 +12,26 @@ use Rattle.xf_read_base.specs.declared.parts.Parts.{Parts}
 use Rattle.xf_read_base.specs.declared.row.Row.{Row}
 use Rattle.xf_read_base.specs.declared.row.Row.TheVariants as row
 use Rattle.xf_read_base.specs.Short.{HasShortParts}
-use Rattle.xf_read_base.specs.Values.{attr_of, with_attr, with_entries, attrs_of, kind_by}
+use Rattle.xf_read_base.specs.Values.{attr_of, with_attr, with_entries, kind_by}
 use Rattle.xf_ir.specs.declared.kind.Attr.{Attr}
 use Rattle.xf_ir.specs.declared.kind.Kind.TheVariants as kind
 use Rattle.xf_ir.specs.declared.name.OpName.{OpName}
-use Rattle.xf_ir.specs.declared.op.Module.{Module}
 use Rattle.xf_ir.specs.Kinds.{returned_types}
 use Rattle.xf_ir.specs.Lists.{Each}
 use Rattle.xf_ir.specs.Places.{done, inside as inside_of}
 use Rattle.xf_ir.specs.Placed.{Typed, type_at, Holder, holder_of, Placed, ops_placed, regions_placed, functions_placed, blocks_placed, root_holder}
 use Rattle.xf_ir.specs.RuleBlocks.{block_args}
 use Rattle.xf_ir.specs.Tree.{Ops, no_ops, op, Regions, no_regions, region}
-use Rattle.xf_ir.specs.Tree.{Tree as Op}
 use Rattle.xf_ir.proofs.Lists.{each_both}
 use Rattle.xf_read.specs.declared.faults.Faults.{Faults}
 use Rattle.xf_read.specs.declared.tree.File.{File}
 use Rattle.xf_read.specs.Meant.{operands_of, joined, left_out, nodes_meant, bodies_meant, tree_meant, meant}
-use Rattle.xf_read.specs.Names.{op_name, yield_count, nodes_count, bodies_count, earlier, inside, behind, agrees, nodes_faults, bodies_faults, tree_faults, operands_fit, results_fit}
+use Rattle.xf_read.specs.Names.{op_name, yield_count, nodes_count, bodies_count, earlier, inside, behind, agrees, nodes_faults, bodies_faults, tree_faults}
 use Rattle.xf_read.specs.Scopes.{Scope, no_names, value_used}
 use Rattle.xf_read.specs.Short.{HasShortLists, ListsAreShort, SpeltIsShort}
 use Rattle.xf_read.specs.Syntax.{lacks_yield}
 use Rattle.xf_read.specs.Tree.{Nodes, no_nodes, node, Bodies, no_bodies, body, Tree}
-use Rattle.xf_read.specs.Types.{one_type, results_by, args_by, operands_by}
+use Rattle.xf_read.specs.Types.{one_type, results_by, args_by}
 use Rattle.xf_read.proofs.ShortTrees.{NodesShort, BodiesShort, TreeShort, text_short}
 
 -- ---- the lists of one operation

@@ -18,11 +18,10 @@ use Rattle.xf_read_base.specs.Reading.{dictionary_at}
 use Rattle.xf_read_base.specs.Short.{HasShortParts}
 use Rattle.xf_read_base.proofs.Sizes.{tail_of}
 use Rattle.xf_read_base.proofs.Short.{heads_short, IsBare, heads_bare, dictionary_short}
-use Rattle.xf_read.specs.declared.fault.Cause.{Cause}
 use Rattle.xf_read.specs.declared.fault.Cause.TheVariants as cause
 use Rattle.xf_read.specs.declared.tree.File.{File}
 use Rattle.xf_read.specs.Tree.{Nodes, no_nodes, node, Bodies, no_bodies, body, Tree, Block}
-use Rattle.xf_read.specs.Syntax.{Counted, From, part, most_open, most_operations, begins_at, inside, behind, lacks_yield, yielded, closed, braced, single, with_else, bodies_at, tail_at, node_at, closes, nodes_at, is_end, ended, written_file, unwritten_file, file_at}
+use Rattle.xf_read.specs.Syntax.{From, part, most_open, most_operations, begins_at, inside, behind, lacks_yield, yielded, closed, braced, single, with_else, bodies_at, tail_at, node_at, closes, nodes_at, is_end, ended, written_file, unwritten_file, file_at}
 use Rattle.xf_read.specs.Laws.{IsText}
 
 -- ---- trees
