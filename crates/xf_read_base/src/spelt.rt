@@ -2,8 +2,8 @@
 ghost use Rattle.std.specs.Prelude.{◌≡◌, IfOk};
 ghost use Rattle.xf_read_base.specs.Spelt.{Answers, head_of, head_spelt, stopped};
 
-use crate::entries::attributes;
 use crate::due::{Due, HeadFault};
+use crate::entries::attributes;
 use crate::heads::head_at;
 use crate::kinds::kind_of;
 use crate::parts::{Head, Parts};
