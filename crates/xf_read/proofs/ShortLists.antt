@@ -28,7 +28,7 @@ use Rattle.xf_read.specs.declared.tree.File.{File}
 use Rattle.xf_read.specs.Meant.{operands_of, joined, left_out, nodes_meant, bodies_meant, tree_meant, meant}
 use Rattle.xf_read.specs.Names.{op_name, yield_count, nodes_count, bodies_count, earlier, inside, behind, agrees, nodes_faults, bodies_faults, tree_faults}
 use Rattle.xf_read.specs.Scopes.{Scope, no_names, value_used}
-use Rattle.xf_read.specs.Short.{HasShortLists, ListsAreShort, SpeltIsShort}
+use Rattle.xf_read.specs.Short.{HasShortLists, NoListIsLong, SpeltIsShort}
 use Rattle.xf_read.specs.Syntax.{lacks_yield}
 use Rattle.xf_read.specs.Tree.{Nodes, no_nodes, node, Bodies, no_bodies, body, Tree}
 use Rattle.xf_read.specs.Types.{one_type, results_by, args_by}
@@ -181,7 +181,7 @@ blocks_each h (region args ops rest) s = each_both IsShort (functions_placed h o
 
 -- ---- texts
 
-tree_lists : (all : List Token) (file : File) → TreeShort file.root → (tree_faults all 0 no_names file.root).mismatch ≡ None → ListsAreShort (meant all file)
+tree_lists : (all : List Token) (file : File) → TreeShort file.root → (tree_faults all 0 no_names file.root).mismatch ≡ None → NoListIsLong (meant all file)
 tree_lists all file s e =
     let t : Tree = file.root in
     let f = none_earlier _ _ e in (
@@ -190,4 +190,4 @@ tree_lists all file s e =
     )
 
 pub spelt_is_short : SpeltIsShort
-spelt_is_short bytes m s = subst ListsAreShort s.means (tree_lists s.tokens s.file (text_short s.tokens s.file s.is_text) (ap (λ (f : Faults). f.mismatch) s.no_fault))
+spelt_is_short bytes m s = subst NoListIsLong s.means (tree_lists s.tokens s.file (text_short s.tokens s.file s.is_text) (ap (λ (f : Faults). f.mismatch) s.no_fault))
