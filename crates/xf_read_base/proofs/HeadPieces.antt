@@ -19,7 +19,8 @@ use Rattle.xf_read_base.specs.Rows.{slots, fits}
 use Rattle.xf_read_base.specs.Parts.{Said, count_of, with_row, says_row, says_define}
 use Rattle.xf_read_base.specs.Rules.{slots_rule, has_operations, opens, row_opened, row_rule, defines_rule, head_rule}
 use Rattle.xf_read_base.specs.Pieces.{mark, word, value_name, Piece, row_written, row_suits, row_says, Results, count_written, count_said, binary_word, conversion_word, row_word, head_written, head_suits, head_says}
-use Rattle.xf_read_base.proofs.Pieces.{and_both, kind_writes, row_writes}
+use Rattle.xf_read_base.proofs.Items.{and_both, kind_writes}
+use Rattle.xf_read_base.proofs.Pieces.{row_writes}
 
 binary_is : (k : BinKind) → opening_of (binary_word k) ≡ opening.Row (row.Binary k)
 binary_is bin.Addi = refl
