@@ -72,15 +72,15 @@ headline_of_front : (file front : List ℕ) (journal : List Entry) (text : List 
 unfolding reaches_of_front
 headline_of_front file front journal text e h = record { after = h.after; reaches = reaches_of_front file front journal h.after e h.reaches; is = h.is; again = h.again; spells = h.spells; renamed = h.renamed; valid = h.valid; same = h.same }
 
-tells_of_front : (text_of : Module → List ℕ) (file front : List ℕ) (journal : List Entry) (text : List ℕ) → front ≡ take (file_limit + 1) file → TellsOf text_of front journal text → TellsOf text_of file journal text
-tells_of_front text_of file front journal text e t = record { payload = t.payload; holds = holds_of_front file front t.payload e t.holds; is = t.is; no_choice = t.no_choice }
+tells_of_front : (text_of : Module → List ℕ) (file front text : List ℕ) → front ≡ take (file_limit + 1) file → TellsOf text_of front text → TellsOf text_of file text
+tells_of_front text_of file front text e t = record { payload = t.payload; holds = holds_of_front file front t.payload e t.holds; is = t.is }
 
 -- ---- what is due
 
 due_of_front : (asked : Asked) (file front : List ℕ) (journal : List Entry) (text : List ℕ) → front ≡ take (file_limit + 1) file → Due asked front journal text → Due asked file journal text
 due_of_front (run s p) file front journal text e d = headline_of_front file front journal text e d
-due_of_front (verify p) file front journal text e d = tells_of_front _ file front journal text e d
-due_of_front (print p) file front journal text e d = tells_of_front _ file front journal text e d
+due_of_front (verify p) file front journal text e d = tells_of_front _ file front text e d
+due_of_front (print p) file front journal text e d = tells_of_front _ file front text e d
 
 refuses_of_front : (asked : Asked) (file front : List ℕ) (f : Fault) → front ≡ take (file_limit + 1) file → Refuses asked front f → Refuses asked file f
 refuses_of_front (run s p) file front f e (inl n) = inl (refused_of_front file front f e n)

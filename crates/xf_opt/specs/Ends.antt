@@ -67,18 +67,17 @@ pub record Headline (file : List ℕ) (journal : List Entry) (text : List ℕ) :
   pub valid : IsValid again
   pub same : KeepsMeaning reaches.before again
 
--- a text that tells of a valid payload, without any choice
-pub record TellsOf (text_of : Module → List ℕ) (file : List ℕ) (journal : List Entry) (text : List ℕ) : Type 0 where
+-- a text that tells of a valid payload
+pub record TellsOf (text_of : Module → List ℕ) (file text : List ℕ) : Type 0 where
   pub payload : Module
   pub holds : IsPayload file payload
   pub is : text ≡ text_of payload
-  pub no_choice : journal ≡ []
 
--- the text that a command owes for a payload's file, and the choices that it made
+-- the text that a command owes for a payload's file; that of a run rests on the choices that it made
 abbrev pub Due : Asked → List ℕ → List Entry → List ℕ → Type 0
 Due (run script payload) file journal text = Headline file journal text
-Due (verify payload) file journal text = TellsOf (λ m. codes "ok\n") file journal text
-Due (print payload) file journal text = TellsOf printed_form file journal text
+Due (verify payload) file journal text = TellsOf (λ m. codes "ok\n") file text
+Due (print payload) file journal text = TellsOf printed_form file text
 
 -- it was written
 abbrev pub Finishes : Asked → List ℕ → List Entry → Option (List ℕ) → Option (List ℕ) → Type 0
@@ -157,6 +156,11 @@ OnScript (Some asked) holds P = OnFile (script_of asked) holds P
 abbrev pub OnPayload : Option Asked → (List ℕ → Option (List ℕ)) → (Asked → List ℕ → Type 0) → Type 0
 OnPayload None holds P = Unit {0}
 OnPayload (Some asked) holds P = IfSome (holds (payload_of asked)) (P asked)
+
+-- the words give no script, by which a choice could be made
+abbrev pub GivesNoScript : Option Asked → Type 0
+GivesNoScript None = Unit {0}
+GivesNoScript (Some asked) = script_of asked ≡ None
 
 -- the path of the script, or of the payload, that the words give
 abbrev pub IsScriptPath : Option Asked → List ℕ → Type 0

@@ -7,4 +7,4 @@ use Rattle.xf_opt.proofs.telling.print_payload.Goals as goal
 pub returns-clause-payload : goal.returns-clause-payload
 returns-clause-payload g c = λ p.
     front_told (print p) c.args.bytes.now (printed_form c.in-Ok.module) c.in-Err-print.fail c.write_refusal.result _ _ c.write_refusal.ensures
-    (record { payload = c.in-Ok.module; holds = c.in-Ok.ensures.ok; is = refl; no_choice = refl }) c.in-Err-print.ensures.text
+    (record { payload = c.in-Ok.module; holds = c.in-Ok.ensures.ok; is = refl }) c.in-Err-print.ensures.text
