@@ -12,6 +12,8 @@ pub mod Place
 pub mod ReadAgain
 pub mod SameTypes
 pub mod Scoping
+pub mod ShortLists
+pub mod ShortTrees
 pub mod Steps
 pub mod TailLemmas
 pub mod Texts

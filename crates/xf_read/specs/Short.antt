@@ -17,9 +17,9 @@ pub record HasShortLists (t : Tree) : Type 0 where
   pub returned : length (returned_types t.kind) < 2 ^ 32
 
 -- those of each operation of a module
-abbrev pub ListsAreShort : Module → Type 0
-ListsAreShort m = Each (λ (p : Placed). HasShortLists p.tree) (placed m)
+abbrev pub NoListIsLong : Module → Type 0
+NoListIsLong m = Each (λ (p : Placed). HasShortLists p.tree) (placed m)
 
 -- a module that a text spells has no list of 2 ^ 32 entries
 abbrev pub SpeltIsShort : Type 0
-SpeltIsShort = (bytes : List ℕ) (m : Module) → Spells bytes m → ListsAreShort m
+SpeltIsShort = (bytes : List ℕ) (m : Module) → Spells bytes m → NoListIsLong m

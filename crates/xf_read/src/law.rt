@@ -1,4 +1,5 @@
 //! What holds of all texts.
+ghost use Rattle.xf_read.specs.Short.{SpeltIsShort};
 ghost use Rattle.xf_read.specs.Spells.{SpellsOne, MisspellsOne, SpellsOrNot};
 ghost use Rattle.xf_read.specs.Written.{TextsAreWritten, TextsReadAgain};
 
@@ -13,4 +14,10 @@ pub fn one_meaning()
 pub fn texts_are_read_as_written()
     ensures written { TextsAreWritten }
     ensures again { TextsReadAgain }
+{}
+
+/// No list of an operation of a module that a text spells has 2^32 entries: of its attributes,
+/// operands, results and block arguments, and of the types that it returns.
+pub fn spelt_modules_are_short()
+    ensures { SpeltIsShort }
 {}

@@ -2,6 +2,7 @@ pub mod Ends
 pub mod Growing
 pub mod HeadLaws
 pub mod HeadPieces
+pub mod Items
 pub mod Pieces
 pub mod Short
 pub mod Sizes

@@ -1,5 +1,5 @@
 -- The head that is spelt at a token.
-use Rattle.std.specs.Prelude.{◌≡◌, ℕ, List, ◌++◌, Option, Some, None, Result, Ok, Err}
+use Rattle.std.specs.Prelude.{◌≡◌, ℕ, ◌<◌, ◌≤◌, List, length, ◌++◌, Option, Some, None, Result, Ok, Err}
 use Rattle.xf_span.specs.declared.fault.Fault.{Fault}
 use Rattle.xf_span.specs.declared.fault.TextFault.{TextFault}
 use Rattle.xf_span.specs.declared.fault.TextFault.TheVariants as text_fault
@@ -31,6 +31,11 @@ head_told all (Err e) = stopped all e.0 e.1
 -- the head of the operation at a token, wherever it may stand
 abbrev pub head_spelt : List Token → ℕ → Result (Option Head) Fault
 head_spelt all at = head_told all (head_at all level.Any at)
+
+-- where a head ends: behind its first token, and not behind the last
+abbrev pub EndsWithin : List Token → ℕ → Option Head → Type 0
+EndsWithin all at None = Unit {0}
+EndsWithin all at (Some h) = (at < h.next) × (h.next ≤ length all)
 
 -- an answer is that, unless memory was refused
 abbrev pub Answers : Result (Option Head) TextFault → Result (Option Head) Fault → Type 0

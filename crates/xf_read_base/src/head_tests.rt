@@ -32,7 +32,10 @@ fn a_loop_has_its_width_its_names_and_the_types_behind_it(rt: HostRuntime) {
         Kind::For { width } => assert_eq!(rt; width, Width::I64),
         _ => panic!(rt; "no loop"),
     }
-    assert_eq!(rt; head.defines.as_slice(), [Ref { token: 0, count: 2 }].as_slice());
+    assert_eq!(rt;
+        head.defines.as_slice(),
+        [Ref { token: 0, count: 2 }].as_slice()
+    );
     assert_eq!(rt; head.args.len(), 3);
     assert_eq!(rt; head.uses.len(), 5);
     assert_eq!(rt; head.uses.as_slice()[1], Ref { token: 9, count: 7 });
@@ -41,7 +44,10 @@ fn a_loop_has_its_width_its_names_and_the_types_behind_it(rt: HostRuntime) {
         Some(PayloadType::Scalar(width)) => assert_eq!(rt; *width, Width::I64),
         _ => panic!(rt; "no width"),
     }
-    assert_eq!(rt; list.as_slice()[head.next].bytes.as_slice(), b"{".as_slice());
+    match list.as_slice().get(head.next) {
+        Some(token) => assert_eq!(rt; token.bytes.as_slice(), b"{".as_slice()),
+        None => panic!(rt; "no brace"),
+    }
 }
 
 #[test]

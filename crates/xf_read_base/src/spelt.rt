@@ -1,9 +1,9 @@
 //! The head of an operation by what it means.
 ghost use Rattle.std.specs.Prelude.{◌≡◌, IfOk};
-ghost use Rattle.xf_read_base.specs.Spelt.{Answers, head_of, head_spelt, stopped};
+ghost use Rattle.xf_read_base.specs.Spelt.{Answers, EndsWithin, head_of, head_spelt, stopped};
 
-use crate::entries::attributes;
 use crate::due::{Due, HeadFault};
+use crate::entries::attributes;
 use crate::heads::head_at;
 use crate::kinds::kind_of;
 use crate::parts::{Head, Parts};
@@ -60,6 +60,7 @@ fn stopped(tokens: &[Token], at: usize, due: Due) -> Result<Option<Head>, Fault>
 /// 2^32 of them, and else of the syntax. It takes time in the number of its tokens.
 pub fn head(alloc: Global, tokens: &[Token], at: usize) -> Result<Option<Head>, ReadFault>
     ensures answers { Answers result (head_spelt tokens.now at) }
+    ensures within { IfOk result (λ head. EndsWithin tokens.now at head) }
 {
     match head_at(alloc, tokens, Level::Any, at) {
         Ok((parts, next)) => Ok(Some(head_of(alloc, tokens, parts, next)?)),

@@ -1,0 +1,193 @@
+-- A module that a text spells has no list of 2 ^ 32 entries.
+use Rattle.std.proofs.Common.{◌≡◌, ℕ, suc, ◌+◌, ◌<◌, ◌≤◌, ◌^◌, Bool, true, false, List, [], ◌∷◌, length, Option, Some, None, Ordering, Less, Equal, Greater, refl, ap, subst, arith}
+use Rattle.std.specs.Prelude.{map, if◌then◌else◌, slice_get}
+use Rattle.std.specs.Cmp.Lexicographic.{slice_cmp}
+use Rattle.std.specs.Ordering.{nat_cmp, match_ordering}
+use Rattle.std.proofs.lemmas.Bool.{and_parts, eqb-true}
+use Rattle.std.proofs.lemmas.List.{length-map}
+use Rattle.xf_type.specs.declared.payload_type.PayloadType.{PayloadType}
+use Rattle.xf_lex.specs.declared.token.Token.{Token}
+use Rattle.xf_read_base.specs.declared.parts.Entry.{Entry}
+use Rattle.xf_read_base.specs.declared.parts.Parts.{Parts}
+use Rattle.xf_read_base.specs.declared.row.Row.{Row}
+use Rattle.xf_read_base.specs.declared.row.Row.TheVariants as row
+use Rattle.xf_read_base.specs.Short.{HasShortParts}
+use Rattle.xf_read_base.specs.Values.{attr_of, with_attr, with_entries, kind_by}
+use Rattle.xf_ir.specs.declared.kind.Attr.{Attr}
+use Rattle.xf_ir.specs.declared.kind.Kind.TheVariants as kind
+use Rattle.xf_ir.specs.declared.name.OpName.{OpName}
+use Rattle.xf_ir.specs.Kinds.{returned_types}
+use Rattle.xf_ir.specs.Lists.{Each}
+use Rattle.xf_ir.specs.Places.{done, inside as inside_of}
+use Rattle.xf_ir.specs.Placed.{Typed, type_at, Holder, holder_of, Placed, ops_placed, regions_placed, functions_placed, blocks_placed, root_holder}
+use Rattle.xf_ir.specs.RuleBlocks.{block_args}
+use Rattle.xf_ir.specs.Tree.{Ops, no_ops, op, Regions, no_regions, region}
+use Rattle.xf_ir.proofs.Lists.{each_both}
+use Rattle.xf_read.specs.declared.faults.Faults.{Faults}
+use Rattle.xf_read.specs.declared.tree.File.{File}
+use Rattle.xf_read.specs.Meant.{operands_of, joined, left_out, nodes_meant, bodies_meant, tree_meant, meant}
+use Rattle.xf_read.specs.Names.{op_name, yield_count, nodes_count, bodies_count, earlier, inside, behind, agrees, nodes_faults, bodies_faults, tree_faults}
+use Rattle.xf_read.specs.Scopes.{Scope, no_names, value_used}
+use Rattle.xf_read.specs.Short.{HasShortLists, NoListIsLong, SpeltIsShort}
+use Rattle.xf_read.specs.Syntax.{lacks_yield}
+use Rattle.xf_read.specs.Tree.{Nodes, no_nodes, node, Bodies, no_bodies, body, Tree}
+use Rattle.xf_read.specs.Types.{one_type, results_by, args_by}
+use Rattle.xf_read.proofs.ShortTrees.{NodesShort, BodiesShort, TreeShort, text_short}
+
+-- ---- the lists of one operation
+
+by_order : (o : Ordering) (n : ℕ) (xs ys zs : List Attr) → length xs ≤ n → length ys ≤ n → length zs ≤ n → length (match_ordering o xs ys zs) ≤ n
+by_order Less n xs ys zs p q r = p
+by_order Equal n xs ys zs p q r = q
+by_order Greater n xs ys zs p q r = r
+
+-- an attribute takes a place of its own, or that of one of its name
+one_attr : (a : Attr) (xs : List Attr) → length (with_attr a xs) ≤ length xs + 1
+one_attr a [] = omega arith
+one_attr a (b ∷ bs) = let r = one_attr a bs in by_order (slice_cmp nat_cmp a.name b.name) (suc (length bs) + 1) _ _ _ (omega arith) (omega arith) (omega (arith, r))
+
+entries_grow : (all : List Token) (es : List Entry) (xs : List Attr) → length (with_entries all es xs) ≤ length xs + length es
+entries_grow all [] xs = omega arith
+entries_grow all (e ∷ es) xs = let r = entries_grow all es (with_attr (attr_of all e) xs) in let o = one_attr (attr_of all e) xs in omega (arith, r, o)
+
+one_at_most : (t : Option PayloadType) → length (one_type t) ≤ 1
+one_at_most None = omega arith
+one_at_most (Some t) = omega arith
+
+results_short : (r : Row) (p : Parts) → HasShortParts p → length (results_by r p) < 2 ^ 32
+results_short row.Module p s = omega arith
+results_short row.Function p s = omega arith
+results_short row.Return p s = omega arith
+results_short row.Call p s = s.results
+results_short row.Constant p s = s.types
+results_short (row.Binary k) p s = s.types
+results_short row.Compare p s = omega arith
+results_short row.Select p s = s.types
+results_short (row.Convert k) p s = let o = one_at_most (slice_get p.types 1) in omega (arith, o)
+results_short row.For p s = s.results
+results_short row.If p s = s.results
+results_short row.Yield p s = omega arith
+
+returned_short : (all : List Token) (r : Row) (p : Parts) → HasShortParts p → length (returned_types (kind_by all r p)) < 2 ^ 32
+returned_short all row.Function p s = s.results
+returned_short all r p s = omega arith
+
+arguments_short : (all : List Token) (n : ℕ) (p : Parts) (scope : Scope) (bs : Bodies) → length (args_by p.row p) < 2 ^ 32 → Each (λ (ts : List PayloadType). length ts < 2 ^ 32) (block_args (bodies_meant all n p scope bs))
+arguments_short all n p scope no_bodies lt = tt
+arguments_short all n p scope (body ns close rest) lt = (lt, arguments_short all (n + (nodes_count ns + yield_count p ns)) p scope rest lt)
+
+-- there are as many names of arguments as types of them
+agreed : (all : List Token) (p : Parts) (scope : Scope) → agrees all p scope ≡ true → length p.args ≡ length (args_by p.row p)
+agreed all p scope e = eqb-true (length p.args) (length (args_by p.row p)) (and_parts _ _ (and_parts _ _ e).1).1
+
+-- operation n of a text, where it agrees with its types
+head_lists : (all : List Token) (n : ℕ) (scope : Scope) (t : Tree) → HasShortParts t.parts → agrees all t.parts scope ≡ true → HasShortLists (tree_meant all n scope t)
+head_lists all n scope t s e =
+    let p : Parts = t.parts in
+    let k = entries_grow all p.entries [] in
+    let le = s.entries in
+    let u : length (operands_of all scope p.uses) ≡ length p.uses = length-map p.uses (value_used all scope) in
+    let us = s.uses in
+    let a = agreed all p scope e in
+    let names = s.args in
+    let lt : length (args_by p.row p) < 2 ^ 32 = omega (arith, a, names) in
+    record {
+      attributes = omega (arith, k, le);
+      operands = omega (arith, u, us);
+      results = results_short p.row p s;
+      arguments = arguments_short all (n + 1) p (inside all n p scope) t.bodies lt;
+      returned = returned_short all p.row p s;
+    }
+
+-- ---- faults of types and numbers
+
+none_earlier : (a b : Option ℕ) → earlier a b ≡ None → (a ≡ None) × (b ≡ None)
+none_earlier None b e = (refl, e)
+none_earlier (Some i) None e = absurd cc
+none_earlier (Some i) (Some j) e = absurd cc
+
+unless : (b : Bool) (n : ℕ) → (let f : Option ℕ = if b then None else Some n in f ≡ None) → b ≡ true
+unless true n e = refl
+unless false n e = absurd cc
+
+-- ---- all operations
+
+abbrev mutual
+  OpsShort : Ops → Type 0
+  OpsShort no_ops = Unit {0}
+  OpsShort (op n k ds os ts rs rest) = HasShortLists (record { name = n; kind = k; attrs = ds; operands = os; results = ts; regions = rs }) × (RegionsShort rs × OpsShort rest)
+
+  RegionsShort : Regions → Type 0
+  RegionsShort no_regions = Unit {0}
+  RegionsShort (region args ops rest) = OpsShort ops × RegionsShort rest
+
+joined_short : (us vs : Ops) → OpsShort us → OpsShort vs → OpsShort (joined us vs)
+joined_short no_ops vs s t = t
+joined_short (op n k ds os ts rs rest) vs s t = (s.0, (s.1.0, joined_short rest vs s.1.1 t))
+
+yield_short : (b : Bool) (n : ℕ) → OpsShort (if b then op (op_name n) kind.Yield [] [] [] no_regions no_ops else no_ops)
+yield_short true n = (record { attributes = omega arith; operands = omega arith; results = omega arith; arguments = tt; returned = omega arith }, (tt, tt))
+yield_short false n = tt
+
+mutual
+  nodes_lists : (all : List Token) (n : ℕ) (scope : Scope) (ns : Nodes) → NodesShort ns → (nodes_faults all n scope ns).mismatch ≡ None → OpsShort (nodes_meant all n scope ns)
+  nodes_lists all n scope no_nodes s e = tt
+  nodes_lists all n scope (node first p bs rest) s e =
+      let f = none_earlier _ _ e in
+      let g = none_earlier _ _ f.0 in (
+        head_lists all n scope (record { first = first; parts = p; bodies = bs }) s.0 (unless (agrees all p scope) first g.0),
+        (
+          bodies_lists all (n + 1) p (inside all n p scope) bs s.1.0 g.1,
+          nodes_lists all (n + (1 + bodies_count p bs)) (behind all n p scope) rest s.1.1 f.1,
+        ),
+      )
+
+  bodies_lists : (all : List Token) (n : ℕ) (p : Parts) (scope : Scope) (bs : Bodies) → BodiesShort bs → (bodies_faults all n p scope bs).mismatch ≡ None → RegionsShort (bodies_meant all n p scope bs)
+  bodies_lists all n p scope no_bodies s e = tt
+  bodies_lists all n p scope (body ns close rest) s e =
+      let f = none_earlier _ _ e in (
+        joined_short (nodes_meant all n scope ns) (left_out p ns (n + nodes_count ns)) (nodes_lists all n scope ns s.0 f.0) (yield_short (lacks_yield p ns) (n + nodes_count ns)),
+        bodies_lists all (n + (nodes_count ns + yield_count p ns)) p scope rest s.1 f.1,
+      )
+
+-- ---- where they stand
+
+abbrev IsShort : Placed → Type 0
+IsShort p = HasShortLists p.tree
+
+mutual
+  ops_each : (h : Holder) (env : Typed) (ops : Ops) → OpsShort ops → Each IsShort (ops_placed h env ops)
+  ops_each h env no_ops s = tt
+  ops_each h env (op n k ds os ts rs rest) s =
+      let g = holder_of k (map (type_at env) os) ts in
+      let x = (done n (length ts), ts) ∷ env in
+      (s.0, each_both IsShort (regions_placed g env n 0 rs) (ops_placed h x rest) (regions_each g env n 0 rs s.1.0) (ops_each h x rest s.1.1))
+
+  regions_each : (h : Holder) (env : Typed) (n : OpName) (i : ℕ) (rs : Regions) → RegionsShort rs → Each IsShort (regions_placed h env n i rs)
+  regions_each h env n i no_regions s = tt
+  regions_each h env n i (region args ops rest) s =
+      let x = (inside_of n i (length args), args) ∷ env in
+      each_both IsShort (ops_placed h x ops) (regions_placed h env n (suc i) rest) (ops_each h x ops s.0) (regions_each h env n (suc i) rest s.1)
+
+functions_each : (h : Holder) (fs : Ops) → OpsShort fs → Each IsShort (functions_placed h fs)
+functions_each h no_ops s = tt
+functions_each h (op n k ds os ts rs rest) s =
+    let g = holder_of k (map (type_at []) os) ts in
+    (s.0, each_both IsShort (regions_placed g [] n 0 rs) (functions_placed h rest) (regions_each g [] n 0 rs s.1.0) (functions_each h rest s.1.1))
+
+blocks_each : (h : Holder) (rs : Regions) → RegionsShort rs → Each IsShort (blocks_placed h rs)
+blocks_each h no_regions s = tt
+blocks_each h (region args ops rest) s = each_both IsShort (functions_placed h ops) (blocks_placed h rest) (functions_each h ops s.0) (blocks_each h rest s.1)
+
+-- ---- texts
+
+tree_lists : (all : List Token) (file : File) → TreeShort file.root → (tree_faults all 0 no_names file.root).mismatch ≡ None → NoListIsLong (meant all file)
+tree_lists all file s e =
+    let t : Tree = file.root in
+    let f = none_earlier _ _ e in (
+      head_lists all 0 no_names t s.0 (unless (agrees all t.parts no_names) t.first f.0),
+      blocks_each (root_holder (tree_meant all 0 no_names t)) (bodies_meant all 1 t.parts (inside all 0 t.parts no_names) t.bodies) (bodies_lists all 1 t.parts (inside all 0 t.parts no_names) t.bodies s.1 f.1),
+    )
+
+pub spelt_is_short : SpeltIsShort
+spelt_is_short bytes m s = subst NoListIsLong s.means (tree_lists s.tokens s.file (text_short s.tokens s.file s.is_text) (ap (λ (f : Faults). f.mismatch) s.no_fault))
