@@ -11,7 +11,7 @@ use Rattle.xf_ir.specs.RuleBlocks.{block_args}
 use Rattle.xf_ir.specs.Tree.{Ops, no_ops, op, Regions, no_regions, region}
 use Rattle.xf_ir.proofs.Lists.{each_map}
 use Rattle.xf_ir.proofs.Obeys.{OpsObey, RegionsObey, FunctionsObey, BlocksObey, blocks_obey}
-use Rattle.xf_read.specs.Short.{HasShortLists, ListsAreShort}
+use Rattle.xf_read.specs.Short.{HasShortLists, NoListIsLong}
 use Rattle.xf_read.specs.Syntax.{most_operations}
 use Rattle.xf_print.specs.Names.{no_names, first_args, next_number}
 use Rattle.xf_roundtrip.specs.Printable.{HasFewArguments, FunctionsNumber}
@@ -87,10 +87,10 @@ block_number : (rs : Regions) (h : Holder) → BlocksObey HasFewArguments h rs �
 block_number no_regions h o few = tt
 block_number (region args ops rest) h o few = functions_number ops h o.0 (omega (arith, few))
 
-pub few_arguments : (m : Module) → ListsAreShort m → Each HasFewArguments (placed m)
+pub few_arguments : (m : Module) → NoListIsLong m → Each HasFewArguments (placed m)
 few_arguments m lists =
     each_map (λ (p : Placed). HasShortLists p.tree) HasFewArguments (placed m)
     (λ p s. each_map (λ (ts : List PayloadType). length ts < 2 ^ 32) (λ ts. length ts ≤ 2 ^ 32) (block_args p.tree.regions) (λ ts l. omega (arith, l)) s.arguments) lists
 
-pub module_numbers : (m : Module) → ListsAreShort m → tree_count m.root ≤ most_operations → FunctionsNumber (functions_of m)
+pub module_numbers : (m : Module) → NoListIsLong m → tree_count m.root ≤ most_operations → FunctionsNumber (functions_of m)
 module_numbers m lists few = block_number m.root.regions (root_holder m.root) (blocks_obey HasFewArguments (root_holder m.root) m.root.regions (few_arguments m lists).1) few
