@@ -1,7 +1,8 @@
 -- Modules of the first form are core modules, as they are stored, and no larger than a payload may be.
-use Rattle.std.proofs.Common.{◌≡◌, ℕ, ◌+◌, ◌^◌, ◌<◌, ◌≤◌, List, [], ◌∷◌, ◌++◌, length, Option, None, true, false, refl, sym, subst, arith}
+use Rattle.std.proofs.Common.{◌≡◌, ℕ, ◌+◌, ◌^◌, ◌<◌, ◌≤◌, List, [], ◌∷◌, ◌++◌, length, Option, None, true, false, refl, sym, subst, ◌∙◌, arith}
 use Rattle.std.specs.Prelude.{◌&&◌, map}
 use Rattle.std.proofs.lemmas.Bool.{and_parts, and_from}
+use Rattle.std.proofs.lemmas.List.{length-map}
 use Rattle.xf_type.specs.declared.payload_type.PayloadType.{PayloadType}
 use Rattle.xf_type.specs.declared.payload_type.PayloadType.TheVariants.{Scalar, Tensor}
 use Rattle.xf_ir.specs.declared.name.OpName.{OpName}
@@ -14,19 +15,21 @@ use Rattle.xf_ir.specs.Calls.{Signatures, signatures}
 use Rattle.xf_ir.specs.Count.{ops_count, regions_count, tree_count}
 use Rattle.xf_ir.specs.Kinds.{returned_types}
 use Rattle.xf_ir.specs.Lists.{Each, every, is_empty}
-use Rattle.xf_ir.specs.Placed.{Typed, type_at, Holder, holder_of, Placed, place, ops_placed, functions_placed, blocks_placed, placed, top, root_holder, block_of}
+use Rattle.xf_ir.specs.Placed.{Typed, type_at, Holder, holder_of, Placed, place, ops_placed, regions_placed, functions_placed, blocks_placed, placed, top, root_holder}
 use Rattle.xf_ir.specs.Places.{inside, done}
 use Rattle.xf_ir.specs.RuleBlocks.{block_args}
 use Rattle.xf_ir.specs.RuleTypes.{takes_gives, has_its_types}
+use Rattle.xf_ir.specs.RuleTypes.{row_of as type_row}
 use Rattle.xf_ir.specs.Spots.{ops_length}
 use Rattle.xf_ir.specs.Tree.{Ops, no_ops, op, Regions, no_regions, region, Tree}
 use Rattle.xf_ir.specs.Types.{have_types, same_types}
-use Rattle.xf_ir.proofs.Lists.{each_both, each_map}
-use Rattle.xf_print.specs.Names.{Names, no_names, with_op, with_ops, next_number}
-use Rattle.xf_roundtrip.specs.Printable.{AllBytes, FunctionsNumber}
+use Rattle.xf_ir.proofs.Lists.{each_left, each_right, each_both, each_map}
+use Rattle.xf_read.specs.Short.{HasShortLists}
+use Rattle.xf_roundtrip.specs.Printable.{AllBytes}
 use Rattle.xf_roundtrip.specs.PrintedLaws.{OpsNest, RegionsNest, IsWithin}
 use Rattle.xf_roundtrip.specs.Printing.{is_core, all_scalar, is_core_op, IsCore}
 use Rattle.xf_roundtrip.specs.Stored.{IsStored}
+use Rattle.xf_roundtrip.proofs.Fitting.{have_length}
 use Rattle.xf_opt.specs.Form.{is_i32, is_i32_at_most, is_one_i32, is_step_kind, has_no_regions, is_step, are_steps, IsFirstForm}
 use Rattle.xf_opt.proofs.FormParts.{empty, no_more, OneRegion, are_laid_out, parts}
 
@@ -56,6 +59,11 @@ one_scalar [] e = absurd cc
 one_scalar (t ∷ []) e = scalar t (and_parts (is_i32 t) (is_empty {A = PayloadType} []) e).0
 one_scalar (t ∷ (u ∷ ts)) e = let p = (and_parts (is_i32 t) (is_empty (u ∷ ts)) e).1 in absurd cc
 
+one_few : (ts : List PayloadType) → is_one_i32 ts ≡ true → length ts ≤ 1
+one_few [] e = absurd cc
+one_few (t ∷ []) e = omega arith
+one_few (t ∷ (u ∷ ts)) e = let p = (and_parts (is_i32 t) (is_empty (u ∷ ts)) e).1 in absurd cc
+
 -- ---- an operation of the function
 
 record IsCoreKind (k : Kind) : Type 0 where
@@ -69,6 +77,7 @@ step_kind (kind.Binary which width) e = record { core = refl; returns = refl }
 step_kind _ e = absurd cc
 
 record Step (k : Kind) (ds : List Attr) (ts : List PayloadType) (rs : Regions) : Type 0 where
+  step : is_step_kind k ≡ true
   kind_is : IsCoreKind k
   bare : ds ≡ []
   few : IsFew ts
@@ -79,129 +88,123 @@ step_parts k ds ts rs e =
     let p = and_parts (is_step_kind k) (is_empty ds && (is_i32_at_most ts && has_no_regions rs)) e in
     let q = and_parts (is_empty ds) (is_i32_at_most ts && has_no_regions rs) p.1 in
     let r = and_parts (is_i32_at_most ts) (has_no_regions rs) q.1 in
-    record { kind_is = step_kind k p.0; bare = empty ds q.0; few = few_are ts r.0; leaf = no_more rs r.1 }
+    record { step = p.0; kind_is = step_kind k p.0; bare = empty ds q.0; few = few_are ts r.0; leaf = no_more rs r.1 }
+
+-- two operands at most, where the function gives one value at most
+step_operands : (sigs : Signatures) (gives : List PayloadType) (k : Kind) (os : List (Option PayloadType)) (ts : List PayloadType) → is_step_kind k ≡ true → length gives ≤ 1 → type_row sigs gives k os ts ≡ true → length os ≤ 2
+step_operands sigs gives kind.Return os ts s few e = let n = have_length os gives (and_parts (have_types os gives) (same_types ts []) e).0 in omega (arith, n, few)
+step_operands sigs gives (kind.Constant width bits) os ts s few e = let n = have_length os [] (and_parts (have_types os []) (same_types ts (Scalar width ∷ [])) e).0 in omega (arith, n)
+step_operands sigs gives (kind.Binary which width) os ts s few e =
+    let n = have_length os (Scalar width ∷ (Scalar width ∷ [])) (and_parts (have_types os (Scalar width ∷ (Scalar width ∷ []))) (same_types ts (Scalar width ∷ [])) e).0 in omega (arith, n)
+step_operands sigs gives _ os ts s few e = absurd cc
 
 -- ---- each operation where it stands
 
 record IsSimple (p : Placed) : Type 0 where
   core : is_core_op p.tree ≡ true
-  few : length p.tree.results < 2 ^ 32
+  short : HasShortLists p.tree
   bytes : AllBytes p
 
-step_simple : (h : Holder) (env : Typed) (n : OpName) (k : Kind) (os : List ValueName) (ts : List PayloadType) (after : Ops) → IsCoreKind k → IsFew ts → IsSimple (place h env (record { name = n; kind = k; attrs = []; operands = os; results = ts; regions = no_regions }) after)
-step_simple h env n k os ts after c f = record {
+step_simple : (h : Holder) (env : Typed) (n : OpName) (k : Kind) (os : List ValueName) (ts : List PayloadType) (after : Ops) → IsCoreKind k → IsFew ts → length os ≤ 2 → IsSimple (place h env (record { name = n; kind = k; attrs = []; operands = os; results = ts; regions = no_regions }) after)
+step_simple h env n k os ts after c f few = record {
   core = and_from (is_core k) _ c.core (and_from (all_scalar ts) _ f.scalars (and_from (all_scalar (returned_types k)) true (rw c.returns refl) refl));
-  few = let x = f.count in omega arith;
+  short = record { attributes = omega arith; operands = omega (arith, few); results = let x = f.count in omega arith; arguments = tt; returned = rw c.returns (omega arith) };
   bytes = tt;
 }
 
-steps_simple : (h : Holder) (env : Typed) (ops : Ops) → are_steps ops ≡ true → Each IsSimple (ops_placed h env ops)
-steps_simple h env no_ops e = tt
-steps_simple h env (op n k ds os ts rs rest) e =
+-- each has its types
+abbrev AreTyped : Signatures → List Placed → Type 0
+AreTyped sigs ps = Each (λ p. has_its_types sigs p ≡ true) ps
+
+steps_simple : (sigs : Signatures) (h : Holder) (env : Typed) (ops : Ops) → length h.gives ≤ 1 → are_steps ops ≡ true → AreTyped sigs (ops_placed h env ops) → Each IsSimple (ops_placed h env ops)
+steps_simple sigs h env no_ops g e typed = tt
+steps_simple sigs h env (op n k ds os ts rs rest) g e typed =
     let p = and_parts (is_step k ds ts rs) (are_steps rest) e in
     let s = step_parts k ds ts rs p.0 in
-    rw (s.bare, s.leaf) (step_simple h env n k os ts rest s.kind_is s.few, steps_simple h ((done n (length ts), ts) ∷ env) rest p.1)
+    let types : List (Option PayloadType) = map (type_at env) os in
+    let later : Typed = (done n (length ts), ts) ∷ env in
+    let count = step_operands sigs h.gives k types ts s.step g typed.0 in
+    let same = length-map os (type_at env) in
+    let behind = each_right (λ p. has_its_types sigs p ≡ true) (regions_placed (holder_of k types ts) env n 0 rs) (ops_placed h later rest) typed.1 in
+    rw (s.bare, s.leaf) (step_simple h env n k os ts rest s.kind_is s.few (omega (arith, count, same)), steps_simple sigs h later rest g p.1 behind)
 
 -- what takes nothing gives nothing
 nothing_given : (os : List (Option PayloadType)) (ts : List PayloadType) → takes_gives [] [] os ts ≡ true → ts ≡ []
 nothing_given os [] e = refl
 nothing_given os (t ∷ ts) e = let p = (and_parts (have_types os []) (same_types (t ∷ ts) []) e).1 in absurd cc
 
-module_simple : (h : Holder) (env : Typed) (t : Tree) (after : Ops) → t.kind ≡ kind.Module None → t.attrs ≡ [] → t.results ≡ [] → every all_scalar (block_args t.regions) ≡ true → IsSimple (place h env t after)
-module_simple h env t after k a r s = record {
+-- and has no operands
+nothing_taken : (env : Typed) (os : List ValueName) (ts : List PayloadType) → takes_gives [] [] (map (type_at env) os) ts ≡ true → length os ≡ 0
+nothing_taken env os ts e = sym (length-map os (type_at env)) ∙ have_length (map (type_at env) os) [] (and_parts (have_types (map (type_at env) os) []) (same_types ts []) e).0
+
+module_simple : (h : Holder) (env : Typed) (t : Tree) (after : Ops) → t.kind ≡ kind.Module None → t.attrs ≡ [] → t.results ≡ [] → length t.operands ≡ 0 → every all_scalar (block_args t.regions) ≡ true
+    → Each (λ (ts : List PayloadType). length ts < 2 ^ 32) (block_args t.regions) → IsSimple (place h env t after)
+module_simple h env t after k a r o s few = record {
   core = rw (k, r) s;
-  few = rw r (omega arith);
+  short = record { attributes = rw a (omega arith); operands = omega (arith, o); results = rw r (omega arith); arguments = few; returned = rw k (omega arith) };
   bytes = rw a tt;
 }
 
-function_simple : (h : Holder) (n : OpName) (symbol : List ℕ) (results : List PayloadType) (os : List ValueName) (args : List PayloadType) (ops after : Ops) → is_one_i32 results ≡ true → every is_i32 args ≡ true → IsSimple (place h [] (record { name = n; kind = kind.Func symbol false results; attrs = []; operands = os; results = []; regions = region args ops no_regions }) after)
-function_simple h n symbol results os args ops after r a = record {
+function_simple : (h : Holder) (n : OpName) (symbol : List ℕ) (results : List PayloadType) (os : List ValueName) (args : List PayloadType) (ops after : Ops) → is_one_i32 results ≡ true → every is_i32 args ≡ true → length os ≡ 0 → length args < 2 ^ 32 → IsSimple (place h [] (record { name = n; kind = kind.Func symbol false results; attrs = []; operands = os; results = []; regions = region args ops no_regions }) after)
+function_simple h n symbol results os args ops after r a o few = record {
   core = and_from (all_scalar results) _ (one_scalar results r) (and_from (all_scalar args) true (all_scalars args a) refl);
-  few = omega arith;
+  short = record { attributes = omega arith; operands = omega (arith, o); results = omega arith; arguments = (few, tt); returned = let one = one_few results r in omega (arith, one) };
   bytes = tt;
 }
 
-function_placed : (h : Holder) (n : OpName) (symbol : List ℕ) (results : List PayloadType) (os : List ValueName) (args : List PayloadType) (ops : Ops) → is_one_i32 results ≡ true → every is_i32 args ≡ true → are_steps ops ≡ true
+function_placed : (sigs : Signatures) (h : Holder) (n : OpName) (symbol : List ℕ) (results : List PayloadType) (os : List ValueName) (args : List PayloadType) (ops : Ops)
+    → AreTyped sigs (functions_placed h (op n (kind.Func symbol false results) [] os [] (region args ops no_regions) no_ops))
+    → is_one_i32 results ≡ true → every is_i32 args ≡ true → length args < 2 ^ 32 → are_steps ops ≡ true
     → Each IsSimple (functions_placed h (op n (kind.Func symbol false results) [] os [] (region args ops no_regions) no_ops))
-function_placed h n symbol results os args ops r a s =
+function_placed sigs h n symbol results os args ops typed r a few s =
     let k = holder_of (kind.Func symbol false results) (map (type_at []) os) [] in
-    let env : Typed = (inside n 0 (length args), args) ∷ [] in (
-      function_simple h n symbol results os args ops no_ops r a,
-      each_both IsSimple (ops_placed k env ops ++ []) [] (each_both IsSimple (ops_placed k env ops) [] (steps_simple k env ops s) tt) tt,
+    let env : Typed = (inside n 0 (length args), args) ∷ [] in
+    let T : Placed → Type 0 = λ p. has_its_types sigs p ≡ true in
+    let inner = each_left T (ops_placed k env ops) [] (each_left T (ops_placed k env ops ++ []) [] typed.1) in (
+      function_simple h n symbol results os args ops no_ops r a (nothing_taken [] os [] typed.0) few,
+      each_both IsSimple (ops_placed k env ops ++ []) [] (each_both IsSimple (ops_placed k env ops) [] (steps_simple sigs k env ops (one_few results r) s inner) tt) tt,
     )
 
 blocks_placed_simply : (sigs : Signatures) (h : Holder) (n : OpName) (symbol : List ℕ) (results : List PayloadType) (os : List ValueName) (ts args : List PayloadType) (ops : Ops)
-    → Each (λ p. has_its_types sigs p ≡ true) (blocks_placed h (region [] (op n (kind.Func symbol false results) [] os ts (region args ops no_regions) no_ops) no_regions))
-    → is_one_i32 results ≡ true → every is_i32 args ≡ true → are_steps ops ≡ true
+    → AreTyped sigs (blocks_placed h (region [] (op n (kind.Func symbol false results) [] os ts (region args ops no_regions) no_ops) no_regions))
+    → is_one_i32 results ≡ true → every is_i32 args ≡ true → length args < 2 ^ 32 → are_steps ops ≡ true
     → Each IsSimple (blocks_placed h (region [] (op n (kind.Func symbol false results) [] os ts (region args ops no_regions) no_ops) no_regions))
-blocks_placed_simply sigs h n symbol results os ts args ops typed r a s =
-    rw (nothing_given (map (type_at []) os) ts typed.0)
-    (each_both IsSimple (functions_placed h (op n (kind.Func symbol false results) [] os [] (region args ops no_regions) no_ops)) [] (function_placed h n symbol results os args ops r a s) tt)
+blocks_placed_simply sigs h n symbol results os ts args ops typed r a few s =
+    let none = nothing_given (map (type_at []) os) ts typed.0 in
+    let f : List PayloadType → Ops = λ us. op n (kind.Func symbol false results) [] os us (region args ops no_regions) no_ops in
+    let whole = subst (λ us. AreTyped sigs (blocks_placed h (region [] (f us) no_regions))) none typed in
+    let alone = each_left (λ p. has_its_types sigs p ≡ true) (functions_placed h (f [])) [] whole in
+    rw none (each_both IsSimple (functions_placed h (f [])) [] (function_placed sigs h n symbol results os args ops alone r a few s) tt)
 
-blocks_simple : (sigs : Signatures) (h : Holder) (rs : Regions) → OneRegion rs → Each (λ p. has_its_types sigs p ≡ true) (blocks_placed h rs) → Each IsSimple (blocks_placed h rs)
+blocks_simple : (sigs : Signatures) (h : Holder) (rs : Regions) → OneRegion rs → AreTyped sigs (blocks_placed h rs) → Each IsSimple (blocks_placed h rs)
 blocks_simple sigs h rs o typed =
     let f = o.function in
     let e = are_laid_out rs o in
     subst (λ (x : Regions). Each IsSimple (blocks_placed h x)) (sym e)
     (blocks_placed_simply sigs h f.name f.heads.symbol f.heads.results f.operands f.gives f.block.args f.block.ops
-    (subst (λ (x : Regions). Each (λ p. has_its_types sigs p ≡ true) (blocks_placed h x)) e typed) f.heads.type f.block.types f.block.steps)
+    (subst (λ (x : Regions). AreTyped sigs (blocks_placed h x)) e typed) f.heads.type f.block.types f.block.count f.block.steps)
 
 plain_block : (rs : Regions) → OneRegion rs → every all_scalar (block_args rs) ≡ true
 plain_block rs o = subst (λ (x : Regions). every all_scalar (block_args x) ≡ true) (sym (are_laid_out rs o)) refl
 
+short_block : (rs : Regions) → OneRegion rs → Each (λ (ts : List PayloadType). length ts < 2 ^ 32) (block_args rs)
+short_block rs o = subst (λ (x : Regions). Each (λ (ts : List PayloadType). length ts < 2 ^ 32) (block_args x)) (sym (are_laid_out rs o)) (omega arith, tt)
+
 all_simple : (m : Module) → IsFirstForm m → Each IsSimple (placed m)
 all_simple m f =
     let p = parts m f.shape in
-    let typed : Each (λ p. has_its_types (signatures m) p ≡ true) (placed m) = f.valid.types in
+    let typed : AreTyped (signatures m) (placed m) = f.valid.types in
     let given = nothing_given (map (type_at []) m.root.operands) m.root.results (rw p.symbol at typed.0) in
-    (module_simple top [] m.root no_ops p.symbol p.attributes given (plain_block m.root.regions p.region), blocks_simple (signatures m) (root_holder m.root) m.root.regions p.region typed.1)
+    let taken = nothing_taken [] m.root.operands m.root.results (rw p.symbol at typed.0) in
+    (module_simple top [] m.root no_ops p.symbol p.attributes given taken (plain_block m.root.regions p.region) (short_block m.root.regions p.region), blocks_simple (signatures m) (root_holder m.root) m.root.regions p.region typed.1)
 
 pub form_is_core : (m : Module) → IsFirstForm m → IsCore m
 form_is_core m f = each_map IsSimple (λ (p : Placed). is_core_op p.tree ≡ true) (placed m) (λ p s. s.core) (all_simple m f)
 
--- ---- numbers
-
-record IsNumbered (names : Names) (ops : Ops) : Type 0 where
-  number : (with_ops names ops).number ≤ names.number + ops_length ops
-  argument : (with_ops names ops).argument ≡ names.argument
-
-one_more : (k : ℕ) (ts : List PayloadType) → next_number k ts ≤ k + 1
-one_more k [] = omega arith
-one_more k (t ∷ ts) = omega arith
-
-leaf_numbered : (names : Names) (n : OpName) (k : Kind) (ds : List Attr) (os : List ValueName) (ts : List PayloadType) (rest : Ops) → IsNumbered (with_op n ts [] names) rest → IsNumbered names (op n k ds os ts no_regions rest)
-leaf_numbered names n k ds os ts rest i = record {
-  number = let a = i.number in let b = one_more names.number ts in omega arith;
-  argument = let a = i.argument in omega arith;
-}
-
-steps_numbered : (names : Names) (ops : Ops) → are_steps ops ≡ true → IsNumbered names ops
-steps_numbered names no_ops e = record { number = omega arith; argument = refl }
-steps_numbered names (op n k ds os ts rs rest) e =
-    let p = and_parts (is_step k ds ts rs) (are_steps rest) e in
-    let s = step_parts k ds ts rs p.0 in
-    rw s.leaf (leaf_numbered names n k ds os ts rest (steps_numbered (with_op n ts [] names) rest p.1))
-
-function_numbered : (n : OpName) (k : Kind) (os : List ValueName) (ts args : List PayloadType) (ops : Ops) → length args < 2 ^ 32 → are_steps ops ≡ true → ops_length ops ≤ 999998
-    → FunctionsNumber (op n k [] os ts (region args ops no_regions) no_ops)
-function_numbered n k os ts args ops a s few =
-    let i = steps_numbered (with_op n ts args no_names) ops s in
-    let b = one_more 0 ts in
-    let c = i.number in
-    let d = i.argument in
-    (omega arith, (omega arith, tt))
-
-functions_numbered : (rs : Regions) → OneRegion rs → FunctionsNumber (block_of rs)
-functions_numbered rs o =
-    let f = o.function in
-    subst (λ (x : Regions). FunctionsNumber (block_of x)) (sym (are_laid_out rs o))
-    (function_numbered f.name (kind.Func f.heads.symbol false f.heads.results) f.operands f.gives f.block.args f.block.ops f.block.count f.block.steps f.block.few)
-
 pub form_is_stored : (m : Module) → IsFirstForm m → IsStored m
 form_is_stored m f = record {
-  results = each_map IsSimple (λ (p : Placed). length p.tree.results < 2 ^ 32) (placed m) (λ p s. s.few) (all_simple m f);
+  lists = each_map IsSimple (λ (p : Placed). HasShortLists p.tree) (placed m) (λ p s. s.short) (all_simple m f);
   bytes = each_map IsSimple AllBytes (placed m) (λ p s. s.bytes) (all_simple m f);
-  numbers = functions_numbered m.root.regions (parts m f.shape).region;
 }
 
 -- ---- limits

@@ -15,6 +15,7 @@ use Rattle.xf_ir.specs.Lists.{Each, every, Once}
 use Rattle.xf_ir.specs.Places.{Seen, done, inside, below, sees, AllSeen}
 use Rattle.xf_ir.specs.Placed.{Typed, type_at, Holder, holder_of, Placed, place, placed, top, functions_of, block_of, root_holder}
 use Rattle.xf_ir.specs.Calls.{Signatures, signatures}
+use Rattle.xf_ir.specs.Count.{tree_count}
 use Rattle.xf_ir.specs.RuleAttributes.{kind_fits, attributes_fit, has_its_attributes}
 use Rattle.xf_ir.specs.RuleBlocks.{block_args, has_its_regions, is_end, ends_its_blocks, blocks_end}
 use Rattle.xf_ir.specs.RuleTypes.{has_its_types}
@@ -26,6 +27,8 @@ use Rattle.xf_ir.specs.Walk.{ops_names, regions_names}
 use Rattle.xf_ir.proofs.Lists.{once_left, once_right}
 use Rattle.xf_ir.proofs.Obeys.{OpsObey, RegionsObey, FunctionsObey, BlocksObey, blocks_obey}
 use Rattle.xf_ir.proofs.Root.{one_block}
+use Rattle.xf_read.specs.Short.{HasShortLists}
+use Rattle.xf_read.specs.Syntax.{most_operations}
 use Rattle.xf_print.specs.Names.{Entry, Names, no_names, with_ops, first_args, next_number, number_of, first_of}
 use Rattle.xf_roundtrip.specs.Printing.{is_core, all_scalar, is_core_op, IsCore}
 use Rattle.xf_roundtrip.specs.Printable.{AllBytes, FunctionsNumber}
@@ -35,6 +38,7 @@ use Rattle.xf_roundtrip.proofs.Again.{ops_number, regions_number, ops_argument, 
 use Rattle.xf_roundtrip.proofs.Entries.{Entered, RegionsEntered, ops_entered, number_after, argument_after}
 use Rattle.xf_roundtrip.proofs.Fitting.{args_right, carried_right, all_are_scalar, first_scalar, scalar_at, counts, regions_right, Narrow, narrow, attrs_right, same_length, have_length}
 use Rattle.xf_roundtrip.proofs.Names.{HasEntry}
+use Rattle.xf_roundtrip.proofs.Numbers.{first_short, module_numbers}
 
 -- ---- visible values
 
@@ -98,17 +102,17 @@ pub record Rules (sigs : Signatures) (p : Placed) : Type 0 where
   pub types : has_its_types sigs p ≡ true
   pub attributes : has_its_attributes p ≡ true
   pub core : is_core_op p.tree ≡ true
-  pub few : length p.tree.results < 2 ^ 32
+  pub short : HasShortLists p.tree
   pub bytes : AllBytes p
 
-rules_of : (sigs : Signatures) (xs : List Placed) → Each (λ p. has_its_regions p ≡ true) xs → Each (λ p. ends_its_blocks p ≡ true) xs → Each (λ p. has_its_types sigs p ≡ true) xs → Each (λ p. has_its_attributes p ≡ true) xs → Each (λ (p : Placed). is_core_op p.tree ≡ true) xs → Each (λ (p : Placed). length p.tree.results < 2 ^ 32) xs → Each AllBytes xs → Each (Rules sigs) xs
+rules_of : (sigs : Signatures) (xs : List Placed) → Each (λ p. has_its_regions p ≡ true) xs → Each (λ p. ends_its_blocks p ≡ true) xs → Each (λ p. has_its_types sigs p ≡ true) xs → Each (λ p. has_its_attributes p ≡ true) xs → Each (λ (p : Placed). is_core_op p.tree ≡ true) xs → Each (λ (p : Placed). HasShortLists p.tree) xs → Each AllBytes xs → Each (Rules sigs) xs
 rules_of sigs [] a b c d e f g = tt
-rules_of sigs (x ∷ xs) a b c d e f g = (record { regions = a.0; blocks = b.0; types = c.0; attributes = d.0; core = e.0; few = f.0; bytes = g.0 }, rules_of sigs xs a.1 b.1 c.1 d.1 e.1 f.1 g.1)
+rules_of sigs (x ∷ xs) a b c d e f g = (record { regions = a.0; blocks = b.0; types = c.0; attributes = d.0; core = e.0; short = f.0; bytes = g.0 }, rules_of sigs xs a.1 b.1 c.1 d.1 e.1 f.1 g.1)
 
 -- an operation that keeps the rules fits, where its entry and its operands are known
 op_fits : (names : Names) (sigs : Signatures) (h : Holder) (env : Typed) (n : OpName) (k : Kind) (ds : List Attr) (os : List ValueName) (ts : List PayloadType) (rs : Regions) (after rest : Ops)
     → Rules sigs (place h env (record { name = n; kind = k; attrs = ds; operands = os; results = ts; regions = rs }) after) → (not (ends k) || is_end rest) ≡ true → Each (Known names) os
-    → number_of (names.entry n.0) < 2 ^ 64 → first_of (names.entry n.0) + length (first_args rs) ≤ 2 ^ 32 → Fits names n k ds os ts rs rest
+    → number_of (names.entry n.0) < 2 ^ 64 → first_of (names.entry n.0) + length (first_args rs) < 2 ^ 64 → Fits names n k ds os ts rs rest
 op_fits names sigs h env n k ds os ts rs after rest r last values number first =
     let at = and_parts (kind_fits k) (attributes_fit ds) r.attributes in
     let c = and_parts (is_core k) _ r.core in
@@ -128,7 +132,7 @@ op_fits names sigs h env n k ds os ts rs after rest r last values number first =
       returned = all_are_scalar (returned_types k) e.0;
       number = number;
       first = first;
-      many = r.few;
+      few = record { attributes = r.short.attributes; operands = r.short.operands; results = r.short.results; arguments = first_short rs r.short.arguments; returned = r.short.returned };
       last = last;
     }
 
@@ -154,7 +158,7 @@ next_more k (t ∷ ts) = omega arith
 
 mutual
   pub ops_fit : (names : Names) (sigs : Signatures) (ops : Ops) (h : Holder) (env : Typed) (ss : List Seen) (k a : ℕ) → OpsObey (Rules sigs) h env ops → OpsSee ss ops → OpsInner ops → Entered names k a ops
-      → ops_number k ops < 2 ^ 64 → ops_argument a ops ≤ 2 ^ 32 → Sees ss names → OpsFit names ops
+      → ops_number k ops < 2 ^ 64 → ops_argument a ops < 2 ^ 64 → Sees ss names → OpsFit names ops
   ops_fit names sigs no_ops h env ss k a o s i en kl al w = tt
   ops_fit names sigs (op n kd ds os ts rs rest) h env ss k a o s i en kl al w =
       let x : HasEntry names n k a ts (first_args rs) = en.0 in
@@ -167,7 +171,7 @@ mutual
       let l2 = ops_argument_more (regions_argument a1 rs) rest in
       let nk = number_is names n k a ts (first_args rs) x in
       let na = first_is names n k a ts (first_args rs) x in
-      let few = (o.0).few in
+      let few = (o.0).short.results in
       let f = op_fits names sigs h env n kd ds os ts rs rest rest o.0 (last_right sigs _ o.0) (all_known ss names os w s.0) (omega (arith, m0, m1, m2, nk)) (omega (arith, l1, l2, na)) in
       let inner = λ (j c : ℕ) (le : c ≤ length (first_args rs)). (let z : Sees (inside n j c ∷ ss) names = record { by = inside_known names ss n j c k a ts (first_args rs) x (omega (arith, l1, l2)) f.args le w } in z) in
       let after : Sees (done n (length ts) ∷ ss) names = record { by = done_known names ss n k a ts (first_args rs) x (omega (arith, m0, m1, m2)) (omega (arith, few)) f.results w } in (
@@ -183,7 +187,7 @@ mutual
       )
 
   pub regions_fit : (names : Names) (sigs : Signatures) (rs : Regions) (n : OpName) (h : Holder) (env : Typed) (ss : List Seen) (i count k a : ℕ) → RegionsObey (Rules sigs) h env n i rs → RegionsSee ss n i rs → RegionsInner rs → RegionsEntered names k a rs
-      → regions_number k rs < 2 ^ 64 → regions_argument a rs ≤ 2 ^ 32 → Narrow count rs → ((j c : ℕ) → c ≤ count → Sees (inside n j c ∷ ss) names) → RegionsFit names rs
+      → regions_number k rs < 2 ^ 64 → regions_argument a rs < 2 ^ 64 → Narrow count rs → ((j c : ℕ) → c ≤ count → Sees (inside n j c ∷ ss) names) → RegionsFit names rs
   regions_fit names sigs no_regions n h env ss i count k a o s inner en kl al nr w = tt
   regions_fit names sigs (region args ops rest) n h env ss i count k a o s inner en kl al nr w =
       let m = regions_number_more (ops_number k ops) rest in
@@ -219,7 +223,7 @@ functions_fit sigs (op n (kind.Func symbol private results) ds os ts rs rest) h 
     let en = function_entered n k ds os ts rs rest once in
     let x : HasEntry names n 0 0 ts (first_args rs) = en.0 in
     let kl : ops_number 0 f < 2 ^ 64 = subst (λ i. i < 2 ^ 64) (number_after no_names f) st.0 in
-    let al : ops_argument 0 f ≤ 2 ^ 32 = subst (λ i. i ≤ 2 ^ 32) (argument_after no_names f) st.1.0 in
+    let al : ops_argument 0 f < 2 ^ 64 = subst (λ i. i < 2 ^ 64) (argument_after no_names f) st.1.0 in
     let l1 = regions_argument_more (0 + length (first_args rs)) rs in
     let nk = number_is names n 0 0 ts (first_args rs) x in
     let na = first_is names n 0 0 ts (first_args rs) x in
@@ -253,12 +257,12 @@ root_empty sigs k symbol os ts e h =
 no_end_at_root : (k : Kind) (symbol : Option (List ℕ)) → k ≡ kind.Module symbol → (not (ends k) || true) ≡ true
 no_end_at_root k symbol e = ap (λ x. not (ends x) || true) e
 
-pub module_fits : (m : Module) → IsValid m → IsCore m → IsStored m → ModuleFits m
-module_fits m v core st =
+pub module_fits : (m : Module) → IsValid m → IsCore m → IsStored m → tree_count m.root ≤ most_operations → ModuleFits m
+module_fits m v core st few =
     let t = m.root in
     let sigs = signatures m in
     let h = root_holder t in
-    let rules = rules_of sigs (placed m) v.regions v.blocks v.types v.attributes core st.results st.bytes in
+    let rules = rules_of sigs (placed m) v.regions v.blocks v.types v.attributes core st.lists st.bytes in
     let k = module_kind t.kind v.functions.root in
     let empty = root_empty sigs t.kind k.0 (map (type_at []) t.operands) t.results k.1 v.types.0 in
     let one : t.regions ≡ region [] (block_of t.regions) no_regions = one_block t.kind v.functions.root (map (type_at []) t.operands) t.results t.regions v.regions.0 in
@@ -273,5 +277,5 @@ module_fits m v core st =
       no_results = empty.1;
       root = op_fits no_names sigs top [] t.name t.kind t.attrs t.operands t.results t.regions no_ops no_ops rules.0 (no_end_at_root t.kind k.0 k.1) (all_known [] no_names t.operands (sees_nothing no_names) v.uses.root)
           (omega arith) (omega (arith, no_args));
-      functions = functions_fit sigs (functions_of m) h functions.0 v.uses.functions alone.0 st.numbers (once_left (ops_names (block_of t.regions)) [] once);
+      functions = functions_fit sigs (functions_of m) h functions.0 v.uses.functions alone.0 (module_numbers m st.lists few) (once_left (ops_names (block_of t.regions)) [] once);
     }

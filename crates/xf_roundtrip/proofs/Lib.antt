@@ -16,6 +16,7 @@ pub mod Meaning
 pub mod Names
 pub mod NamedOnce
 pub mod Needs
+pub mod Numbers
 pub mod Operations
 pub mod Pieces
 pub mod Printed

@@ -68,7 +68,7 @@ op_lays names n k ds os ts rs rest f =
     let e : d ++ word r ∷ row_then (slots (row_of k)) ps (opens k) ≡ (d ++ word r ∷ row_written (slots (row_of k)) ps) ++ opens k =
     ap (λ x. d ++ word r ∷ x) (row_then_is (slots (row_of k)) ps (opens k)) ∙ sym (append_assoc d (word r ∷ row_written (slots (row_of k)) ps) (opens k)) in
     subst (λ x. Lays false (op_text names (record { name = n; kind = k; attrs = ds; operands = os; results = ts; regions = rs })) x) e
-    (front (results_lay (number_of (names.entry n.0)) ts f.number (let few = f.many in omega arith)) (row_lays names first (first_args rs) k ds os ts f.core f.count (given_of names n k ds os ts rs rest f)))
+    (front (results_lay (number_of (names.entry n.0)) ts f.number (let few = f.few.results in omega arith)) (row_lays names first (first_args rs) k ds os ts f.core f.count (given_of names n k ds os ts rs rest f)))
 
 -- ---- operations without regions
 

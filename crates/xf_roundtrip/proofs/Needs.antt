@@ -1,5 +1,5 @@
 -- The tokens of the printed form, what its operations need, and texts that are laid out of tokens.
-use Rattle.std.specs.Prelude.{◌≡◌, ℕ, ◌+◌, ◌^◌, ◌<◌, ◌≤◌, List, [], ◌∷◌, ◌++◌, length, drop, map, codes, Option, Some, Bool, true, false, not, ◌||◌, if◌then◌else◌, slice_get}
+use Rattle.std.specs.Prelude.{◌≡◌, ℕ, ◌+◌, ◌^◌, ◌<◌, List, [], ◌∷◌, ◌++◌, length, drop, map, codes, Option, Some, Bool, true, false, not, ◌||◌, if◌then◌else◌, slice_get}
 use Rattle.xf_type.specs.declared.payload_type.PayloadType.{PayloadType}
 use Rattle.xf_type.specs.declared.payload_type.PayloadType.TheVariants.{Scalar}
 use Rattle.xf_type.specs.declared.payload_type.Width.{Width}
@@ -84,6 +84,14 @@ pub record AttrFits (d : Attr) : Type 0 where
   pub value : value_fits d.value ≡ true
   pub bytes : HasBytes d.value
 
+-- no list of an operation has 2 ^ 32 entries
+pub record HasFew (k : Kind) (ds : List Attr) (os : List ValueName) (ts args : List PayloadType) : Type 0 where
+  pub attributes : length ds < 2 ^ 32
+  pub operands : length os < 2 ^ 32
+  pub results : length ts < 2 ^ 32
+  pub arguments : length args < 2 ^ 32
+  pub returned : length (returned_types k) < 2 ^ 32
+
 -- so many operands as the kind has in print
 abbrev pub counted : Kind → List ValueName → Bool
 counted (kind.Module symbol) [] = true
@@ -145,8 +153,8 @@ pub record Fits (names : Names) (n : OpName) (k : Kind) (ds : List Attr) (os : L
   pub args : Each IsScalar (first_args rs)
   pub returned : Each IsScalar (returned_types k)
   pub number : number_of (names.entry n.0) < 2 ^ 64
-  pub first : first_of (names.entry n.0) + length (first_args rs) ≤ 2 ^ 32
-  pub many : length ts < 2 ^ 32
+  pub first : first_of (names.entry n.0) + length (first_args rs) < 2 ^ 64
+  pub few : HasFew k ds os ts (first_args rs)
   pub last : (not (ends k) || is_end rest) ≡ true
 
 abbrev mutual

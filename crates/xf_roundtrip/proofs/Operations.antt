@@ -1,5 +1,5 @@
 -- What the printed form of a module that is valid says is right, and means the module again, with names in preorder.
-use Rattle.std.proofs.Common.{◌≡◌, ◌⊎◌, inl, inr, ℕ, suc, ◌+◌, ◌^◌, ◌<◌, ◌≤◌, Bool, true, false, cond, List, [], ◌∷◌, length, Option, Some, None, refl, sym, ap, subst, ◌∙◌, arith, slice_get}
+use Rattle.std.proofs.Common.{◌≡◌, ◌⊎◌, inl, inr, ℕ, suc, ◌+◌, ◌^◌, ◌<◌, Bool, true, false, cond, List, [], ◌∷◌, length, Option, Some, None, refl, sym, ap, subst, ◌∙◌, arith, slice_get}
 use Rattle.std.specs.Prelude.{◌&&◌, ◌||◌, ◌==◌, map, is_some, nat_lt, option_and_then}
 use Rattle.std.proofs.lemmas.Bool.{cases_Bool, and_parts, eqb-true, lt-ltb}
 use Rattle.xf_type.specs.declared.payload_type.PayloadType.{PayloadType}
@@ -29,6 +29,7 @@ use Rattle.xf_roundtrip.proofs.Again.{ops_count, regions_count, ops_number, regi
 use Rattle.xf_roundtrip.proofs.Entries.{Counts, counts_left, counts_right, ops_names_count, regions_names_count, Entered, RegionsEntered}
 use Rattle.xf_roundtrip.proofs.Fits.{lists_are}
 use Rattle.xf_roundtrip.proofs.Names.{HasEntry, IsFirst}
+use Rattle.xf_roundtrip.proofs.Numbers.{first_few}
 use Rattle.xf_roundtrip.proofs.Says.{Keeps, symbol_named, says_it}
 use Rattle.xf_roundtrip.proofs.Yields.{Good, keeps_it, stands_there, last_there, holds_blocks, block_yields}
 
@@ -165,7 +166,7 @@ named_by g o = op_name (g o)
 
 mutual
   pub ops_so : (ops : Ops) (sigs : Signatures) (h : Holder) (env : Typed) (names : Names) (g : OpName → ℕ) (n k a : ℕ) → OpsObey (Good sigs) h env ops → OpsSee (seen_of env) ops → KnowsTypes env names → Entered names k a ops → Counts g n (ops_names ops) → OpsInner ops
-      → ops_number k ops < 2 ^ 64 → ops_argument a ops ≤ 2 ^ 32 → OpsSo names (named_by g) n k a ops
+      → ops_number k ops < 2 ^ 64 → ops_argument a ops < 2 ^ 64 → OpsSo names (named_by g) n k a ops
   ops_so no_ops sigs h env names g n k a good see w e c inner lk la = tt
   ops_so (op m kd ds os ts rs rest) sigs h env names g n k a good see w e c inner lk la =
       let first : List PayloadType = first_args rs in
@@ -199,7 +200,7 @@ mutual
           | inl y ↦ inl (last_there sigs h kd ds os (map (type_at env) os) ts rs rest y keeps stands)
           | inr y ↦
               inr (
-                record { shown = y; entry = e.0; says = says_none; number = omega (arith, l1, l2, l3, lk); room = omega (arith, l4, l5, la); small = omega (arith, l4, l5, la) },
+                record { shown = y; entry = e.0; says = says_none; number = omega (arith, l1, l2, l3, lk); room = omega (arith, l4, l5, la); small = first_few rs good.0.arguments },
                 (inside_so, rest_so),
               )
         ],
@@ -207,7 +208,7 @@ mutual
 
   pub regions_so : (rs : Regions) (sigs : Signatures) (kd : Kind) (types : List (Option PayloadType)) (ts : List PayloadType) (env : Typed) (names : Names) (g : OpName → ℕ) (m : OpName) (n k a k0 a0 i : ℕ) (first : List PayloadType) (ds : List Attr) (os : List ValueName)
       → (holds_blocks kd ≡ true) ⊎ (rs ≡ no_regions) → ArgsSo i first rs → blocks_end kd rs ≡ true → RegionsObey (Good sigs) (holder_of kd types ts) env m i rs → RegionsSee (seen_of env) m i rs → KnowsTypes env names → HasEntry names m k0 a0 ts first
-      → RegionsEntered names k a rs → Counts g n (regions_names rs) → RegionsInner rs → regions_number k rs < 2 ^ 64 → regions_argument a rs ≤ 2 ^ 32 → RegionsSo names (named_by g) n k a i (head_by names k0 a0 kd ds os ts first) first rs
+      → RegionsEntered names k a rs → Counts g n (regions_names rs) → RegionsInner rs → regions_number k rs < 2 ^ 64 → regions_argument a rs < 2 ^ 64 → RegionsSo names (named_by g) n k a i (head_by names k0 a0 kd ds os ts first) first rs
   regions_so no_regions sigs kd types ts env names g m n k a k0 a0 i first ds os holds args ends good see w entry e c inner lk la = tt
   regions_so (region xs ops rest) sigs kd types ts env names g m n k a k0 a0 i first ds os holds args ends good see w entry e c inner lk la =
       let held : holds_blocks kd ≡ true = elim holds [ inl h ↦ h | inr z ↦ absurd cc ] in

@@ -19,7 +19,7 @@ low_is_ascii (b ∷ bs) h (suc i) = low_is_ascii bs h.1 i
 
 pub printed_is_laid : PrintedIsLaid
 printed_is_laid m v core st within =
-    let f = module_fits m v core st in
+    let f = module_fits m v core st within.number in
     let nest = module_nests m v within.nesting in
     let few = module_few m v core st within.number in
     let r = module_reads m f in

@@ -1,5 +1,5 @@
 -- The text of each row is laid out of the tokens of its word and its pieces.
-use Rattle.std.proofs.Common.{◌≡◌, ℕ, suc, ◌+◌, ◌^◌, ◌<◌, ◌≤◌, Bool, true, false, List, [], ◌∷◌, ◌++◌, length, Option, Some, None, refl, sym, ap, subst, ◌∙◌, arith, append_assoc, append-nil}
+use Rattle.std.proofs.Common.{◌≡◌, ℕ, suc, ◌+◌, ◌^◌, ◌<◌, Bool, true, false, List, [], ◌∷◌, ◌++◌, length, Option, Some, None, refl, sym, ap, subst, ◌∙◌, arith, append_assoc, append-nil}
 use Rattle.std.specs.Prelude.{map, codes, drop, if◌then◌else◌}
 use Rattle.xf_type.specs.declared.kind.BinKind.{BinKind}
 use Rattle.xf_type.specs.declared.kind.BinKind.TheVariants as bin
@@ -218,7 +218,7 @@ pub record Given (names : Names) (first : ℕ) (args : List PayloadType) (k : Ki
   pub returned : Each IsScalar (returned_types k)
   pub arguments : ArgsRight k ts args
   pub carried : CarriedRight k os ts
-  pub room : first + length args ≤ 2 ^ 32
+  pub room : first + length args < 2 ^ 64
 
 return_row : (names : Names) (ds : List Attr) (os : List ValueName) (head : List ℕ) → Each AttrFits ds → Each (Known names) os → Lays false head (word head ∷ [])
     → Lays false (head ++ (attrs_text ds ++ given_text names os)) (word head ∷ row_then (slot.Dictionary ∷ slot.Operands ∷ []) (dictionary_piece ds ∷ given_piece names os ∷ []) [])

@@ -1,5 +1,5 @@
 -- A valid module of the core kinds, as it is stored, is one whose pieces say it again.
-use Rattle.std.proofs.Common.{◌≡◌, ℕ, suc, ◌^◌, ◌<◌, true, List, [], ◌∷◌, length, refl}
+use Rattle.std.proofs.Common.{◌≡◌, ℕ, suc, ◌^◌, ◌<◌, ◌≤◌, true, List, [], ◌∷◌, length, refl}
 use Rattle.std.proofs.lemmas.Bool.{and_parts}
 use Rattle.xf_type.specs.declared.payload_type.PayloadType.{PayloadType}
 use Rattle.xf_type.specs.declared.payload_type.PayloadType.TheVariants.{Scalar, Tensor}
@@ -7,6 +7,7 @@ use Rattle.xf_ir.specs.declared.name.OpName.{OpName}
 use Rattle.xf_ir.specs.declared.kind.Kind.{Kind}
 use Rattle.xf_ir.specs.declared.kind.Kind.TheVariants as kind
 use Rattle.xf_ir.specs.declared.op.Module.{Module}
+use Rattle.xf_ir.specs.Count.{tree_count}
 use Rattle.xf_ir.specs.Kinds.{returned_types}
 use Rattle.xf_ir.specs.Lists.{Each, every}
 use Rattle.xf_ir.specs.Placed.{Typed, Holder, Placed, placed, root_holder, block_of}
@@ -15,11 +16,14 @@ use Rattle.xf_ir.specs.Tree.{Ops, no_ops, op, Regions, no_regions, region}
 use Rattle.xf_ir.specs.Valid.{IsValid}
 use Rattle.xf_ir.proofs.Lists.{each_map}
 use Rattle.xf_ir.proofs.Obeys.{OpsObey, RegionsObey, FunctionsObey, BlocksObey, blocks_obey}
+use Rattle.xf_read.specs.Short.{HasShortLists}
+use Rattle.xf_read.specs.Syntax.{most_operations}
 use Rattle.xf_roundtrip.specs.Plain.{IsScalar, OpsPlain, RegionsPlain, IsPlain}
 use Rattle.xf_roundtrip.specs.Printable.{IsPrintable}
 use Rattle.xf_roundtrip.specs.Printing.{is_core, all_scalar, is_core_op, IsCore}
 use Rattle.xf_roundtrip.specs.SaidPrinted.{has_row}
 use Rattle.xf_roundtrip.specs.Stored.{IsStored}
+use Rattle.xf_roundtrip.proofs.Numbers.{few_arguments, module_numbers}
 
 row_of_core : (k : Kind) → is_core k ≡ true → has_row k ≡ true
 row_of_core (kind.Module symbol) e = refl
@@ -36,12 +40,13 @@ row_of_core kind.If e = refl
 row_of_core kind.Yield e = refl
 row_of_core k e = absurd cc
 
-pub printable : (m : Module) → IsValid m → IsCore m → IsStored m → IsPrintable m
-printable m v core st = record {
+pub printable : (m : Module) → IsValid m → IsCore m → IsStored m → tree_count m.root ≤ most_operations → IsPrintable m
+printable m v core st few = record {
   valid = v;
   rows = each_map (λ (p : Placed). is_core_op p.tree ≡ true) (λ (p : Placed). has_row p.tree.kind ≡ true) (placed m) (λ p e. row_of_core p.tree.kind (and_parts (is_core p.tree.kind) _ e).0) core;
   bytes = st.bytes;
-  numbers = st.numbers;
+  arguments = few_arguments m st.lists;
+  numbers = module_numbers m st.lists few;
 }
 
 -- ---- scalars alone
@@ -51,9 +56,9 @@ record IsSmall (p : Placed) : Type 0 where
   core : is_core_op p.tree ≡ true
   few : length p.tree.results < 2 ^ 32
 
-small : (ps : List Placed) → Each (λ (p : Placed). is_core_op p.tree ≡ true) ps → Each (λ (p : Placed). length p.tree.results < 2 ^ 32) ps → Each IsSmall ps
+small : (ps : List Placed) → Each (λ (p : Placed). is_core_op p.tree ≡ true) ps → Each (λ (p : Placed). HasShortLists p.tree) ps → Each IsSmall ps
 small [] a b = tt
-small (p ∷ ps) a b = (record { core = a.0; few = b.0 }, small ps a.1 b.1)
+small (p ∷ ps) a b = (record { core = a.0; few = b.0.results }, small ps a.1 b.1)
 
 scalars : (ts : List PayloadType) → all_scalar ts ≡ true → Each IsScalar ts
 scalars [] e = tt
@@ -88,4 +93,4 @@ first_functions no_regions h o = tt
 first_functions (region args ops rest) h o = functions_plain ops h o.0
 
 pub plain : (m : Module) → IsCore m → IsStored m → IsPlain m
-plain m core st = first_functions m.root.regions (root_holder m.root) (blocks_obey IsSmall (root_holder m.root) m.root.regions (small (placed m) core st.results).1)
+plain m core st = first_functions m.root.regions (root_holder m.root) (blocks_obey IsSmall (root_holder m.root) m.root.regions (small (placed m) core st.lists).1)

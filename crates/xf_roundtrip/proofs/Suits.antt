@@ -1,10 +1,11 @@
 -- The pieces of each row suit it, before what follows them.
-use Rattle.std.proofs.Common.{◌≡◌, ℕ, suc, ◌+◌, ◌-◌, ◌^◌, ◌<◌, ◌≤◌, Bool, true, false, List, [], ◌∷◌, ◌++◌, Option, Some, None, refl, sym, subst, ◌∙◌, arith, ◌⊎◌, inl, inr}
+use Rattle.std.proofs.Common.{◌≡◌, ℕ, suc, ◌+◌, ◌-◌, ◌^◌, ◌<◌, ◌≤◌, Bool, true, false, List, [], ◌∷◌, ◌++◌, length, Option, Some, None, refl, sym, ap, subst, ◌∙◌, arith, ◌⊎◌, inl, inr}
 use Rattle.std.specs.Prelude.{not, map, codes, ℤ, pos, negsuc, ◌-ℤ◌, nat_lt, if◌then◌else◌, drop}
 use Rattle.std.specs.Fmt.{decimal}
-use Rattle.std.proofs.lemmas.Bool.{le-leb, ltb-true}
+use Rattle.std.proofs.lemmas.Bool.{le-leb, lt-ltb, ltb-true}
 use Rattle.std.proofs.lemmas.Bool.Decides.{nat_tests}
 use Rattle.std.proofs.lemmas.Int.{ints}
+use Rattle.std.proofs.lemmas.List.{length-map}
 use Rattle.std.proofs.lemmas.Fmt.{decimal_is_IsNumeral}
 use Rattle.xf_type.specs.Integers.{bits_of, signed_value}
 use Rattle.xf_type.specs.declared.attribute.AttrValue.{AttrValue}
@@ -16,13 +17,15 @@ use Rattle.xf_grammar.specs.Tokens.{Seen, sees, is_kind, is_word, is_index, star
 use Rattle.xf_grammar.specs.Grammar.{first_seen}
 use Rattle.xf_lex.specs.declared.token.TokenKind.TheVariants as token_kind
 use Rattle.xf_lex.proofs.Stays.{Digits, decimal_digits}
+use Rattle.xf_read_base.specs.declared.list.Item.{Item}
+use Rattle.xf_read_base.specs.declared.list.Item.TheVariants as item
 use Rattle.xf_read_base.specs.declared.row.Level.TheVariants as level
 use Rattle.xf_read_base.specs.declared.row.Row.{Row}
 use Rattle.xf_read_base.specs.declared.row.Slot.{Slot}
 use Rattle.xf_read_base.specs.declared.row.Slot.TheVariants as slot
 use Rattle.xf_read_base.specs.Parts.{Said, number_value, says_width, says_result}
 use Rattle.xf_read_base.specs.Rows.{slots, fits}
-use Rattle.xf_read_base.specs.Rules.{room_for}
+use Rattle.xf_read_base.specs.Rules.{room_for, most_items}
 use Rattle.xf_read_base.specs.Pieces.{Attribute, mark, word, always, follow, more_suit, until_suits, use_suits, hash_suits, pair_suits, value_suits, attribute_suits, attribute_says, use_says, param_says, pair_says, says_all, Piece, attributes, operands, types, params, typed_operands, pairs, nothing, a_symbol, a_name, an_operand, a_predicate, a_truth, a_number, a_width, piece_written, suits, piece_says, row_suits, row_says, Results, head_suits, head_says}
 use Rattle.xf_ir.specs.declared.name.ValueName.{ValueName}
 use Rattle.xf_ir.specs.declared.name.ValueName.TheVariants.{Result, Arg, Free}
@@ -31,9 +34,10 @@ use Rattle.xf_ir.specs.declared.kind.Kind.{Kind}
 use Rattle.xf_ir.specs.declared.kind.Kind.TheVariants as kind
 use Rattle.xf_ir.specs.Lists.{Each}
 use Rattle.xf_ir.specs.RuleAttributes.{is_index as is_index_width, fits_bits, value_fits}
+use Rattle.xf_ir.specs.Types.{element_of}
 use Rattle.xf_print.specs.Names.{Names}
 use Rattle.xf_roundtrip.specs.Printing.{part_digits, use_of, operand_width, has_minus, digits_of, literal_piece, number_said, attribute_value, attribute_of, dictionary_piece, module_symbol, function_symbol, params_from, pairs_from, results_piece, function_results, given_piece, carried_piece, loop_width, chosen_piece, is_core, row_of, pieces_of, results_of, widths}
-use Rattle.xf_roundtrip.proofs.Needs.{Known, AttrFits, counted}
+use Rattle.xf_roundtrip.proofs.Needs.{Known, AttrFits, HasFew, counted}
 use Rattle.xf_roundtrip.proofs.Lays.{both_true}
 
 -- ---- numbers
@@ -102,6 +106,30 @@ signed_short I32 bits e = range_short (2 ^ 31) (2 ^ 32) (signed_value I32 bits) 
 signed_short I64 bits e = range_short (2 ^ 63) (2 ^ 64) (signed_value I64 bits) (in_range bits (2 ^ 63) (2 ^ 64) (ltb-true bits (2 ^ 64) e) refl) (omega arith) (omega arith)
 signed_short Index bits e = range_short (2 ^ 63) (2 ^ 64) (signed_value Index bits) (in_range bits (2 ^ 63) (2 ^ 64) (ltb-true bits (2 ^ 64) e) refl) (omega arith) (omega arith)
 
+-- ---- numbers of items
+
+-- those behind the first of fewer than 2 ^ 32
+few_others : {A B : Type 0} (f : A → B) (xs : List A) → suc (length xs) < 2 ^ 32 → nat_lt (length (map f xs)) (2 ^ 32 - 1) ≡ true
+few_others f xs few = let e = length-map xs f in lt-ltb (length (map f xs)) (2 ^ 32 - 1) (omega (arith, e, few))
+
+few_mapped : {A B : Type 0} (f : A → B) (xs : List A) → length xs < 2 ^ 32 → length (map f xs) ≤ 2 ^ 32 - 1
+few_mapped f xs few = let e = length-map xs f in omega (arith, e, few)
+
+params_count : (k : ℕ) (ts : List PayloadType) → length (params_from k ts) ≡ length ts
+params_count k [] = refl
+params_count k (t ∷ ts) = ap suc (params_count (suc k) ts)
+
+pairs_count : (names : Names) (k : ℕ) (vs : List ValueName) → length (pairs_from names k vs) ≡ length vs
+pairs_count names k [] = refl
+pairs_count names k (v ∷ vs) = ap suc (pairs_count names (suc k) vs)
+
+few_params : (k : ℕ) (ts : List PayloadType) → length ts < 2 ^ 32 → length (params_from k ts) ≤ 2 ^ 32 - 1
+few_params k ts few = let e = params_count k ts in omega (arith, e, few)
+
+-- those behind the first of fewer than 2 ^ 32, where three stand before
+few_pairs : (names : Names) (k : ℕ) (vs : List ValueName) → suc (length vs) + 3 < 2 ^ 32 → nat_lt (length (pairs_from names k vs)) (2 ^ 32 - 4) ≡ true
+few_pairs names k vs few = let e = pairs_count names k vs in lt-ltb (length (pairs_from names k vs)) (2 ^ 32 - 4) (omega (arith, e, few))
+
 -- ---- attributes
 
 value_suit : (v : AttrValue) (y : Seen) → value_fits v ≡ true → not (is_kind equals y) ≡ true → value_suits (attribute_value v) y ≡ true
@@ -117,13 +145,13 @@ entries_suit : (ds : List Attr) → Each AttrFits ds → more_suit attribute_sui
 entries_suit [] h = refl
 entries_suit (d ∷ ds) h = both_true (value_suit d.value (follow (map attribute_of ds) (mark close_brace)) h.0.value (no_equals ds)) (entries_suit ds h.1)
 
-pub dictionary_suits : (ds : List Attr) (y : Seen) → Each AttrFits ds → not (is_kind open_brace y) ≡ true → suits slot.Dictionary (dictionary_piece ds) y ≡ true
-dictionary_suits [] y h e = e
-dictionary_suits (d ∷ ds) y h e = entries_suit (d ∷ ds) h
+pub dictionary_suits : (ds : List Attr) (y : Seen) → Each AttrFits ds → length ds < 2 ^ 32 → not (is_kind open_brace y) ≡ true → suits slot.Dictionary (dictionary_piece ds) y ≡ true
+dictionary_suits [] y h few e = e
+dictionary_suits (d ∷ ds) y h few e = both_true (few_others attribute_of ds few) (entries_suit (d ∷ ds) h)
 
-attributes_suit : (ds : List Attr) (y : Seen) → Each AttrFits ds → not (is_word (codes "attributes") y) ≡ true → suits slot.Attributes (dictionary_piece ds) y ≡ true
-attributes_suit [] y h e = e
-attributes_suit (d ∷ ds) y h e = entries_suit (d ∷ ds) h
+attributes_suit : (ds : List Attr) (y : Seen) → Each AttrFits ds → length ds < 2 ^ 32 → not (is_word (codes "attributes") y) ≡ true → suits slot.Attributes (dictionary_piece ds) y ≡ true
+attributes_suit [] y h few e = e
+attributes_suit (d ∷ ds) y h few e = both_true (few_others attribute_of ds few) (entries_suit (d ∷ ds) h)
 
 -- ---- uses
 
@@ -149,17 +177,17 @@ uses_suit : (names : Names) (vs : List ValueName) (y : Seen) → Each (Known nam
 uses_suit names [] y h c e = c
 uses_suit names (v ∷ vs) y h c e = both_true (use_suit names v (follow (map (use_of names) vs) y) h.0 (no_index (map (use_of names) vs) y e)) (uses_suit names vs y h.1 c e)
 
-enclosed_suit : (names : Names) (vs : List ValueName) → Each (Known names) vs → until_suits close_paren use_suits (map (use_of names) vs) ≡ true
-enclosed_suit names [] h = refl
-enclosed_suit names (v ∷ vs) h = uses_suit names (v ∷ vs) (mark close_paren) h refl refl
+enclosed_suit : (names : Names) (vs : List ValueName) → Each (Known names) vs → length vs < 2 ^ 32 → until_suits item.Use close_paren use_suits (map (use_of names) vs) ≡ true
+enclosed_suit names [] h few = refl
+enclosed_suit names (v ∷ vs) h few = both_true (few_others (use_of names) vs few) (uses_suit names (v ∷ vs) (mark close_paren) h refl refl)
 
 pairs_suit : (names : Names) (k : ℕ) (vs : List ValueName) → Each (Known names) vs → more_suit pair_suits (pairs_from names k vs) (mark close_paren) ≡ true
 pairs_suit names k [] h = refl
 pairs_suit names k (v ∷ vs) h = both_true (use_suit names v (follow (pairs_from names (suc k) vs) (mark close_paren)) h.0 (no_index (pairs_from names (suc k) vs) (mark close_paren) refl)) (pairs_suit names (suc k) vs h.1)
 
-carried_suit : (names : Names) (k : ℕ) (vs : List ValueName) → Each (Known names) vs → until_suits close_paren pair_suits (pairs_from names k vs) ≡ true
-carried_suit names k [] h = refl
-carried_suit names k (v ∷ vs) h = pairs_suit names k (v ∷ vs) h
+carried_suit : (names : Names) (k : ℕ) (vs : List ValueName) → Each (Known names) vs → length vs + 3 < 2 ^ 32 → until_suits item.Pair close_paren pair_suits (pairs_from names k vs) ≡ true
+carried_suit names k [] h few = refl
+carried_suit names k (v ∷ vs) h few = both_true (few_pairs names (suc k) vs few) (pairs_suit names k (v ∷ vs) h)
 
 -- ---- types
 
@@ -167,23 +195,24 @@ any_suit : {A : Type 0} (xs : List A) (y : Seen) → not (is_kind comma y) ≡ t
 any_suit [] y e = e
 any_suit (x ∷ xs) y e = any_suit xs y e
 
-until_any : {A : Type 0} (xs : List A) → until_suits close_paren always xs ≡ true
-until_any [] = refl
-until_any (x ∷ xs) = any_suit xs (mark close_paren) refl
+until_any : {A : Type 0} (i : Item) (xs : List A) → length xs ≤ most_items i → until_suits i close_paren always xs ≡ true
+until_any i [] few = refl
+until_any i (x ∷ xs) few = both_true (lt-ltb (length xs) (most_items i) (omega (arith, few))) (any_suit xs (mark close_paren) refl)
 
-given_suits : (names : Names) (os : List ValueName) → Each (Known names) os → suits slot.Operands (given_piece names os) (mark close_brace) ≡ true
-given_suits names [] h = refl
-given_suits names (v ∷ vs) h = both_true (uses_suit names (v ∷ vs) (mark colon) h refl refl) (any_suit (map (operand_width names) vs) (mark close_brace) refl)
+given_suits : (names : Names) (os : List ValueName) → Each (Known names) os → length os < 2 ^ 32 → suits slot.Operands (given_piece names os) (mark close_brace) ≡ true
+given_suits names [] h few = refl
+given_suits names (v ∷ vs) h few =
+    both_true (both_true (few_others (use_of names) vs few) (uses_suit names (v ∷ vs) (mark colon) h refl refl)) (both_true (few_others (operand_width names) vs few) (any_suit (map (operand_width names) vs) (mark close_brace) refl))
 
-results_suit : (ts : List PayloadType) (y : Seen) → suits slot.CallResults (results_piece ts) y ≡ true
-results_suit [] y = refl
-results_suit (t ∷ []) y = refl
-results_suit (t ∷ (u ∷ ts)) y = until_any (widths (t ∷ (u ∷ ts)))
+results_suit : (ts : List PayloadType) (y : Seen) → length ts < 2 ^ 32 → suits slot.CallResults (results_piece ts) y ≡ true
+results_suit [] y few = refl
+results_suit (t ∷ []) y few = refl
+results_suit (t ∷ (u ∷ ts)) y few = until_any item.Result (widths (t ∷ (u ∷ ts))) (few_mapped element_of (t ∷ (u ∷ ts)) few)
 
-function_results_suit : (ts : List PayloadType) (y : Seen) → not (is_kind token_kind.Arrow y) ≡ true → suits slot.FunctionResults (function_results ts) y ≡ true
-function_results_suit [] y e = e
-function_results_suit (t ∷ []) y e = refl
-function_results_suit (t ∷ (u ∷ ts)) y e = until_any (widths (t ∷ (u ∷ ts)))
+function_results_suit : (ts : List PayloadType) (y : Seen) → length ts < 2 ^ 32 → not (is_kind token_kind.Arrow y) ≡ true → suits slot.FunctionResults (function_results ts) y ≡ true
+function_results_suit [] y few e = e
+function_results_suit (t ∷ []) y few e = refl
+function_results_suit (t ∷ (u ∷ ts)) y few e = until_any item.Result (widths (t ∷ (u ∷ ts))) (few_mapped element_of (t ∷ (u ∷ ts)) few)
 
 -- ---- what stands behind a slot
 
@@ -234,18 +263,18 @@ carried_first : (names : Names) (first : ℕ) (os : List ValueName) (ts : List P
 carried_first names first os [] w = width_first (λ y. not (is_index y)) (is_index_width w) w refl refl
 carried_first names first os (t ∷ ts) w = refl
 
-carried_suits : (names : Names) (first : ℕ) (os : List ValueName) (ts : List PayloadType) (w : Width) → Each (Known names) (drop 3 os)
+carried_suits : (names : Names) (first : ℕ) (os : List ValueName) (ts : List PayloadType) (w : Width) → Each (Known names) (drop 3 os) → length (drop 3 os) + 3 < 2 ^ 32 → length ts < 2 ^ 32
     → suits slot.IterArgs (carried_piece names first os ts) (first_seen (piece_written slot.LoopWidth (loop_width w) ++ []) (mark open_brace)) ≡ true
-carried_suits names first os [] w h = width_first (λ y. not (is_word (codes "iter_args") y)) (is_index_width w) w refl refl
-carried_suits names first os (t ∷ ts) w h = both_true (carried_suit names (suc first) (drop 3 os) h) (until_any (widths (t ∷ ts)))
+carried_suits names first os [] w h few few_types = width_first (λ y. not (is_word (codes "iter_args") y)) (is_index_width w) w refl refl
+carried_suits names first os (t ∷ ts) w h few few_types = both_true (carried_suit names (suc first) (drop 3 os) h few) (until_any item.Result (widths (t ∷ ts)) (few_mapped element_of (t ∷ ts) few_types))
 
 chosen_first : (ts : List PayloadType) → not (is_index (first_seen (piece_written slot.IfResults (chosen_piece ts) ++ []) (mark open_brace))) ≡ true
 chosen_first [] = refl
 chosen_first (t ∷ ts) = refl
 
-chosen_suits : (ts : List PayloadType) → suits slot.IfResults (chosen_piece ts) (mark open_brace) ≡ true
-chosen_suits [] = refl
-chosen_suits (t ∷ ts) = until_any (widths (t ∷ ts))
+chosen_suits : (ts : List PayloadType) → length ts < 2 ^ 32 → suits slot.IfResults (chosen_piece ts) (mark open_brace) ≡ true
+chosen_suits [] few = refl
+chosen_suits (t ∷ ts) few = until_any item.Result (widths (t ∷ ts)) (few_mapped element_of (t ∷ ts) few)
 
 -- ---- the rows
 
@@ -263,51 +292,51 @@ Follows kind.Return y = y ≡ mark close_brace
 Follows kind.Yield y = y ≡ mark close_brace
 Follows k y = Unit {0}
 
-module_suits : (symbol : Option (List ℕ)) (ds : List Attr) → Each AttrFits ds → row_suits (slot.ModuleName ∷ slot.Attributes ∷ []) (module_symbol symbol ∷ dictionary_piece ds ∷ []) (mark open_brace) ≡ true
-module_suits None ds h = both_true (attributes_first (λ z. not (is_kind token_kind.Symbol z)) ds [] (mark open_brace) refl refl) (both_true (attributes_suit ds (mark open_brace) h refl) refl)
-module_suits (Some s) ds h = both_true (attributes_suit ds (mark open_brace) h refl) refl
+module_suits : (symbol : Option (List ℕ)) (ds : List Attr) → Each AttrFits ds → length ds < 2 ^ 32 → row_suits (slot.ModuleName ∷ slot.Attributes ∷ []) (module_symbol symbol ∷ dictionary_piece ds ∷ []) (mark open_brace) ≡ true
+module_suits None ds h few = both_true (attributes_first (λ z. not (is_kind token_kind.Symbol z)) ds [] (mark open_brace) refl refl) (both_true (attributes_suit ds (mark open_brace) h few refl) refl)
+module_suits (Some s) ds h few = both_true (attributes_suit ds (mark open_brace) h few refl) refl
 
 name_suits : (private : Bool) (s : List ℕ) (y : Seen) → suits slot.FunctionName (function_symbol private s) y ≡ true
 name_suits true s y = refl
 name_suits false s y = refl
 
-return_suits : (names : Names) (ds : List Attr) (os : List ValueName) → Each AttrFits ds → Each (Known names) os → row_suits (slot.Dictionary ∷ slot.Operands ∷ []) (dictionary_piece ds ∷ given_piece names os ∷ []) (mark close_brace) ≡ true
-return_suits names ds os h k = both_true (dictionary_suits ds _ h (given_first names os)) (both_true (given_suits names os k) refl)
+return_suits : (names : Names) (ds : List Attr) (os : List ValueName) → Each AttrFits ds → Each (Known names) os → length ds < 2 ^ 32 → length os < 2 ^ 32 → row_suits (slot.Dictionary ∷ slot.Operands ∷ []) (dictionary_piece ds ∷ given_piece names os ∷ []) (mark close_brace) ≡ true
+return_suits names ds os h k few few_operands = both_true (dictionary_suits ds _ h few (given_first names os)) (both_true (given_suits names os k few_operands) refl)
 
 -- the pieces of a kind
-pub pieces_suit : (names : Names) (first : ℕ) (args : List PayloadType) (k : Kind) (ds : List Attr) (os : List ValueName) (ts : List PayloadType) (y : Seen) → is_core k ≡ true → Each AttrFits ds → Each (Known names) os → counted k os ≡ true → Follows k y
+pub pieces_suit : (names : Names) (first : ℕ) (args : List PayloadType) (k : Kind) (ds : List Attr) (os : List ValueName) (ts : List PayloadType) (y : Seen) → is_core k ≡ true → Each AttrFits ds → Each (Known names) os → counted k os ≡ true → HasFew k ds os ts args → Follows k y
     → row_suits (slots (row_of k)) (pieces_of names first args k ds os ts) y ≡ true
-pieces_suit names first args (kind.Module symbol) ds os ts y c h k n f = subst (λ z. row_suits (slot.ModuleName ∷ slot.Attributes ∷ []) (module_symbol symbol ∷ dictionary_piece ds ∷ []) z ≡ true) (sym f) (module_suits symbol ds h)
-pieces_suit names first args (kind.Func symbol private results) ds os ts y c h k n f =
+pieces_suit names first args (kind.Module symbol) ds os ts y c h k n few f = subst (λ z. row_suits (slot.ModuleName ∷ slot.Attributes ∷ []) (module_symbol symbol ∷ dictionary_piece ds ∷ []) z ≡ true) (sym f) (module_suits symbol ds h few.attributes)
+pieces_suit names first args (kind.Func symbol private results) ds os ts y c h k n few f =
     subst (λ z. row_suits (slots (row_of (kind.Func symbol private results))) (pieces_of names first args (kind.Func symbol private results) ds os ts) z ≡ true) (sym f)
-    (both_true (name_suits private symbol _) (both_true (until_any (params_from first args)) (both_true (function_results_suit results _ (attributes_first (λ z. not (is_kind token_kind.Arrow z)) ds [] (mark open_brace) refl refl)) (both_true (attributes_suit ds (mark open_brace) h refl) refl))))
-pieces_suit names first args kind.Return ds os ts y c h k n f = subst (λ z. row_suits (slot.Dictionary ∷ slot.Operands ∷ []) (dictionary_piece ds ∷ given_piece names os ∷ []) z ≡ true) (sym f) (return_suits names ds os h k)
-pieces_suit names first args (kind.Call callee) ds os ts y c h k n f =
-    both_true (enclosed_suit names os k) (both_true (dictionary_suits ds _ h refl) (both_true (until_any (map (operand_width names) os)) (both_true (results_suit ts y) refl)))
-pieces_suit names first args (kind.Constant width bits) ds os ts y c h k n f = both_true (dictionary_suits ds _ h (literal_first width bits y)) (both_true (literal_suits width bits y) refl)
-pieces_suit names first args (kind.Binary which width) ds (a ∷ b ∷ []) ts y c h k n f =
-    both_true (use_suit names a (mark comma) k.0 refl) (both_true (use_suit names b _ k.1.0 (behind_use ds _ y)) (both_true (dictionary_suits ds _ h refl) refl))
-pieces_suit names first args (kind.Binary which width) ds os ts y c h k n f = absurd cc
-pieces_suit names first args (kind.Compare which width) ds (a ∷ b ∷ []) ts y c h k n f =
-    both_true (use_suit names a (mark comma) k.0 refl) (both_true (use_suit names b _ k.1.0 (behind_use ds _ y)) (both_true (dictionary_suits ds _ h refl) refl))
-pieces_suit names first args (kind.Compare which width) ds os ts y c h k n f = absurd cc
-pieces_suit names first args (kind.Select width) ds (a ∷ b ∷ d ∷ []) ts y c h k n f =
-    both_true (use_suit names a (mark comma) k.0 refl) (both_true (use_suit names b (mark comma) k.1.0 refl) (both_true (use_suit names d _ k.1.1.0 (behind_use ds _ y)) (both_true (dictionary_suits ds _ h refl) refl)))
-pieces_suit names first args (kind.Select width) ds os ts y c h k n f = absurd cc
-pieces_suit names first args (kind.Convert which from to) ds (a ∷ []) ts y c h k n f =
-    both_true (use_suit names a _ k.0 (behind_use ds _ y)) (both_true (dictionary_suits ds _ h refl) refl)
-pieces_suit names first args (kind.Convert which from to) ds os ts y c h k n f = absurd cc
-pieces_suit names first args (kind.For width) ds (a ∷ b ∷ d ∷ os) ts y c h k n f =
+    (both_true (name_suits private symbol _) (both_true (until_any item.Param (params_from first args) (few_params first args few.arguments)) (both_true (function_results_suit results _ few.returned (attributes_first (λ z. not (is_kind token_kind.Arrow z)) ds [] (mark open_brace) refl refl)) (both_true (attributes_suit ds (mark open_brace) h few.attributes refl) refl))))
+pieces_suit names first args kind.Return ds os ts y c h k n few f = subst (λ z. row_suits (slot.Dictionary ∷ slot.Operands ∷ []) (dictionary_piece ds ∷ given_piece names os ∷ []) z ≡ true) (sym f) (return_suits names ds os h k few.attributes few.operands)
+pieces_suit names first args (kind.Call callee) ds os ts y c h k n few f =
+    both_true (enclosed_suit names os k few.operands) (both_true (dictionary_suits ds _ h few.attributes refl) (both_true (until_any item.Type (map (operand_width names) os) (few_mapped (operand_width names) os few.operands)) (both_true (results_suit ts y few.results) refl)))
+pieces_suit names first args (kind.Constant width bits) ds os ts y c h k n few f = both_true (dictionary_suits ds _ h few.attributes (literal_first width bits y)) (both_true (literal_suits width bits y) refl)
+pieces_suit names first args (kind.Binary which width) ds (a ∷ b ∷ []) ts y c h k n few f =
+    both_true (use_suit names a (mark comma) k.0 refl) (both_true (use_suit names b _ k.1.0 (behind_use ds _ y)) (both_true (dictionary_suits ds _ h few.attributes refl) refl))
+pieces_suit names first args (kind.Binary which width) ds os ts y c h k n few f = absurd cc
+pieces_suit names first args (kind.Compare which width) ds (a ∷ b ∷ []) ts y c h k n few f =
+    both_true (use_suit names a (mark comma) k.0 refl) (both_true (use_suit names b _ k.1.0 (behind_use ds _ y)) (both_true (dictionary_suits ds _ h few.attributes refl) refl))
+pieces_suit names first args (kind.Compare which width) ds os ts y c h k n few f = absurd cc
+pieces_suit names first args (kind.Select width) ds (a ∷ b ∷ d ∷ []) ts y c h k n few f =
+    both_true (use_suit names a (mark comma) k.0 refl) (both_true (use_suit names b (mark comma) k.1.0 refl) (both_true (use_suit names d _ k.1.1.0 (behind_use ds _ y)) (both_true (dictionary_suits ds _ h few.attributes refl) refl)))
+pieces_suit names first args (kind.Select width) ds os ts y c h k n few f = absurd cc
+pieces_suit names first args (kind.Convert which from to) ds (a ∷ []) ts y c h k n few f =
+    both_true (use_suit names a _ k.0 (behind_use ds _ y)) (both_true (dictionary_suits ds _ h few.attributes refl) refl)
+pieces_suit names first args (kind.Convert which from to) ds os ts y c h k n few f = absurd cc
+pieces_suit names first args (kind.For width) ds (a ∷ b ∷ d ∷ os) ts y c h k n few f =
     subst (λ z. row_suits (slots (row_of (kind.For width))) (pieces_of names first args (kind.For width) ds (a ∷ b ∷ d ∷ os) ts) z ≡ true) (sym f)
     (both_true (use_suit names a _ k.0 refl) (both_true (use_suit names b _ k.1.0 refl) (both_true (use_suit names d _ k.1.1.0 (carried_first names first (a ∷ b ∷ d ∷ os) ts width))
-    (both_true (carried_suits names first (a ∷ b ∷ d ∷ os) ts width k.1.1.1) (both_true (width_suits (is_index_width width) width) refl)))))
-pieces_suit names first args (kind.For width) ds os ts y c h k n f = absurd cc
-pieces_suit names first args kind.If ds (a ∷ []) ts y c h k n f =
+    (both_true (carried_suits names first (a ∷ b ∷ d ∷ os) ts width k.1.1.1 (let count = few.operands in omega (arith, count)) few.results) (both_true (width_suits (is_index_width width) width) refl)))))
+pieces_suit names first args (kind.For width) ds os ts y c h k n few f = absurd cc
+pieces_suit names first args kind.If ds (a ∷ []) ts y c h k n few f =
     subst (λ z. row_suits (slots (row_of kind.If)) (pieces_of names first args kind.If ds (a ∷ []) ts) z ≡ true) (sym f)
-    (both_true (use_suit names a _ k.0 (chosen_first ts)) (both_true (chosen_suits ts) refl))
-pieces_suit names first args kind.If ds os ts y c h k n f = absurd cc
-pieces_suit names first args kind.Yield ds os ts y c h k n f = subst (λ z. row_suits (slot.Dictionary ∷ slot.Operands ∷ []) (dictionary_piece ds ∷ given_piece names os ∷ []) z ≡ true) (sym f) (return_suits names ds os h k)
-pieces_suit names first args k ds os ts y c h known n f = absurd cc
+    (both_true (use_suit names a _ k.0 (chosen_first ts)) (both_true (chosen_suits ts few.results) refl))
+pieces_suit names first args kind.If ds os ts y c h k n few f = absurd cc
+pieces_suit names first args kind.Yield ds os ts y c h k n few f = subst (λ z. row_suits (slot.Dictionary ∷ slot.Operands ∷ []) (dictionary_piece ds ∷ given_piece names os ∷ []) z ≡ true) (sym f) (return_suits names ds os h k few.attributes few.operands)
+pieces_suit names first args k ds os ts y c h known n few f = absurd cc
 
 -- ---- heads
 

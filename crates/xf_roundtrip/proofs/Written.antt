@@ -1,5 +1,5 @@
 -- The tokens of the printed form are written by the grammar of payloads, as what the printed form says.
-use Rattle.std.proofs.Common.{◌≡◌, inl, ℕ, ◌+◌, ◌≤◌, Bool, true, false, List, [], ◌∷◌, ◌++◌, length, Option, None, refl, sym, ap, subst, append_assoc, append-nil}
+use Rattle.std.proofs.Common.{◌≡◌, inl, ℕ, ◌+◌, ◌^◌, ◌<◌, ◌≤◌, Bool, true, false, List, [], ◌∷◌, ◌++◌, length, Option, None, refl, sym, ap, subst, append_assoc, append-nil}
 use Rattle.std.specs.Prelude.{◌&&◌, ◌||◌, not, map, codes, if◌then◌else◌}
 use Rattle.xf_type.specs.declared.kind.BinKind.{BinKind}
 use Rattle.xf_type.specs.declared.kind.BinKind.TheVariants as bin
@@ -36,7 +36,7 @@ use Rattle.xf_read.specs.Written.{SaidNodes, no_nodes_said, node_said, no_bodies
 use Rattle.xf_print.specs.Names.{Names, no_names, with_ops, first_args, number_of, first_of}
 use Rattle.xf_print.specs.Printed.{is_empty_yield}
 use Rattle.xf_roundtrip.specs.Printing.{attribute_of, dictionary_piece, is_core, row_of, pieces_of, results_of, tail_says, op_says, ops_printed, bodies_printed, functions_printed, module_printed}
-use Rattle.xf_roundtrip.proofs.Needs.{Known, head_tokens, tail_tokens, ops_tokens, regions_tokens, functions_tokens, module_tokens, AttrFits, counted, has_regions, Fits, OpsFit, RegionsFit, FunctionsFit, ModuleFits}
+use Rattle.xf_roundtrip.proofs.Needs.{Known, head_tokens, tail_tokens, ops_tokens, regions_tokens, functions_tokens, module_tokens, AttrFits, HasFew, counted, has_regions, Fits, OpsFit, RegionsFit, FunctionsFit, ModuleFits}
 use Rattle.xf_roundtrip.proofs.Suits.{dictionary_suits, dictionary_first, Follows, pieces_suit, body_suits, head_row}
 
 -- ---- the first token of operations
@@ -127,13 +127,13 @@ dictionary_says : (ds : List Attr) (t : Said) → piece_says slot.Dictionary (di
 dictionary_says [] t = refl
 dictionary_says (d ∷ ds) t = refl
 
-dictionary_written : (ds : List Attr) (at : ℕ) (y : Seen) (t : Said) → Each AttrFits ds → not (is_kind open_brace y) ≡ true → Writes dictionary_rule at (piece_written slot.Dictionary (dictionary_piece ds)) y t (says_all attribute_says (map attribute_of ds) t)
-dictionary_written ds at y t h e = subst (λ u. Writes dictionary_rule at (piece_written slot.Dictionary (dictionary_piece ds)) y t u) (dictionary_says ds t) (piece_writes slot.Dictionary (dictionary_piece ds) at y t (dictionary_suits ds y h e))
+dictionary_written : (ds : List Attr) (at : ℕ) (y : Seen) (t : Said) → Each AttrFits ds → length ds < 2 ^ 32 → not (is_kind open_brace y) ≡ true → Writes dictionary_rule at (piece_written slot.Dictionary (dictionary_piece ds)) y t (says_all attribute_says (map attribute_of ds) t)
+dictionary_written ds at y t h few e = subst (λ u. Writes dictionary_rule at (piece_written slot.Dictionary (dictionary_piece ds)) y t u) (dictionary_says ds t) (piece_writes slot.Dictionary (dictionary_piece ds) at y t (dictionary_suits ds y h few e))
 
-tail_written : (k : Kind) (ds : List Attr) (at : ℕ) (y : Seen) (t : Said) → is_core k ≡ true → Each AttrFits ds → not (is_kind open_brace y) ≡ true → TailWritten (has_tail (row_of k)) at (tail_tokens k ds) y t (tail_says k ds t)
-tail_written (kind.For width) ds at y t c h e = dictionary_written ds at y t h e
-tail_written kind.If ds at y t c h e = dictionary_written ds at y t h e
-tail_written k ds at y t c h e = (refl, refl)
+tail_written : (k : Kind) (ds : List Attr) (at : ℕ) (y : Seen) (t : Said) → is_core k ≡ true → Each AttrFits ds → length ds < 2 ^ 32 → not (is_kind open_brace y) ≡ true → TailWritten (has_tail (row_of k)) at (tail_tokens k ds) y t (tail_says k ds t)
+tail_written (kind.For width) ds at y t c h few e = dictionary_written ds at y t h few e
+tail_written kind.If ds at y t c h few e = dictionary_written ds at y t h few e
+tail_written k ds at y t c h few e = (refl, refl)
 
 no_module : (k : Kind) → is_container k ≡ false → is_module k ≡ false
 no_module (kind.Module symbol) c = absurd cc
@@ -160,7 +160,7 @@ one_braced qs = sym (append-nil (mark open_brace ∷ (qs ++ mark close_brace ∷
 
 -- an operation before others, by its head and its bodies
 node_written : (l : Level) (names : Names) (n : OpName) (k : Kind) (ds : List Attr) (os : List ValueName) (ts : List PayloadType) (rs : Regions) (rest : List Seen) (said : SaidNodes) (at : ℕ)
-    → is_core k ≡ true → Each AttrFits ds → Begins (first_seen rest (mark close_brace))
+    → is_core k ≡ true → Each AttrFits ds → length ds < 2 ^ 32 → Begins (first_seen rest (mark close_brace))
     → let t : Tree = record { name = n; kind = k; attrs = ds; operands = os; results = ts; regions = rs } in
     let d = results_of (number_of (names.entry n.0)) ts in
     let ps = pieces_of names (first_of (names.entry n.0)) (first_args rs) k ds os ts in
@@ -168,7 +168,7 @@ node_written : (l : Level) (names : Names) (n : OpName) (k : Kind) (ds : List At
     → BodiesWritten (row_of k) (at + length (head_tokens names t)) (regions_tokens names rs) (first_seen (tail_tokens k ds ++ rest) (mark close_brace)) (bodies_printed names rs)
     → NodesWritten (behind l) (at + length (head_tokens names t) + length (regions_tokens names rs) + length (tail_tokens k ds)) rest (mark close_brace) said
     → NodesWritten l at (head_tokens names t ++ (regions_tokens names rs ++ (tail_tokens k ds ++ rest))) (mark close_brace) (node_said (op_says names t) (bodies_printed names rs) said)
-node_written l names n k ds os ts rs rest said at core attrs begins suit inner more =
+node_written l names n k ds os ts rs rest said at core attrs few begins suit inner more =
     let d = results_of (number_of (names.entry n.0)) ts in
     let ps = pieces_of names (first_of (names.entry n.0)) (first_args rs) k ds os ts in
     let h = head_says d (row_of k) ps nothing_said in
@@ -192,7 +192,7 @@ node_written l names n k ds os ts rs rest said at core attrs begins suit inner m
                     subst (λ x. BodiesWritten x (at + length head) (regions_tokens names rs) (first_seen (tail_tokens k ds ++ rest) (mark close_brace)) (bodies_printed names rs)) r inner,
                     (
                       subst (λ x. TailWritten (has_tail x) (at + length head + length (regions_tokens names rs)) (tail_tokens k ds) (first_seen rest (mark close_brace)) h (tail_says k ds h)) r
-                          (tail_written k ds _ _ h core attrs begins.no_brace),
+                          (tail_written k ds _ _ h core attrs few begins.no_brace),
                       more,
                     ),
                   ),
@@ -212,8 +212,8 @@ body_node : (names : Names) (n : OpName) (k : Kind) (ds : List Attr) (os : List 
     → NodesWritten level.Body at (head_tokens names t ++ (regions_tokens names rs ++ (tail_tokens k ds ++ ops_tokens names rest))) (mark close_brace) (node_said (op_says names t) (bodies_printed names rs) (ops_printed names rest))
 body_node names n k ds os ts rs rest at c f inner more =
     let ps = pieces_of names (first_of (names.entry n.0)) (first_args rs) k ds os ts in
-    let suit = pieces_suit names (first_of (names.entry n.0)) (first_args rs) k ds os ts _ f.core f.attrs f.values f.count (follows names k rs ds rest f.regions f.last) in
-    node_written level.Body names n k ds os ts rs (ops_tokens names rest) (ops_printed names rest) at f.core f.attrs (ops_begin names rest) (body_suits (number_of (names.entry n.0)) ts (row_of k) ps _ (fits_body k f.core c) suit) inner more
+    let suit = pieces_suit names (first_of (names.entry n.0)) (first_args rs) k ds os ts _ f.core f.attrs f.values f.count f.few (follows names k rs ds rest f.regions f.last) in
+    node_written level.Body names n k ds os ts rs (ops_tokens names rest) (ops_printed names rest) at f.core f.attrs f.few.attributes (ops_begin names rest) (body_suits (number_of (names.entry n.0)) ts (row_of k) ps _ (fits_body k f.core c) suit) inner more
 
 mutual
   pub ops_written : (names : Names) (ops : Ops) (at : ℕ) → OpsFit names ops → NodesWritten level.Body at (ops_tokens names ops) (mark close_brace) (ops_printed names ops)
@@ -272,8 +272,8 @@ function_written : (names : Names) (n : OpName) (symbol : List ℕ) (private : B
     → NodesWritten level.Functions at (head_tokens names t ++ (regions_tokens names rs ++ rest)) (mark close_brace) (node_said (op_says names t) (bodies_printed names rs) said)
 function_written names n symbol private results ds os rs rest said at f inner begins more =
     let k = kind.Func symbol private results in
-    let suit = pieces_suit names (first_of (names.entry n.0)) (first_args rs) k ds os [] _ refl f.attrs f.values f.count (function_follows names symbol private results rs rest f.regions) in
-    node_written level.Functions names n k ds os [] rs rest said at refl f.attrs begins suit (bodies_written names k rs _ _ refl refl f.regions inner refl) more
+    let suit = pieces_suit names (first_of (names.entry n.0)) (first_args rs) k ds os [] _ refl f.attrs f.values f.count f.few (function_follows names symbol private results rs rest f.regions) in
+    node_written level.Functions names n k ds os [] rs rest said at refl f.attrs f.few.attributes begins suit (bodies_written names k rs _ _ refl refl f.regions inner refl) more
 
 pub functions_written : (fs : Ops) (at : ℕ) → FunctionsFit fs → NodesWritten level.Functions at (functions_tokens fs) (mark close_brace) (functions_printed fs)
 functions_written no_ops at f = refl
@@ -289,16 +289,17 @@ functions_written (op n k ds os ts rs rest) at f = absurd f
 -- ---- the module
 
 -- the root, where its kind is that of a module
-root_written : (n : OpName) (symbol : Option (List ℕ)) (ds : List Attr) (os : List ValueName) (rs : Regions) (fs : Ops) → Each AttrFits ds → Each (Known no_names) os → counted (kind.Module symbol) os ≡ true → FunctionsFit fs
+root_written : (n : OpName) (symbol : Option (List ℕ)) (ds : List Attr) (os : List ValueName) (rs : Regions) (fs : Ops) → Each AttrFits ds → Each (Known no_names) os → counted (kind.Module symbol) os ≡ true
+    → HasFew (kind.Module symbol) ds os [] (first_args rs) → FunctionsFit fs
     → let t : Tree = record { name = n; kind = kind.Module symbol; attrs = ds; operands = os; results = []; regions = rs } in
     ModuleWritten (head_tokens no_names t ++ mark open_brace ∷ (functions_tokens fs ++ mark close_brace ∷ [])) (node_said (op_says no_names t) (body_said (functions_printed fs) no_bodies_said) no_nodes_said)
-root_written n symbol ds os rs fs attrs values count f =
+root_written n symbol ds os rs fs attrs values count few f =
     let k = kind.Module symbol in
     let ps = pieces_of no_names 0 (first_args rs) k ds os [] in
     let h = head_says None row.Module ps nothing_said in
     let head = head_written None row.Module ps in
     let body = mark open_brace ∷ (functions_tokens fs ++ mark close_brace ∷ []) in
-    let suit = pieces_suit no_names 0 (first_args rs) k ds os [] (mark open_brace) refl attrs values count refl in
+    let suit = pieces_suit no_names 0 (first_args rs) k ds os [] (mark open_brace) refl attrs values count few refl in
     let r = sym (head_row None row.Module ps nothing_said) in (
       refl,
       (
@@ -339,21 +340,23 @@ root_written n symbol ds os rs fs attrs values count f =
     )
 
 -- of any kind and results that are those
-module_tree_written : (n : OpName) (k : Kind) (symbol : Option (List ℕ)) (ds : List Attr) (os : List ValueName) (ts : List PayloadType) (rs : Regions) (fs : Ops) → k ≡ kind.Module symbol → ts ≡ [] → Each AttrFits ds → Each (Known no_names) os → counted k os ≡ true → FunctionsFit fs
+module_tree_written : (n : OpName) (k : Kind) (symbol : Option (List ℕ)) (ds : List Attr) (os : List ValueName) (ts : List PayloadType) (rs : Regions) (fs : Ops) → k ≡ kind.Module symbol → ts ≡ [] → Each AttrFits ds → Each (Known no_names) os → counted k os ≡ true
+    → HasFew k ds os ts (first_args rs) → FunctionsFit fs
     → let t : Tree = record { name = n; kind = k; attrs = ds; operands = os; results = ts; regions = rs } in
     ModuleWritten (head_tokens no_names t ++ mark open_brace ∷ (functions_tokens fs ++ mark close_brace ∷ [])) (node_said (op_says no_names t) (body_said (functions_printed fs) no_bodies_said) no_nodes_said)
-module_tree_written n k symbol ds os ts rs fs e z attrs values count f =
+module_tree_written n k symbol ds os ts rs fs e z attrs values count few f =
     let W : Kind → List PayloadType → Type 0 = λ j us.
     ModuleWritten (head_tokens no_names (record { name = n; kind = j; attrs = ds; operands = os; results = us; regions = rs }) ++ mark open_brace ∷ (functions_tokens fs ++ mark close_brace ∷ []))
     (node_said (op_says no_names (record { name = n; kind = j; attrs = ds; operands = os; results = us; regions = rs })) (body_said (functions_printed fs) no_bodies_said) no_nodes_said) in
-    subst (λ j. W j ts) (sym e) (subst (W (kind.Module symbol)) (sym z) (root_written n symbol ds os rs fs attrs values (subst (λ j. counted j os ≡ true) e count) f))
+    subst (λ j. W j ts) (sym e) (subst (W (kind.Module symbol)) (sym z) (root_written n symbol ds os rs fs attrs values (subst (λ j. counted j os ≡ true) e count)
+    (subst (λ us. HasFew (kind.Module symbol) ds os us (first_args rs)) z (subst (λ j. HasFew j ds os ts (first_args rs)) e few)) f))
 
 -- the tokens of a module are written, as what its printed form says
 pub module_written : (m : Module) → ModuleFits m → NestsWell 0 (module_printed m) → operations (module_printed m) ≤ most_operations → IsWritten (module_tokens m) (module_printed m)
 module_written m f nest few =
     let t = m.root in
     record {
-      tokens = inl (module_tree_written t.name t.kind f.symbol t.attrs t.operands t.results t.regions (functions_of m) f.kind_is f.no_results f.root.attrs f.root.values f.root.count f.functions);
+      tokens = inl (module_tree_written t.name t.kind f.symbol t.attrs t.operands t.results t.regions (functions_of m) f.kind_is f.no_results f.root.attrs f.root.values f.root.count f.root.few f.functions);
       nesting = nest;
       number = few;
     }

@@ -25,7 +25,7 @@ use Rattle.xf_read.specs.Syntax.{ends_open, is_yield}
 use Rattle.xf_read.specs.Written.{SaidNodes, no_nodes_said, node_said, SaidBodies, says_yield_last}
 use Rattle.xf_print.specs.Names.{Names}
 use Rattle.xf_print.specs.Printed.{is_empty_yield}
-use Rattle.xf_roundtrip.specs.Printable.{AllBytes}
+use Rattle.xf_roundtrip.specs.Printable.{AllBytes, HasFewArguments}
 use Rattle.xf_roundtrip.specs.SaidPrinted.{has_row, row_of, results_printed, ops_printed}
 use Rattle.xf_roundtrip.proofs.Again.{LastYield, ends_empty}
 use Rattle.xf_roundtrip.proofs.Says.{Keeps}
@@ -39,6 +39,7 @@ pub record Good (sigs : Signatures) (p : Placed) : Type 0 where
   pub attributes : has_its_attributes p ≡ true
   pub row : has_row p.tree.kind ≡ true
   pub bytes : AllBytes p
+  pub arguments : HasFewArguments p
 
 pub keeps_it : (sigs : Signatures) (p : Placed) → Good sigs p → Keeps sigs p.holder.gives p.tree.kind p.tree.attrs p.types p.tree.results p.tree.regions
 keeps_it sigs p g =

@@ -1,8 +1,8 @@
 //! What holds of the printed form of all modules.
 ghost use Rattle.xf_roundtrip.specs.PrintedLaws.{PrintedIsLaid, PrintedIsSpelt};
 
-/// The printed form of a valid module of `builtin`, `func`, `arith` on scalars and `scf` is laid
-/// out of tokens that the grammar of payloads writes.
+/// The printed form of a valid module of `builtin`, `func`, `arith` on scalars and `scf`, within
+/// the limits of texts, is laid out of tokens that the grammar of payloads writes.
 pub fn printed_form_is_laid()
     ensures { PrintedIsLaid }
 {}
