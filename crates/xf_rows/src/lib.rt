@@ -25,6 +25,8 @@ mod printed_modules;
 #[cfg(test)]
 mod printed_texts;
 #[cfg(test)]
+mod text_limits;
+#[cfg(test)]
 mod thirty_modules;
 #[cfg(test)]
 mod verified;
