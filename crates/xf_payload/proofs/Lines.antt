@@ -17,7 +17,7 @@ use Rattle.xf_lex.specs.Bytes.{is_digit, is_letter, is_word_byte, is_name_start,
 use Rattle.xf_lex.specs.Fronts.{quoted_in, string_of, string_at, value_at, named_at, hash_at, shape_at, integer_of, sign_at, token_at}
 use Rattle.xf_lex.specs.Lexes.{HasFault, text_at}
 use Rattle.xf_read_base.specs.declared.verdict.Verdict.{Verdict}
-use Rattle.xf_read_base.specs.declared.verdict.Verdict.TheVariants.{Syntax, OutOfProfile, NotBuilt}
+use Rattle.xf_read_base.specs.declared.verdict.Verdict.TheVariants.{Syntax, OutOfProfile, NotBuilt, TooMany}
 use Rattle.xf_read.specs.declared.fault.Cause.{Cause}
 use Rattle.xf_read.specs.declared.fault.Cause.TheVariants as cause
 use Rattle.xf_read_base.specs.Stops.{judged}
@@ -97,6 +97,7 @@ judged_line : (v : Verdict) (p : Place) → HasLine (judged v p)
 judged_line Syntax p = refl
 judged_line (OutOfProfile n) p = refl
 judged_line NotBuilt p = tt
+judged_line TooMany p = refl
 
 syntax_line : (all : List Token) (at : ℕ) (c : Cause) → HasLine (syntax_fault all at c)
 syntax_line all at (cause.Due d) = judged_line _ _
