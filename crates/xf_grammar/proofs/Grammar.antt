@@ -95,7 +95,7 @@ comma_is all at e = comma_token (slice_get all at) e
 abbrev Found : {T : Type 0} → Writing T → List Token → ℕ → ℕ → T → T → Type 0
 Found W all at next t u = (ps : List Seen) × (AllStand all at ps next × W at ps (seen all next) t u)
 
-not_too_many : {A D : Type 0} (at : ℕ) (full : D) (o : Out A D) (y : A × ℕ) → one_too_many at full o ≡ Ok y → ⊥
+pub not_too_many : {A D : Type 0} (at : ℕ) (full : D) (o : Out A D) (y : A × ℕ) → one_too_many at full o ≡ Ok y → ⊥
 not_too_many at full (Ok x) y e = absurd cc
 not_too_many {A} {D} at full (Err d) y e = elim (either {A = A} {D = D} (d.0 == at) _ _ y e) [ inl w ↦ absurd (let v = w.1 in cc) | inr w ↦ absurd (let v = w.1 in cc) ]
 

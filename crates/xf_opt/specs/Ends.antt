@@ -157,10 +157,12 @@ abbrev pub OnPayload : Option Asked → (List ℕ → Option (List ℕ)) → (As
 OnPayload None holds P = Unit {0}
 OnPayload (Some asked) holds P = IfSome (holds (payload_of asked)) (P asked)
 
--- the words give no script, by which a choice could be made
-abbrev pub GivesNoScript : Option Asked → Type 0
-GivesNoScript None = Unit {0}
-GivesNoScript (Some asked) = script_of asked ≡ None
+-- the words ask for no run of a script, in which a choice could be made
+abbrev pub RunsNoScript : Option Asked → Type 0
+RunsNoScript None = Unit {0}
+RunsNoScript (Some (run script payload)) = ⊥
+RunsNoScript (Some (verify payload)) = Unit {0}
+RunsNoScript (Some (print payload)) = Unit {0}
 
 -- the path of the script, or of the payload, that the words give
 abbrev pub IsScriptPath : Option Asked → List ℕ → Type 0

@@ -25,8 +25,8 @@ pub struct Outcome {
     /// What ended the call; nothing exactly at 0.
     pub fault: Option<Fault>,
     pub told: Told,
-    /// The choices of the run; empty where the words give no script, and where the call ended before
-    /// the run. At 9 of a call with a script nothing is said of it.
+    /// The choices of the run; empty where the words ask for no run, and where the call ended before
+    /// it. At 9 of a run nothing is said of it.
     pub journal: Journal,
 }
 

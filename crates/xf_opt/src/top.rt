@@ -4,7 +4,7 @@ ghost use Rattle.xf_host.specs.Count.{HasRisen};
 ghost use Rattle.xf_payload.specs.Payload.{file_limit};
 ghost use Rattle.xf_opt.specs.Words.{texts, run, verify, print, command_of};
 ghost use Rattle.xf_opt.specs.Ended.{asked_by, refusal_at, EndsPlainly, EndsByScript, EndsByPayload, EndsByReads};
-ghost use Rattle.xf_opt.specs.Ends.{IsStatus, GivesNoScript, OnScript, OnPayload, HasReadFault, JudgesScript, JudgesPayload, Finishes, WritesFront, WritesAtMost, OthersStay, FaultIs, TellsEnd};
+ghost use Rattle.xf_opt.specs.Ends.{IsStatus, RunsNoScript, OnScript, OnPayload, HasReadFault, JudgesScript, JudgesPayload, Finishes, WritesFront, WritesAtMost, OthersStay, FaultIs, TellsEnd};
 
 use crate::journal::Journal;
 use crate::outcome::{Outcome, Refusal, Told, tell};
@@ -118,7 +118,7 @@ fn execute<F: Files, S: Sink>(
     ensures plain { EndsPlainly (refusal_at result) journal.new (out.new ≡ out.old) (S.faults out.old) (S.faults out.new) }
     ensures script { OnScript (Some (asked_by command.entry)) (F.holds files.old) (λ file. EndsByScript (refusal_at result) file (S.written out.old) (S.written out.new)) }
     ensures payload { OnPayload (Some (asked_by command.entry)) (F.holds files.old) (λ asked file. EndsByPayload (refusal_at result) asked file journal.new (S.written out.old) (S.written out.new)) }
-    ensures journal { GivesNoScript (Some (asked_by command.entry)) → journal.new ≡ [] }
+    ensures journal { RunsNoScript (Some (asked_by command.entry)) → journal.new ≡ [] }
 {
     match command {
         Command::Run { script, payload } => run(alloc, script, payload, files, out, journal),
@@ -163,7 +163,7 @@ pub fn transform_main<F: Files, S: Sink, E: Sink>(
         (λ asked file. WritesAtMost asked file (S.written out.old) (S.written out.new)) }
     ensures untouched { result.status ≢ 0 → result.status ≢ 3 → result.status ≢ 9
         → (out.new ≡ out.old) × (result.journal ≡ []) }
-    ensures journal { GivesNoScript (command_of (texts words.now)) → result.journal ≡ [] }
+    ensures journal { RunsNoScript (command_of (texts words.now)) → result.journal ≡ [] }
 
     // What was read.
     ensures holds { (path : List ℕ) → F.holds files.new path ≡ F.holds files.old path }

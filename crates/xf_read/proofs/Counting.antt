@@ -5,6 +5,7 @@ use Rattle.std.proofs.lemmas.Bool.{ltb-true}
 use Rattle.xf_lex.specs.declared.token.Token.{Token}
 use Rattle.xf_grammar.specs.Tokens.{Seen, seen, looks, says, comma, open_brace, close_brace}
 use Rattle.xf_grammar.specs.Reading.{Out, ◌>>=◌}
+use Rattle.xf_grammar.proofs.Grammar.{not_too_many}
 use Rattle.xf_grammar.proofs.Kept.{Keeps, Has, kept}
 use Rattle.xf_read_base.specs.declared.due.Due.{Due}
 use Rattle.xf_read_base.specs.declared.due.Due.TheVariants as due
@@ -156,17 +157,9 @@ tail_kept all r p at = refl
 keeps_it : (p : Parts) (o : Out Parts Cause) (x : Parts × ℕ) → o ≡ Ok x → Has (Ends (may_end_open p)) o → may_end_open x.0 ≡ may_end_open p
 keeps_it p o x e k = subst (Has (Ends (may_end_open p))) e k
 
-many_not : {A : Type 0} (at : ℕ) (r : Out A Cause) (x : A × ℕ) → too_many at r ≡ Ok x → ⊥
-many_not at (Ok y) x e = absurd (cc)
-many_not at (Err y) x e = many_err (y.0 == at) y at x e
-  where
-    many_err : {A : Type 0} (b : Bool) (y : ℕ × Cause) (at : ℕ) (x : A × ℕ) → (if b then Err y else Err (at, cause.TooManyOps)) ≡ Ok x → ⊥
-    many_err true y at x e = absurd (cc)
-    many_err false y at x e = absurd (cc)
-
 limited_few : {A : Type 0} (b : Bool) (at : ℕ) (r : Out A Cause) (x : A × ℕ) → (if b then r else too_many at r) ≡ Ok x → b ≡ true
 limited_few true at r x e = refl
-limited_few false at r x e = absurd (many_not at r x e)
+limited_few false at r x e = absurd (not_too_many at cause.TooManyOps r x e)
 
 begins_few : (all : List Token) (l : Level) (count at : ℕ) (x : Parts × ℕ) → begins_at all l count at ≡ Ok x → count < most_operations
 unfolding begins_at

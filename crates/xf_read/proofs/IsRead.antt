@@ -10,7 +10,7 @@ use Rattle.xf_lex.specs.declared.token.TokenKind.TheVariants as kind
 use Rattle.xf_grammar.specs.Tokens.{Seen, sees, seen, seen_of, telling, same_kind, is_kind, is_word, looks, says, open_brace, close_brace}
 use Rattle.xf_grammar.specs.Reading.{Out, ◌>>=◌}
 use Rattle.xf_grammar.specs.Grammar.{AllStand, first_seen, Writes}
-use Rattle.xf_grammar.proofs.Grammar.{join, first_is, ends_at, found}
+use Rattle.xf_grammar.proofs.Grammar.{join, first_is, ends_at, not_too_many, found}
 use Rattle.xf_grammar.proofs.Steady.{true_or_false}
 use Rattle.xf_read_base.specs.declared.due.Due.{Due}
 use Rattle.xf_read_base.specs.declared.parts.Parts.{Parts}
@@ -25,8 +25,9 @@ use Rattle.xf_read_base.specs.Rules.{dictionary_rule}
 use Rattle.xf_read_base.proofs.HeadLaws.{heads_are_written}
 use Rattle.xf_read_base.proofs.Tells.{dictionary_tells}
 use Rattle.xf_read.specs.declared.fault.Cause.{Cause}
+use Rattle.xf_read.specs.declared.fault.Cause.TheVariants as cause
 use Rattle.xf_read.specs.Tree.{Nodes, no_nodes, Bodies, no_bodies, body, Tree, Block, cons}
-use Rattle.xf_read.specs.Syntax.{From, part, most_open, most_operations, too_many, begins_at, inside, behind, lacks_yield, block, yielded, closed, braced, single, with_else, bodies_at, tail_at, tree, node_at, closes, nodes_at}
+use Rattle.xf_read.specs.Syntax.{From, part, most_open, most_operations, begins_at, inside, behind, lacks_yield, block, yielded, closed, braced, single, with_else, bodies_at, tail_at, tree, node_at, closes, nodes_at}
 use Rattle.xf_read.specs.Written.{nodes_said, bodies_said, left_out, operations, operations_inside, NestsWell, BodiesNestWell, has_body, has_else, has_tail, Braced, TailWritten, NodesWritten, BodiesWritten}
 use Rattle.xf_read.proofs.ReadAgain.{either, left_is, inside_same, no_body, one_body, two_bodies}
 use Rattle.xf_read.proofs.TailLemmas.{SameRow, tail_leaves}
@@ -62,15 +63,11 @@ part_ok : {A : Type 0} (o : Out A Due) (x : A × ℕ) → part o ≡ Ok x → o 
 part_ok (Ok z) x e = ap (λ y. Ok y) (same_answer z x (Ok z) refl e)
 part_ok (Err d) x e = absurd cc
 
-not_too_many : {A : Type 0} (at : ℕ) (o : Out A Cause) (x : A × ℕ) → too_many at o ≡ Ok x → ⊥
-not_too_many at (Ok z) x e = absurd cc
-not_too_many {A} at (Err d) x e = elim (either {A = A} {D = Cause} (d.0 == at) _ _ x e) [ inl w ↦ absurd (let v = w.1 in cc) | inr w ↦ absurd (let v = w.1 in cc) ]
-
 begins_found : (all : List Token) (l : Level) (count at : ℕ) (x : Parts × ℕ) → begins_at all l count at ≡ Ok x → (count < most_operations) × (head_at all l at ≡ Ok x)
 unfolding begins_at
 begins_found all l count at x e = elim (either (nat_lt count most_operations) _ _ x e) [
   | inl w ↦ (ltb-true count most_operations w.0, part_ok (head_at all l at) x w.1)
-  | inr w ↦ absurd (not_too_many at (part (head_at all l at)) x w.1)
+  | inr w ↦ absurd (not_too_many at cause.TooManyOps (part (head_at all l at)) x w.1)
 ]
 
 -- ---- blocks

@@ -160,7 +160,7 @@ abbrev pub more_suit : {A : Type 0} → (A → Seen → Bool) → List A → See
 more_suit ok [] y = not (is_kind comma y)
 more_suit ok (x ∷ xs) y = ok x (follow xs y) && more_suit ok xs y
 
--- one item, and others, fewer than so many
+-- one item, and others, which together are no more than a list may have
 abbrev pub list_suits : {A : Type 0} → Item → (A → Seen → Bool) → A → List A → Seen → Bool
 list_suits i ok x xs y = nat_lt (length xs) (most_items i) && (ok x (follow xs y) && more_suit ok xs y)
 

@@ -1,22 +1,38 @@
 -- The head that is spelt at a token.
-use Rattle.std.specs.Prelude.{◌≡◌, ℕ, ◌<◌, ◌≤◌, List, length, ◌++◌, Option, Some, None, Result, Ok, Err}
+use Rattle.std.specs.Prelude.{◌≡◌, ℕ, ◌<◌, ◌≤◌, List, [], length, ◌++◌, Option, Some, None, Result, Ok, Err}
+use Rattle.xf_type.specs.declared.payload_type.PayloadType.{PayloadType}
 use Rattle.xf_span.specs.declared.fault.Fault.{Fault}
 use Rattle.xf_span.specs.declared.fault.TextFault.{TextFault}
 use Rattle.xf_span.specs.declared.fault.TextFault.TheVariants as text_fault
 use Rattle.xf_lex.specs.declared.token.Token.{Token}
 use Rattle.xf_read_base.specs.declared.due.Due.{Due}
 use Rattle.xf_read_base.specs.declared.due.Due.TheVariants as due
+use Rattle.xf_read_base.specs.declared.parts.Literal.{Literal}
+use Rattle.xf_read_base.specs.declared.parts.Literal.TheVariants as literal
 use Rattle.xf_read_base.specs.declared.parts.Parts.{Parts}
 use Rattle.xf_read_base.specs.declared.row.Level.TheVariants as level
+use Rattle.xf_read_base.specs.declared.row.Row.{Row}
+use Rattle.xf_read_base.specs.declared.row.Row.TheVariants as row
 use Rattle.xf_read_base.specs.declared.parts.Head.{Head}
 use Rattle.xf_read_base.specs.Heads.{head_at}
 use Rattle.xf_read_base.specs.Reading.{Read}
 use Rattle.xf_read_base.specs.Stops.{due_fault}
 use Rattle.xf_read_base.specs.Values.{attrs_of, kind_by}
 
+-- the types that are stated, in order: of a loop those of its results go before its width, and true and false state none
+abbrev pub unless_truth : Option Literal → List PayloadType → List PayloadType
+unless_truth (Some (literal.Truth b)) ts = []
+unless_truth (Some (literal.Integer negative at)) ts = ts
+unless_truth None ts = ts
+
+abbrev pub stated_by : Row → Parts → List PayloadType
+stated_by row.Constant p = unless_truth p.literal p.types
+stated_by row.For p = p.results ++ p.types
+stated_by r p = p.types ++ p.results
+
 -- the head with these parts, up to a token
 abbrev pub head_of : List Token → Parts → ℕ → Head
-head_of all p next = record { kind = kind_by all p.row p; attrs = attrs_of all p.entries; defines = p.defines; args = p.args; uses = p.uses; types = p.types ++ p.results; next = next }
+head_of all p next = record { kind = kind_by all p.row p; attrs = attrs_of all p.entries; defines = p.defines; args = p.args; uses = p.uses; types = stated_by p.row p; next = next }
 
 -- what reading says of a head: none where an operation of another reader stands there, and else the fault at the first token that
 -- fits no head

@@ -17,14 +17,14 @@ fn lexed(rt: &impl Abort, alloc: Global, text: &str) -> TokenList {
 }
 
 #[test]
-fn a_loop_has_its_width_its_names_and_the_types_behind_it(rt: HostRuntime) {
+fn a_loop_has_its_names_and_its_types_in_order(rt: HostRuntime) {
     let alloc = rt.alloc();
     let list = lexed(
         &rt,
         alloc,
         "%a:2 = scf.for %i = %b to %c#7 step %d iter_args(%x = %y, %z = %y) -> (i1, i8) : i64 { }",
     );
-    let head = match head(alloc, list.as_slice(), 0) {
+    let head = match head(alloc, &list, 0) {
         Ok(Some(head)) => head,
         _ => panic!(rt; "no head"),
     };
@@ -39,10 +39,17 @@ fn a_loop_has_its_width_its_names_and_the_types_behind_it(rt: HostRuntime) {
     assert_eq!(rt; head.args.len(), 3);
     assert_eq!(rt; head.uses.len(), 5);
     assert_eq!(rt; head.uses.as_slice()[1], Ref { token: 9, count: 7 });
-    assert_eq!(rt; head.types.len(), 3);
-    match head.types.get(0) {
-        Some(PayloadType::Scalar(width)) => assert_eq!(rt; *width, Width::I64),
-        _ => panic!(rt; "no width"),
+    match head.types.as_slice() {
+        [
+            PayloadType::Scalar(a),
+            PayloadType::Scalar(b),
+            PayloadType::Scalar(width),
+        ] => {
+            assert_eq!(rt; *a, Width::I1);
+            assert_eq!(rt; *b, Width::I8);
+            assert_eq!(rt; *width, Width::I64);
+        }
+        _ => panic!(rt; "other types"),
     }
     match list.as_slice().get(head.next) {
         Some(token) => assert_eq!(rt; token.bytes.as_slice(), b"{".as_slice()),
@@ -54,7 +61,7 @@ fn a_loop_has_its_width_its_names_and_the_types_behind_it(rt: HostRuntime) {
 fn a_constant_has_its_bits_and_its_attributes_by_name(rt: HostRuntime) {
     let alloc = rt.alloc();
     let list = lexed(&rt, alloc, "arith.constant {b, a = 3 : i8} - 5 : i8");
-    let head = match head(alloc, list.as_slice(), 0) {
+    let head = match head(alloc, &list, 0) {
         Ok(Some(head)) => head,
         _ => panic!(rt; "no head"),
     };
@@ -80,7 +87,7 @@ fn an_operation_of_another_reader_is_none(rt: HostRuntime) {
     ];
     for text in texts.iter() {
         let list = lexed(&rt, alloc, text);
-        match head(alloc, list.as_slice(), 0) {
+        match head(alloc, &list, 0) {
             Ok(None) => (),
             _ => panic!(rt; "not none"),
         }
@@ -103,7 +110,7 @@ fn a_text_without_a_head_has_its_fault(rt: HostRuntime) {
     for wanted in texts.iter() {
         let (text, code, number, col) = *wanted;
         let list = lexed(&rt, alloc, text);
-        match head(alloc, list.as_slice(), 0) {
+        match head(alloc, &list, 0) {
             Err(ReadFault::At(fault)) => {
                 assert_eq!(rt; fault.code, code);
                 assert_eq!(rt; fault.number, number);

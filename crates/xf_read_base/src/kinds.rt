@@ -1,9 +1,9 @@
 //! The kinds of operations.
 ghost use Rattle.std.specs.Prelude.{◌≡◌, IfOk};
 ghost use Rattle.std.specs.Option.{option_map};
-ghost use Rattle.xf_read_base.specs.Rules.{has_room};
 ghost use Rattle.xf_read_base.specs.Values.{integer_bits, literal_bits, symbol_of, symbol_or, width_at, predicate_or, kind_by};
 
+use crate::dictionary::has_room;
 use crate::entries::{signed, truth_bits};
 use crate::parts::{Literal, Parts};
 use crate::quoted::behind_first;
@@ -14,23 +14,6 @@ use xf_grammar::number_at;
 use xf_ir::Kind;
 use xf_lex::Token;
 use xf_type::{ByteList, CmpKind, Duplicate, NoMemory, PayloadType, Width, wrap};
-
-/// Whether a width has room for a number.
-fn has_room(width: Width, negative: bool, number: u64) -> bool
-    ensures { result ≡ has_room width negative number }
-{
-    match (width, negative) {
-        (Width::I1, _) => number <= 1,
-        (Width::I8, true) => number <= 0x80,
-        (Width::I8, false) => number <= 0xff,
-        (Width::I16, true) => number <= 0x8000,
-        (Width::I16, false) => number <= 0xffff,
-        (Width::I32, true) => number <= 0x8000_0000,
-        (Width::I32, false) => number <= 0xffff_ffff,
-        (Width::I64 | Width::Index, true) => number <= 0x8000_0000_0000_0000,
-        (Width::I64 | Width::Index, false) => true,
-    }
-}
 
 /// The number of a literal of a width.
 fn integer_bits(width: Width, negative: bool, number: u64) -> u128

@@ -19,7 +19,7 @@ pub fn no_head_goes_on()
     ensures stays { HeadsStay }
 {}
 
-/// No list of a head has 2^32 entries.
+/// No list of the parts of a head has 2^32 entries.
 pub fn heads_are_short()
     ensures { HeadsAreShort }
 {}

@@ -82,8 +82,8 @@ pub struct Parts {
 
 /// What stands before the first brace of a region of an operation: its kind; its discardable
 /// attributes, sorted by their names; the names of its results, of its block arguments and of its
-/// operands, by their tokens; the types that are stated, those behind `->` last; and the number of
-/// the first token behind it.
+/// operands, by their tokens; the types that are stated, in the order of the text, where a loop
+/// without a width states `index`; and the number of the first token behind it.
 #[derive(Drop)]
 pub struct Head {
     pub kind: Kind,

@@ -1,35 +1,55 @@
 //! The head of an operation by what it means.
-ghost use Rattle.std.specs.Prelude.{◌≡◌, IfOk};
-ghost use Rattle.xf_read_base.specs.Spelt.{Answers, EndsWithin, head_of, head_spelt, stopped};
+ghost use Rattle.std.specs.Prelude.{◌≡◌, ◌++◌, IfOk};
+ghost use Rattle.xf_read_base.specs.Spelt.{Answers, EndsWithin, head_of, head_spelt, stated_by, stopped};
 
 use crate::due::{Due, HeadFault};
 use crate::entries::attributes;
 use crate::heads::head_at;
 use crate::kinds::kind_of;
-use crate::parts::{Head, Parts};
-use crate::row::Level;
+use crate::parts::{Head, Literal, Parts};
+use crate::row::{Level, Row};
 use crate::stop::due_fault;
 use std::alloc::Global;
-use xf_lex::Token;
+use xf_lex::{Token, TokenList};
 use xf_span::{Fault, ReadFault};
-use xf_type::NoMemory;
+use xf_type::{Duplicate, NoMemory, TypeList};
+
+/// One list and then another. Refuses for want of memory alone.
+fn joined(alloc: Global, first: &TypeList, last: &TypeList) -> Result<TypeList, NoMemory>
+    ensures { IfOk result (λ types. types ≡ first.now ++ last.now) }
+{
+    let mut types = first.duplicate(alloc)?;
+    types.append(last.duplicate(alloc)?)?;
+    Ok(types)
+}
+
+/// The types that are stated, in the order of the text. Refuses for want of memory alone.
+fn stated_by(alloc: Global, parts: &Parts) -> Result<TypeList, NoMemory>
+    ensures { IfOk result (λ types. types ≡ stated_by parts.now.row parts.now) }
+{
+    match parts.row {
+        Row::Constant => match parts.literal {
+            Some(Literal::Truth(_)) => Ok(TypeList::new(alloc)),
+            Some(Literal::Integer { .. }) | None => parts.types.duplicate(alloc),
+        },
+        Row::For => joined(alloc, &parts.results, &parts.types),
+        _ => joined(alloc, &parts.types, &parts.results),
+    }
+}
 
 /// The head with these parts, up to a token. Refuses for want of memory alone.
 fn head_of(alloc: Global, tokens: &[Token], parts: Parts, next: usize) -> Result<Head, NoMemory>
     ensures { IfOk result (λ head. head ≡ head_of tokens.now parts next) }
 {
     let kind = kind_of(alloc, tokens, &parts)?;
+    let types = stated_by(alloc, &parts)?;
     let (attrs, _twice) = attributes(alloc, tokens, parts.entries.as_slice())?;
     let Parts {
-        entries: _entries,
         defines,
         args,
         uses,
-        mut types,
-        results,
         ..
     } = parts;
-    types.append(results)?;
     Ok(Head {
         kind,
         attrs,
@@ -56,12 +76,14 @@ fn stopped(tokens: &[Token], at: usize, due: Due) -> Result<Option<Head>, Fault>
 /// `arith.constant` with a dense body is too.
 ///
 /// It refuses with the fault at the first token that fits no head: out of profile where that token is
-/// listed as a form of MLIR that is not supported, too long at the item with which a list would have
-/// 2^32 of them, and else of the syntax. It takes time in the number of its tokens.
-pub fn head(alloc: Global, tokens: &[Token], at: usize) -> Result<Option<Head>, ReadFault>
+/// listed as a form of MLIR that is not supported, too many at the item with which a list of the tree
+/// would have 2^32, not built at a tensor type, and else of the syntax. It takes time in the number
+/// of its tokens and their bytes, and the logarithm of the number of its attributes.
+pub fn head(alloc: Global, tokens: &TokenList, at: usize) -> Result<Option<Head>, ReadFault>
     ensures answers { Answers result (head_spelt tokens.now at) }
     ensures within { IfOk result (λ head. EndsWithin tokens.now at head) }
 {
+    let tokens = tokens.as_slice();
     match head_at(alloc, tokens, Level::Any, at) {
         Ok((parts, next)) => Ok(Some(head_of(alloc, tokens, parts, next)?)),
         Err(HeadFault::NoMemory) => Err(ReadFault::NoMemory),

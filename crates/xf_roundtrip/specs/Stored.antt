@@ -5,7 +5,7 @@ use Rattle.xf_ir.specs.Placed.{placed}
 use Rattle.xf_read.specs.Short.{NoListIsLong}
 use Rattle.xf_roundtrip.specs.Printable.{AllBytes}
 
--- no list of the module has 2 ^ 32 entries, and strings are made of bytes
+-- no list of an operation has 2 ^ 32 entries, and strings are made of bytes
 pub record IsStored (m : Module) : Type 0 where
   pub lists : NoListIsLong m
   pub bytes : Each AllBytes (placed m)

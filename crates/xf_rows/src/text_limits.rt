@@ -19,9 +19,9 @@ fn nested(alloc: Global, open: usize) -> Result<String, AllocError> {
     Ok(text)
 }
 
-/// A function of branches beside each other, each with the `scf.yield` that is left out.
+/// A function of a constant and of branches beside each other, each with the `scf.yield` that is left out.
 fn beside(alloc: Global, branches: usize) -> Result<String, AllocError> {
-    let mut text = String::from_str(alloc, "func.func @f(%c: i1) {\n")?;
+    let mut text = String::from_str(alloc, "func.func @f(%c: i1) {%d = arith.constant 1 : i8\n")?;
     for _ in 0..branches {
         text.push_str("scf.if%c{}")?;
     }
@@ -42,14 +42,15 @@ fn the_region_inside_32_others_is_refused(rt: HostRuntime) -> Result<(), Fail> {
     Ok(())
 }
 
+// The last of a million and one is the `scf.yield` that the last branch leaves out.
 #[test]
 fn the_operation_behind_a_million_others_is_refused(rt: HostRuntime) -> Result<(), Fail> {
     let rows = [
-        (499_998, writes("ok\n"), "999,999 operations"),
+        (499_998, writes("ok\n"), "a million operations"),
         (
             499_999,
-            refuses("p:3:3: A7 TooManyOps\n"),
-            "a million and one",
+            refuses("p:2:4999990: A7 TooManyOps\n"),
+            "a million and two",
         ),
     ];
     for (branches, end, message) in rows {
