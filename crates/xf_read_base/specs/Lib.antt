@@ -9,6 +9,7 @@ pub mod Rules
 pub mod Short
 pub mod Spelt
 pub mod Stops
+pub mod Strings
 pub mod Values
 pub mod Verdicts
 pub mod Words

@@ -1,5 +1,5 @@
 -- Pieces: what is written for the slots of a row, by bytes, and what may stand behind.
-use Rattle.std.specs.Prelude.{ℕ, List, [], ◌∷◌, ◌++◌, map, Option, Some, None, Bool, true, false, not, ◌&&◌, nat_lt, length, option_map, codes}
+use Rattle.std.specs.Prelude.{ℕ, List, [], ◌∷◌, ◌++◌, map, Option, Some, None, Bool, true, false, not, ◌&&◌, nat_lt, length, drop, option_map, codes}
 use Rattle.xf_lex.specs.declared.token.TokenKind.{TokenKind}
 use Rattle.xf_lex.specs.declared.token.TokenKind.TheVariants as kind
 use Rattle.xf_type.specs.declared.kind.BinKind.{BinKind}
@@ -22,7 +22,8 @@ use Rattle.xf_read_base.specs.declared.row.Slot.{Slot}
 use Rattle.xf_read_base.specs.declared.row.Slot.TheVariants as slot
 use Rattle.xf_read_base.specs.Words.{spelling}
 use Rattle.xf_read_base.specs.Rows.{slots, fits}
-use Rattle.xf_read_base.specs.Rules.{room_for, most_items, has_operations}
+use Rattle.xf_read_base.specs.Rules.{is_short, room_for, most_items, has_operations}
+use Rattle.xf_read_base.specs.Strings.{decoded}
 use Rattle.xf_read_base.specs.Parts.{count_of, truth, number, no_value, truth_value, number_value, text_value, ValueSaid, Said, says_symbol, says_private, says_predicate, says_literal, says_entry, says_arg, says_use, says_width, says_result, says_row, says_define}
 
 -- ---- tokens
@@ -140,11 +141,11 @@ attribute_written a = word a.name ∷ value_written a.value
 abbrev pub value_suits : ValueSaid → Seen → Bool
 value_suits no_value y = not (is_kind equals y)
 value_suits (truth_value b) y = true
-value_suits (text_value quoted) y = true
+value_suits (text_value quoted) y = is_short (decoded quoted)
 value_suits (number_value negative digits w) y = room_for width.I64 negative (sees kind.Integer digits) && room_for w negative (sees kind.Integer digits)
 
 abbrev pub attribute_suits : Attribute → Seen → Bool
-attribute_suits a y = value_suits a.value y
+attribute_suits a y = is_short a.name && value_suits a.value y
 
 abbrev pub attribute_says : Attribute → Said → Said
 attribute_says a t = says_entry a.name a.value t
@@ -232,10 +233,10 @@ abbrev pub suits : Slot → Piece → Seen → Bool
 suits (slot.Mark b) nothing y = true
 suits (slot.Word k) nothing y = true
 suits slot.ModuleName nothing y = not (is_kind kind.Symbol y)
-suits slot.ModuleName (a_symbol b) y = true
-suits slot.FunctionName (a_symbol b) y = true
-suits slot.FunctionName (a_private_symbol b) y = true
-suits slot.Symbol (a_symbol b) y = true
+suits slot.ModuleName (a_symbol b) y = is_short (drop 1 b)
+suits slot.FunctionName (a_symbol b) y = is_short (drop 1 b)
+suits slot.FunctionName (a_private_symbol b) y = is_short (drop 1 b)
+suits slot.Symbol (a_symbol b) y = is_short (drop 1 b)
 suits slot.Attributes nothing y = not (is_word (codes "attributes") y)
 suits slot.Attributes (attributes es) y = until_suits item.Entry close_brace attribute_suits es
 suits slot.Dictionary nothing y = not (is_kind open_brace y)

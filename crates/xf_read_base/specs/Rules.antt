@@ -1,5 +1,5 @@
 -- The grammar of heads: a rule for each kind of slot.
-use Rattle.std.specs.Prelude.{ℕ, ◌-◌, ◌^◌, List, [], ◌∷◌, Option, Some, None, Bool, true, false, ◌&&◌, if◌then◌else◌, nat_le, is_some, codes}
+use Rattle.std.specs.Prelude.{ℕ, ◌-◌, ◌^◌, List, [], ◌∷◌, length, drop, Option, Some, None, Bool, true, false, ◌&&◌, if◌then◌else◌, nat_le, nat_lt, is_some, codes}
 use Rattle.xf_lex.specs.declared.token.TokenKind.{TokenKind}
 use Rattle.xf_lex.specs.declared.token.TokenKind.TheVariants as kind
 use Rattle.xf_type.specs.declared.kind.CmpKind.{CmpKind}
@@ -25,6 +25,7 @@ use Rattle.xf_read_base.specs.declared.row.Row.TheVariants as row
 use Rattle.xf_read_base.specs.declared.row.Slot.{Slot}
 use Rattle.xf_read_base.specs.declared.row.Slot.TheVariants as slot
 use Rattle.xf_read_base.specs.Parts.{ref, count_of, with_row, with_symbol, as_private, with_predicate, with_literal, with_entry, with_define, with_arg, with_use, with_width, with_result, text_of, truth, number, no_value, truth_value, number_value, text_value, Said, says_row, says_symbol, says_private, says_predicate, says_literal, says_entry, says_define, says_arg, says_use, says_width, says_result}
+use Rattle.xf_read_base.specs.Strings.{decoded}
 use Rattle.xf_read_base.specs.Words.{lookup, widths, predicates, spelling, opening_of}
 use Rattle.xf_read_base.specs.Rows.{slots, fits}
 
@@ -40,17 +41,36 @@ kind_rule d k = token d (is_kind k)
 unfoldable pub word_rule : List ℕ → Rule
 word_rule w = token due.Other (is_word w)
 
+-- names and strings are lists of bytes of the tree, and none has 2 ^ 32
+abbrev pub is_short : List ℕ → Bool
+is_short bytes = nat_lt (length bytes) (2 ^ 32)
+
+-- a symbol, whose name stands behind its @
+abbrev pub is_symbol : Seen → Bool
+is_symbol x = is_kind kind.Symbol x && is_short (drop 1 (text_of x))
+
+-- the name of an attribute
+abbrev pub is_name : Seen → Bool
+is_name x = is_kind kind.Word x && is_short (text_of x)
+
+abbrev pub is_string : Seen → Bool
+is_string x = is_kind kind.Text x && is_short (decoded (text_of x))
+
+-- where one of this kind is due, one that is too long is refused; another token goes on so
+abbrev pub unless_long : TokenKind → Rule → Rule
+unless_long k off = peek (is_kind k) (refuse due.ListEnd) off
+
 unfoldable pub symbol_rule : Rule
-symbol_rule = take (is_kind kind.Symbol) (λ x at. finish (with_symbol at) (says_symbol (text_of x))) (refuse due.Other)
+symbol_rule = take is_symbol (λ x at. finish (with_symbol at) (says_symbol (text_of x))) (unless_long kind.Symbol (refuse due.Other))
 
 unfoldable pub module_name_rule : Rule
-module_name_rule = take (is_kind kind.Symbol) (λ x at. finish (with_symbol at) (says_symbol (text_of x))) skip
+module_name_rule = take is_symbol (λ x at. finish (with_symbol at) (says_symbol (text_of x))) (unless_long kind.Symbol skip)
 
 -- optional private, and a symbol
 unfoldable pub function_name_rule : Rule
 function_name_rule =
     take (is_word (codes "private")) (λ p n. both (finish as_private says_private) symbol_rule)
-    (take (is_kind kind.Symbol) (λ x at. finish (with_symbol at) (says_symbol (text_of x))) (refuse due.FunctionName))
+    (take is_symbol (λ x at. finish (with_symbol at) (says_symbol (text_of x))) (unless_long kind.Symbol (refuse due.FunctionName)))
 
 -- %n
 unfoldable pub argument_rule : Rule
@@ -145,15 +165,16 @@ entry_value_rule name bytes =
     take (is_word (codes "true")) (λ x at. finish (with_entry name (value.Truth true)) (says_entry bytes (truth_value true)))
     (take (is_word (codes "false")) (λ x at. finish (with_entry name (value.Truth false)) (says_entry bytes (truth_value false)))
     (take (is_word (codes "unit")) (λ x at. finish (with_entry name value.Unit) (says_entry bytes no_value))
-    (take (is_kind kind.Text) (λ x at. finish (with_entry name (value.Text at)) (says_entry bytes (text_value (text_of x))))
-    (take (is_kind minus) (λ x at. entry_number_rule name bytes true due.Other) (entry_number_rule name bytes false due.AttributeValue)))))
+    (take is_string (λ x at. finish (with_entry name (value.Text at)) (says_entry bytes (text_value (text_of x))))
+    (unless_long kind.Text
+    (take (is_kind minus) (λ x at. entry_number_rule name bytes true due.Other) (entry_number_rule name bytes false due.AttributeValue))))))
 
 -- a word, and optionally = and a value
 unfoldable pub entry_rule : Rule
 entry_rule =
-    take (is_kind kind.Word) (λ x at.
+    take is_name (λ x at.
     take (is_kind equals) (λ e n. entry_value_rule at (text_of x)) (finish (with_entry at value.Unit) (says_entry (text_of x) no_value)))
-    (refuse due.Other)
+    (unless_long kind.Word (refuse due.Other))
 
 -- ---- lists
 

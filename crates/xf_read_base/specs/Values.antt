@@ -1,6 +1,5 @@
 -- What the parts of a head mean: the kind of the operation, and its attributes.
-use Rattle.std.specs.Prelude.{ℕ, ◌+◌, ◌-◌, ◌*◌, ◌%◌, ◌^◌, ℤ, pos, neg_ℤ, List, [], ◌∷◌, drop, Option, Some, None, Bool, ◌==◌, if◌then◌else◌, slice_get}
-use Rattle.std.specs.Char.{digit_value}
+use Rattle.std.specs.Prelude.{ℕ, ◌-◌, ◌^◌, ℤ, pos, neg_ℤ, List, [], ◌∷◌, drop, Option, Some, None, Bool, if◌then◌else◌, slice_get}
 use Rattle.std.specs.Option.{option_map}
 use Rattle.std.specs.Ordering.{nat_cmp, match_ordering}
 use Rattle.std.specs.Cmp.Lexicographic.{slice_cmp}
@@ -14,7 +13,6 @@ use Rattle.xf_type.specs.declared.payload_type.Width.{Width}
 use Rattle.xf_type.specs.declared.payload_type.Width.TheVariants.{I1, Index}
 use Rattle.xf_type.specs.Integers.{wrapped}
 use Rattle.xf_lex.specs.declared.token.Token.{Token}
-use Rattle.xf_lex.specs.Bytes.{is_hex}
 use Rattle.xf_grammar.specs.Tokens.{number_at}
 use Rattle.xf_read_base.specs.declared.parts.Entry.{Entry}
 use Rattle.xf_read_base.specs.declared.parts.EntryValue.{EntryValue}
@@ -25,13 +23,10 @@ use Rattle.xf_read_base.specs.declared.parts.Parts.{Parts}
 use Rattle.xf_read_base.specs.declared.row.Row.{Row}
 use Rattle.xf_read_base.specs.declared.row.Row.TheVariants as row
 use Rattle.xf_read_base.specs.Rules.{has_room}
+use Rattle.xf_read_base.specs.Strings.{decoded}
 use Rattle.xf_ir.specs.declared.kind.Attr.{Attr}
 use Rattle.xf_ir.specs.declared.kind.Kind.{Kind}
 use Rattle.xf_ir.specs.declared.kind.Kind.TheVariants as kind
-use Rattle.xf_read_base.specs.declared.quoted.Escape.{Escape}
-use Rattle.xf_read_base.specs.declared.quoted.Escape.TheVariants as escape
-use Rattle.xf_read_base.specs.declared.quoted.Step.{Step}
-use Rattle.xf_read_base.specs.declared.quoted.Step.TheVariants as step
 
 -- ---- texts
 
@@ -60,33 +55,6 @@ abbrev pub literal_bits : List Token → Width → Option Literal → ℕ
 literal_bits all w None = 0
 literal_bits all w (Some (literal.Truth b)) = truth_bits b
 literal_bits all w (Some (literal.Integer negative at)) = integer_bits w negative (number_at all at)
-
--- ---- strings
-
--- the byte behind a \ that begins no pair of hexadecimal digits
-abbrev pub escaped_byte : ℕ → ℕ
-escaped_byte b = if b == 110 then 10 else (if b == 116 then 9 else b)
-
--- what a byte of a string is, behind this
-abbrev pub step_of : Escape → ℕ → Step
-step_of escape.Nothing b = if b == 34 then step.End else (if b == 92 then step.Wait escape.Backslash else step.Byte b)
-step_of escape.Backslash b = if is_hex b then step.Wait (escape.Digit b) else step.Byte (escaped_byte b)
-step_of (escape.Digit a) b = step.Byte ((digit_value a * 16 + digit_value b) % 256)
-
--- what a byte gives, and what those behind it give
-abbrev pub given : Step → (Escape → List ℕ) → List ℕ
-given step.End rest = []
-given (step.Wait e) rest = rest e
-given (step.Byte b) rest = b ∷ rest escape.Nothing
-
--- the bytes that a string stands for, up to the quote that ends it
-abbrev pub decoded_from : Escape → List ℕ → List ℕ
-decoded_from e [] = []
-decoded_from e (b ∷ bs) = given (step_of e b) (λ f. decoded_from f bs)
-
--- the bytes that a string with its quotes stands for
-abbrev pub decoded : List ℕ → List ℕ
-decoded quoted = decoded_from escape.Nothing (drop 1 quoted)
 
 -- ---- attributes
 

@@ -33,7 +33,8 @@ pub enum Due {
     AfterResult,
     /// The body of a function, or what may stand before it.
     FunctionBody,
-    /// The end of a list that has as many items as it may have.
+    /// The end of a list that has as many items as it may have, or of a name or a string that has as
+    /// many bytes.
     ListEnd,
     /// Anything else.
     Other,

@@ -2,7 +2,7 @@
 ghost use Rattle.std.specs.Prelude.{◌≡◌, ◌≤◌, drop, IfOk};
 ghost use Rattle.std.specs.Char.{digit_value};
 ghost use Rattle.xf_lex.specs.Bytes.{is_hex};
-ghost use Rattle.xf_read_base.specs.Values.{escaped_byte, step_of, decoded};
+ghost use Rattle.xf_read_base.specs.Strings.{escaped_byte, step_of, decoded};
 
 use std::alloc::Global;
 use xf_type::{ByteList, NoMemory};

@@ -17,7 +17,7 @@ pub enum Verdict {
     OutOfProfile(u32),
     /// A form that is not built yet.
     NotBuilt,
-    /// The item with which a list of the tree would have 2^32.
+    /// The item, name or string with which a list of the tree would have 2^32 entries.
     TooMany,
 }
 

@@ -28,7 +28,8 @@ use Rattle.xf_read.specs.Names.{inside as inside_tokens, behind as behind_tokens
 use Rattle.xf_read_base.specs.Values.{bytes_of, text}
 use Rattle.xf_read.specs.Scopes.{Scope, with_name, has_use, means, value_in, type_in, value_used, type_used}
 use Rattle.xf_read.specs.Types.{results_by, args_by, operands_by, stated_by}
-use Rattle.xf_read_base.specs.Values.{signed, integer_bits, decoded, literal_bits, value_of_entry, attr_of, with_attr, with_entries, attrs_of, symbol_of, symbol_or, width_at, kind_by}
+use Rattle.xf_read_base.specs.Strings.{decoded}
+use Rattle.xf_read_base.specs.Values.{signed, integer_bits, literal_bits, value_of_entry, attr_of, with_attr, with_entries, attrs_of, symbol_of, symbol_or, width_at, kind_by}
 use Rattle.xf_read.proofs.OfKind.{IsOf, SymbolOf, LiteralOf, ValueOf, EntryOf, NameOf, UseOf, Inside}
 use Rattle.xf_roundtrip.specs.Saying.{index_or, use_means, use_value, use_type, shape, attr_value, attr_said, with_said, attrs_said, bits_said, word_said, kind_said, with_arguments, with_defines, function_named, with_function, inside, behind}
 

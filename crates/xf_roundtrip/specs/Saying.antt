@@ -18,7 +18,8 @@ use Rattle.xf_ir.specs.declared.name.ValueName.{ValueName}
 use Rattle.xf_read.specs.Names.{argument_named, results_named}
 use Rattle.xf_read.specs.Scopes.{Scope, with_name, has_use, value_in, type_in}
 use Rattle.xf_read.specs.Types.{results_by, args_by}
-use Rattle.xf_read_base.specs.Values.{signed, truth_bits, integer_bits, decoded, with_attr, width_at, predicate_or}
+use Rattle.xf_read_base.specs.Strings.{decoded}
+use Rattle.xf_read_base.specs.Values.{signed, truth_bits, integer_bits, with_attr, width_at, predicate_or}
 
 -- ---- uses
 

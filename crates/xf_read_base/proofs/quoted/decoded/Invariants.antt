@@ -1,5 +1,5 @@
 use Rattle.std.proofs.Common.{◌≡◌, ◌++◌, drop}
-use Rattle.xf_read_base.specs.Values.{decoded_from, decoded}
+use Rattle.xf_read_base.specs.Strings.{decoded_from, decoded}
 use Rattle.xf_read_base.proofs.quoted.decoded.Given as goal
 
 abbrev pub invariant-loop-b : goal.invariant-loop-b
