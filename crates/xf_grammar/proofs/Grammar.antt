@@ -1,15 +1,15 @@
 -- What a grammar reads is what it writes.
-use Rattle.std.proofs.Common.{◌≡◌, ◌⊎◌, inl, inr, ℕ, zero, suc, ◌+◌, ◌-◌, ◌<◌, ◌≤◌, ◌==◌, Bool, true, false, cond, nat_lt, List, [], ◌∷◌, ◌++◌, length, Option, Some, None, Result, Ok, Err, refl, sym, ap, subst, ◌∙◌, arith, slice_get}
+use Rattle.std.proofs.Common.{◌≡◌, ◌⊎◌, inl, inr, ℕ, zero, suc, ◌+◌, ◌-◌, ◌≤◌, ◌==◌, Bool, true, false, cond, nat_lt, List, [], ◌∷◌, ◌++◌, length, Option, Some, None, Ok, Err, refl, sym, ap, subst, ◌∙◌, arith, slice_get}
 use Rattle.std.proofs.lemmas.Bool.{ltb-true, lt-ltb}
 use Rattle.std.proofs.lemmas.Bool.Decides.{nat_tests}
 use Rattle.xf_lex.specs.declared.token.Token.{Token}
 use Rattle.xf_lex.specs.declared.token.TokenKind.{TokenKind}
 use Rattle.xf_lex.specs.declared.token.TokenKind.TheVariants as kind
-use Rattle.xf_grammar.specs.Tokens.{Seen, sees, seen, seen_of, telling, same_kind, is_kind, comma, looks}
-use Rattle.xf_grammar.specs.Reading.{Out, ◌>>=◌, one_too_many, Reader, more, one_or_more}
+use Rattle.xf_grammar.specs.Tokens.{Seen, sees, seen, seen_of, telling, same_kind, is_kind, comma}
+use Rattle.xf_grammar.specs.Reading.{Out, ◌>>=◌, one_too_many, Reader, more}
 use Rattle.xf_grammar.specs.Place.{Steady}
 use Rattle.xf_grammar.specs.Grammar.{Grammar, finish, refuse, take, peek, both, listed, read, AllStand, first_seen, Writing, more_written, WritesMore, Writes, Tells}
-use Rattle.xf_grammar.proofs.Steady.{true_or_false, done, stops, later, by_seen, ask, chain, list_steady, past}
+use Rattle.xf_grammar.proofs.Steady.{done, stops, later, by_seen, ask, chain, list_steady, past}
 
 -- ---- reading looks no further than it says
 

@@ -1,9 +1,9 @@
 -- How much what is read can grow by a grammar.
-use Rattle.std.proofs.Common.{◌≡◌, ℕ, zero, suc, ◌+◌, ◌-◌, ◌*◌, ◌≤◌, ◌==◌, Bool, true, false, nat_lt, List, length, Ok, Err, arith}
+use Rattle.std.proofs.Common.{◌≡◌, ℕ, zero, suc, ◌+◌, ◌-◌, ◌*◌, ◌≤◌, true, false, nat_lt, List, length, Ok, Err, arith}
 use Rattle.std.proofs.Math.Nat.{mul-suc}
 use Rattle.xf_lex.specs.declared.token.Token.{Token}
 use Rattle.xf_grammar.specs.Tokens.{seen, comma, looks}
-use Rattle.xf_grammar.specs.Reading.{Out, one_too_many, Reader, more}
+use Rattle.xf_grammar.specs.Reading.{Out, Reader, more}
 use Rattle.xf_grammar.specs.Grammar.{Grammar, finish, refuse, take, peek, both, listed, read}
 use Rattle.xf_grammar.proofs.Kept.{Has, has_either, has_behind, too_many_has}
 

@@ -1,11 +1,11 @@
 -- The tokens of a text that is laid out stand where a grammar reads them.
-use Rattle.std.proofs.Common.{◌≡◌, ℕ, zero, suc, ◌+◌, List, [], ◌∷◌, ◌++◌, length, Some, refl, sym, ap, subst, ◌∙◌, arith, slice_get, append_assoc, append-nil, length-append}
+use Rattle.std.proofs.Common.{◌≡◌, suc, ◌+◌, List, [], ◌∷◌, ◌++◌, length, Some, refl, ap, subst, arith, slice_get, append_assoc, length-append}
 use Rattle.std.specs.Prelude.{map}
 use Rattle.xf_lex.specs.declared.token.Token.{Token}
 use Rattle.xf_lex.specs.Laid.{Plain, plain}
-use Rattle.xf_grammar.specs.Tokens.{Seen, seen, seen_of}
+use Rattle.xf_grammar.specs.Tokens.{seen_of}
 use Rattle.xf_grammar.specs.Grammar.{AllStand}
-use Rattle.xf_grammar.specs.Laid.{seen_plain, seen_plains}
+use Rattle.xf_grammar.specs.Laid.{seen_plains}
 
 get_behind : (front ts : List Token) (t : Token) → slice_get (front ++ t ∷ ts) (length front) ≡ Some t
 get_behind [] ts t = refl

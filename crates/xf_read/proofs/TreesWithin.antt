@@ -1,5 +1,5 @@
 -- The tokens in a tree that is read are of their kinds.
-use Rattle.std.proofs.Common.{◌≡◌, ℕ, zero, suc, ◌+◌, ◌<◌, ◌==◌, Bool, true, false, nat_lt, List, length, Result, Ok, Err, not, refl, ap, subst, arith}
+use Rattle.std.proofs.Common.{◌≡◌, ℕ, zero, suc, ◌+◌, ◌<◌, Bool, true, false, nat_lt, List, length, Result, Ok, Err, not, refl, ap, subst, arith}
 use Rattle.std.specs.Prelude.{codes}
 use Rattle.xf_lex.specs.declared.token.Token.{Token}
 use Rattle.xf_grammar.specs.Tokens.{seen, is_kind, is_word, looks, says, open_brace, close_brace}
@@ -15,7 +15,6 @@ use Rattle.xf_read_base.specs.Parts.{no_parts}
 use Rattle.xf_read_base.specs.Rules.{dictionary_rule, head_rule}
 use Rattle.xf_read_base.specs.Heads.{head_at}
 use Rattle.xf_read_base.specs.Reading.{dictionary_at}
-use Rattle.xf_read.specs.declared.fault.Cause.{Cause}
 use Rattle.xf_read.specs.declared.fault.Cause.TheVariants as cause
 use Rattle.xf_read.specs.declared.fault.SyntaxFault.{SyntaxFault}
 use Rattle.xf_read.specs.declared.tree.File.{File}

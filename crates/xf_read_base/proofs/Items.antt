@@ -2,7 +2,6 @@
 use Rattle.std.proofs.Common.{◌≡◌, inl, inr, ℕ, ◌+◌, ◌-◌, ◌≤◌, Bool, true, false, not, nat_lt, length, List, [], ◌∷◌, ◌++◌, Option, Some, None, refl, sym, ap, subst, ◌∙◌, arith, append_assoc}
 use Rattle.std.specs.Prelude.{map, ◌&&◌, codes}
 use Rattle.std.proofs.lemmas.Bool.{ltb-true}
-use Rattle.std.proofs.lemmas.Bool.Decides.{nat_tests}
 use Rattle.std.proofs.lemmas.List.{length-map}
 use Rattle.xf_lex.specs.declared.token.TokenKind.{TokenKind}
 use Rattle.xf_lex.specs.declared.token.TokenKind.TheVariants as kind
@@ -10,20 +9,15 @@ use Rattle.xf_type.specs.declared.kind.CmpKind.{CmpKind}
 use Rattle.xf_type.specs.declared.kind.CmpKind.TheVariants as cmp
 use Rattle.xf_type.specs.declared.payload_type.Width.{Width}
 use Rattle.xf_type.specs.declared.payload_type.Width.TheVariants as width
-use Rattle.xf_grammar.specs.Tokens.{Seen, sees, is_kind, is_word, open_paren, close_paren, minus, colon, equals, open_brace, close_brace}
+use Rattle.xf_grammar.specs.Tokens.{Seen, sees, is_kind, is_word, close_paren, minus, colon, equals, close_brace}
 use Rattle.xf_grammar.specs.Grammar.{first_seen, more_written, WritesMore, Writes}
 use Rattle.xf_read_base.specs.declared.due.Due.{Due}
 use Rattle.xf_read_base.specs.declared.due.Due.TheVariants as due
 use Rattle.xf_read_base.specs.declared.list.Item.{Item}
 use Rattle.xf_read_base.specs.declared.list.Item.TheVariants as item
-use Rattle.xf_read_base.specs.declared.row.Keyword.{Keyword}
-use Rattle.xf_read_base.specs.declared.row.Keyword.TheVariants as key
-use Rattle.xf_read_base.specs.declared.row.Slot.{Slot}
-use Rattle.xf_read_base.specs.declared.row.Slot.TheVariants as slot
-use Rattle.xf_read_base.specs.Words.{spelling}
-use Rattle.xf_read_base.specs.Parts.{Said, text_of, truth, number, no_value, truth_value, number_value, text_value, ValueSaid, says_arg, says_width, says_result, says_entry, says_predicate, says_literal, says_symbol, says_private}
-use Rattle.xf_read_base.specs.Rules.{is_short, is_string, room_for, is_width, width_meant, is_predicate, predicate_meant, kind_rule, word_rule, symbol_rule, module_name_rule, function_name_rule, argument_rule, use_rule, width_rule, result_rule, predicate_rule, number_rule, truth_rule, literal_rule, entry_width_rule, entry_number_rule, entry_value_rule, entry_rule, param_rule, pair_rule, item_rule, most_items, list_rule, until_rule, dictionary_rule, attributes_rule, result_types_rule, call_results_rule, function_results_rule, listed_results_rule, if_results_rule, operands_rule, iter_args_rule, loop_width_rule, slot_rule, slots_rule}
-use Rattle.xf_read_base.specs.Pieces.{mark, word, value_name, width_word, predicate_word, truth_word, Use, Param, Pair, Attribute, hash, use_written, hash_suits, use_suits, use_says, type_written, always, param_written, param_says, pair_written, pair_suits, pair_says, value_written, attribute_written, value_suits, attribute_suits, attribute_says, follow, more_suit, list_suits, says_all, list_written, until_written, until_suits, Piece, nothing, a_symbol, a_private_symbol, a_name, an_operand, a_width, a_predicate, a_truth, a_number, attributes, operands, types, params, typed_operands, pairs, piece_written, suits, piece_says, row_written, row_suits, row_says}
+use Rattle.xf_read_base.specs.Parts.{Said, text_of, no_value, truth_value, number_value, text_value, ValueSaid, says_arg, says_width, says_result, says_entry, says_predicate}
+use Rattle.xf_read_base.specs.Rules.{is_short, is_string, room_for, is_width, width_meant, is_predicate, predicate_meant, kind_rule, word_rule, argument_rule, use_rule, width_rule, result_rule, predicate_rule, entry_width_rule, entry_number_rule, entry_value_rule, entry_rule, param_rule, pair_rule, item_rule, most_items, list_rule, until_rule}
+use Rattle.xf_read_base.specs.Pieces.{mark, word, value_name, width_word, predicate_word, truth_word, Use, Param, Pair, Attribute, hash, use_written, hash_suits, use_suits, use_says, type_written, always, param_written, param_says, pair_written, pair_suits, pair_says, value_written, attribute_written, value_suits, attribute_suits, attribute_says, follow, more_suit, list_suits, says_all, list_written, until_written, until_suits}
 
 pub not_true : (b : Bool) → not b ≡ true → b ≡ false
 not_true true e = absurd cc

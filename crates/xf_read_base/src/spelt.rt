@@ -76,8 +76,8 @@ fn stopped(tokens: &[Token], at: usize, due: Due) -> Result<Option<Head>, Fault>
 /// `arith.constant` with a dense body is too.
 ///
 /// It refuses with the fault at the first token that fits no head: out of profile where that token is
-/// listed as a form of MLIR that is not supported, too many at the item with which a list of the tree
-/// would have 2^32, not built at a tensor type, and else of the syntax. It takes time in the number
+/// listed as a form of MLIR that is not supported, too many at the item, name or string with which
+/// a list of the tree would have 2^32 entries, not built at a tensor type, and else of the syntax. It takes time in the number
 /// of its tokens and their bytes, and the logarithm of the number of its attributes.
 pub fn head(alloc: Global, tokens: &TokenList, at: usize) -> Result<Option<Head>, ReadFault>
     ensures answers { Answers result (head_spelt tokens.now at) }

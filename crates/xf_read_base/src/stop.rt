@@ -63,7 +63,7 @@ fn judged(verdict: Verdict, place: Place) -> Fault
 
 /// The fault at the first token that fits nothing, by what was due there: out of profile where the
 /// token is listed as a form of MLIR that is not supported, not built where another reader's form
-/// stands, too many where it is one item too many, and else of the syntax.
+/// stands, too many where it is one item too many or too long, and else of the syntax.
 pub fn due_fault(tokens: &[Token], at: usize, due: Due) -> Fault
     ensures { result ≡ due_fault tokens.now at due }
 {
