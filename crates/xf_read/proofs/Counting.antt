@@ -46,11 +46,11 @@ number_keeps b name bytes negative d all at = (λ e. (λ f. (λ c. width_keeps b
 value_keeps : (b : Bool) (name : ℕ) (bytes : List ℕ) → Keep b (entry_value_rule name bytes)
 unfolding entry_value_rule
 value_keeps b name bytes all at =
-    (λ e h q. q, λ e. (λ f h q. q, λ f. (λ g h q. q, λ g. (λ i h q. q, λ i. (λ j. number_keeps b name bytes true due.Other all (at + 1), λ j. number_keeps b name bytes false due.AttributeValue all at)))))
+    (λ e h q. q, λ e. (λ f h q. q, λ f. (λ g h q. q, λ g. (λ i h q. q, λ i. (λ j. tt, λ j. (λ k. number_keeps b name bytes true due.Other all (at + 1), λ k. number_keeps b name bytes false due.AttributeValue all at))))))
 
 entry_keeps : (b : Bool) → Keep b entry_rule
 unfolding entry_rule
-entry_keeps b all at = (λ e. (λ f. value_keeps b at _ all _, λ f h q. q), λ e. tt)
+entry_keeps b all at = (λ e. (λ f. value_keeps b at _ all _, λ f h q. q), λ e. (λ f. tt, λ f. tt))
 
 until_keeps : (b : Bool) → Keep b (until_rule close_brace due.Other item.Entry)
 unfolding until_rule kind_rule

@@ -1,5 +1,6 @@
 -- The tokens in a head are of their kinds.
 use Rattle.std.proofs.Common.{◌≡◌, ℕ, ◌+◌, Bool, true, false, ◌&&◌, List, [], ◌∷◌, Some, refl, sym, ◌∙◌}
+use Rattle.std.proofs.lemmas.Bool.{and_parts}
 use Rattle.std.proofs.lemmas.List.Elements.{All-nil, All-push}
 use Rattle.xf_lex.specs.declared.token.Token.{Token}
 use Rattle.xf_lex.specs.declared.token.TokenKind.{TokenKind}
@@ -63,15 +64,15 @@ word_stays b all at = (λ e h w. w, λ e. tt)
 
 symbol_stays : Stays symbol_rule
 unfolding symbol_rule
-symbol_stays all at = (λ e h w. symbol_added all at h e w, λ e. tt)
+symbol_stays all at = (λ e h w. symbol_added all at h (and_parts _ _ e).0 w, λ e. (λ o. tt, λ o. tt))
 
 module_name_stays : Stays module_name_rule
 unfolding module_name_rule
-module_name_stays all at = (λ e h w. symbol_added all at h e w, λ e h w. w)
+module_name_stays all at = (λ e h w. symbol_added all at h (and_parts _ _ e).0 w, λ e. (λ o. tt, λ o h w. w))
 
 function_name_stays : Stays function_name_rule
 unfolding function_name_rule
-function_name_stays all at = (λ e. (λ h w. w, λ n. symbol_stays all n), λ e. (λ o h w. symbol_added all at h o w, λ o. tt))
+function_name_stays all at = (λ e. (λ h w. w, λ n. symbol_stays all n), λ e. (λ o h w. symbol_added all at h (and_parts _ _ o).0 w, λ o. (λ q. tt, λ q. tt)))
 
 argument_stays : Stays argument_rule
 unfolding argument_rule
@@ -138,8 +139,8 @@ entry_value_stays all name bytes at lt = (
     λ e. (
       λ e h w. entry_added all name value.Unit h lt tt w,
       λ e. (
-        λ e h w. entry_added all name (value.Text at) h lt e w,
-        λ e. (λ e. entry_number_stays all name bytes true due.Other (at + 1) lt, λ e. entry_number_stays all name bytes false due.AttributeValue at lt),
+        λ e h w. entry_added all name (value.Text at) h lt (and_parts _ _ e).0 w,
+        λ e. (λ e. tt, λ e. (λ e. entry_number_stays all name bytes true due.Other (at + 1) lt, λ e. entry_number_stays all name bytes false due.AttributeValue at lt)),
       ),
     ),
   ),
@@ -148,7 +149,7 @@ entry_value_stays all name bytes at lt = (
 entry_stays : Stays entry_rule
 unfolding entry_rule
 entry_stays all at =
-    (λ e. (λ o. entry_value_stays all at _ (at + 1 + 1) e, λ o h w. entry_added all at value.Unit h e tt w), λ e. tt)
+    (λ e. let k = (and_parts _ _ e).0 in (λ o. entry_value_stays all at _ (at + 1 + 1) k, λ o h w. entry_added all at value.Unit h k tt w), λ e. (λ o. tt, λ o. tt))
 
 param_stays : Stays param_rule
 unfolding param_rule

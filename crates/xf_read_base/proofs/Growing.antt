@@ -59,17 +59,17 @@ word_adds w i n le all at = (λ e h. skip_adds i n h, λ e. tt)
 
 symbol_adds : Adds none symbol_rule
 unfolding symbol_rule
-symbol_adds i n le all at = (λ e h. within _ _ 0 n (symbol_added i at h) le, λ e. tt)
+symbol_adds i n le all at = (λ e h. within _ _ 0 n (symbol_added i at h) le, λ e. (λ f. tt, λ f. tt))
 
 module_name_adds : Adds none module_name_rule
 unfolding module_name_rule
-module_name_adds i n le all at = (λ e h. within _ _ 0 n (symbol_added i at h) le, λ e h. skip_adds i n h)
+module_name_adds i n le all at = (λ e h. within _ _ 0 n (symbol_added i at h) le, λ e. (λ f. tt, λ f h. skip_adds i n h))
 
 function_name_adds : Adds none function_name_rule
 unfolding function_name_rule
 function_name_adds i n le all at = (
   λ e. (0, (0, (le, (λ h. private_added i h, λ j. symbol_adds i 0 (same 0) all j)))),
-  λ e. (λ f h. within _ _ 0 n (symbol_added i at h) le, λ f. tt),
+  λ e. (λ f h. within _ _ 0 n (symbol_added i at h) le, λ f. (λ g. tt, λ g. tt)),
 )
 
 argument_adds : Adds (one in_args) argument_rule
@@ -150,7 +150,7 @@ entry_value_adds name bytes i n le all at = (
       λ g h. entry_within name _ i n le h,
       λ g. (
         λ j h. entry_within name _ i n le h,
-        λ j. (λ k. entry_number_adds name bytes true due.Other i n le all (at + 1), λ k. entry_number_adds name bytes false due.AttributeValue i n le all at),
+        λ j. (λ k. tt, λ k. (λ q. entry_number_adds name bytes true due.Other i n le all (at + 1), λ q. entry_number_adds name bytes false due.AttributeValue i n le all at)),
       ),
     ),
   ),
@@ -158,7 +158,7 @@ entry_value_adds name bytes i n le all at = (
 
 entry_adds : Adds (one in_entries) entry_rule
 unfolding entry_rule
-entry_adds i n le all at = (λ e. (λ f. entry_value_adds at _ i n le all (at + 1 + 1), λ f h. entry_within at _ i n le h), λ e. tt)
+entry_adds i n le all at = (λ e. (λ f. entry_value_adds at _ i n le all (at + 1 + 1), λ f h. entry_within at _ i n le h), λ e. (λ f. tt, λ f. tt))
 
 -- ---- lists
 

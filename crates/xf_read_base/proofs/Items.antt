@@ -22,7 +22,7 @@ use Rattle.xf_read_base.specs.declared.row.Slot.{Slot}
 use Rattle.xf_read_base.specs.declared.row.Slot.TheVariants as slot
 use Rattle.xf_read_base.specs.Words.{spelling}
 use Rattle.xf_read_base.specs.Parts.{Said, text_of, truth, number, no_value, truth_value, number_value, text_value, ValueSaid, says_arg, says_width, says_result, says_entry, says_predicate, says_literal, says_symbol, says_private}
-use Rattle.xf_read_base.specs.Rules.{room_for, is_width, width_meant, is_predicate, predicate_meant, kind_rule, word_rule, symbol_rule, module_name_rule, function_name_rule, argument_rule, use_rule, width_rule, result_rule, predicate_rule, number_rule, truth_rule, literal_rule, entry_width_rule, entry_number_rule, entry_value_rule, entry_rule, param_rule, pair_rule, item_rule, most_items, list_rule, until_rule, dictionary_rule, attributes_rule, result_types_rule, call_results_rule, function_results_rule, listed_results_rule, if_results_rule, operands_rule, iter_args_rule, loop_width_rule, slot_rule, slots_rule}
+use Rattle.xf_read_base.specs.Rules.{is_short, is_string, room_for, is_width, width_meant, is_predicate, predicate_meant, kind_rule, word_rule, symbol_rule, module_name_rule, function_name_rule, argument_rule, use_rule, width_rule, result_rule, predicate_rule, number_rule, truth_rule, literal_rule, entry_width_rule, entry_number_rule, entry_value_rule, entry_rule, param_rule, pair_rule, item_rule, most_items, list_rule, until_rule, dictionary_rule, attributes_rule, result_types_rule, call_results_rule, function_results_rule, listed_results_rule, if_results_rule, operands_rule, iter_args_rule, loop_width_rule, slot_rule, slots_rule}
 use Rattle.xf_read_base.specs.Pieces.{mark, word, value_name, width_word, predicate_word, truth_word, Use, Param, Pair, Attribute, hash, use_written, hash_suits, use_suits, use_says, type_written, always, param_written, param_says, pair_written, pair_suits, pair_says, value_written, attribute_written, value_suits, attribute_suits, attribute_says, follow, more_suit, list_suits, says_all, list_written, until_written, until_suits, Piece, nothing, a_symbol, a_private_symbol, a_name, an_operand, a_width, a_predicate, a_truth, a_number, attributes, operands, types, params, typed_operands, pairs, piece_written, suits, piece_says, row_written, row_suits, row_says}
 
 pub not_true : (b : Bool) → not b ≡ true → b ≡ false
@@ -177,7 +177,7 @@ entry_value_writes name bytes (truth_value false) at y t ps e s =
 entry_value_writes name bytes (text_value quoted) at y t ps e s =
     let q : ps ≡ sees kind.Text quoted ∷ [] = tail_is e in
     let f = λ (b : List ℕ). ap (λ r. is_word b (first_seen r y)) q in
-    inr (f (codes "true"), inr (f (codes "false"), inr (f (codes "unit"), inl (sees kind.Text quoted, ([], (q, (refl, (refl, refl))))))))
+    inr (f (codes "true"), inr (f (codes "false"), inr (f (codes "unit"), inl (sees kind.Text quoted, ([], (q, (s, (refl, refl))))))))
 entry_value_writes name bytes (number_value true digits w) at y t ps e s =
     let q : ps ≡ mark minus ∷ sees kind.Integer digits ∷ mark colon ∷ word (width_word w) ∷ [] = tail_is e in
     let f = λ (b : List ℕ). ap (λ r. is_word b (first_seen r y)) q in
@@ -189,8 +189,8 @@ entry_value_writes name bytes (number_value true digits w) at y t ps e s =
         inr (
           f (codes "unit"),
           inr (
-            ap (λ r. is_kind kind.Text (first_seen r y)) q,
-            inl (mark minus, (sees kind.Integer digits ∷ mark colon ∷ word (width_word w) ∷ [], (q, (refl, entry_number_writes name bytes true due.Other digits w _ y t b.0 b.1)))),
+            ap (λ r. is_string (first_seen r y)) q,
+            inr (ap (λ r. is_kind kind.Text (first_seen r y)) q, inl (mark minus, (sees kind.Integer digits ∷ mark colon ∷ word (width_word w) ∷ [], (q, (refl, entry_number_writes name bytes true due.Other digits w _ y t b.0 b.1))))),
           ),
         ),
       ),
@@ -206,30 +206,30 @@ entry_value_writes name bytes (number_value false digits w) at y t ps e s =
         inr (
           f (codes "unit"),
           inr (
-            ap (λ r. is_kind kind.Text (first_seen r y)) q,
-            inr (ap (λ r. is_kind minus (first_seen r y)) q, subst (λ r. Writes (entry_number_rule name bytes false due.AttributeValue) at r y t (says_entry bytes (number_value false digits w) t)) (sym q) (entry_number_writes name bytes false due.AttributeValue digits w at y t b.0 b.1)),
+            ap (λ r. is_string (first_seen r y)) q,
+            inr (ap (λ r. is_kind kind.Text (first_seen r y)) q, inr (ap (λ r. is_kind minus (first_seen r y)) q, subst (λ r. Writes (entry_number_rule name bytes false due.AttributeValue) at r y t (says_entry bytes (number_value false digits w) t)) (sym q) (entry_number_writes name bytes false due.AttributeValue digits w at y t b.0 b.1))),
           ),
         ),
       ),
     )
 
-pub entry_writes_value : (b : List ℕ) (v : ValueSaid) (at : ℕ) (y : Seen) (t : Said) (ps : List Seen) → value_written v ≡ mark equals ∷ ps → value_suits v y ≡ true
+pub entry_writes_value : (b : List ℕ) (v : ValueSaid) (at : ℕ) (y : Seen) (t : Said) (ps : List Seen) → value_written v ≡ mark equals ∷ ps → is_short b ≡ true → value_suits v y ≡ true
     → Writes entry_rule at (word b ∷ mark equals ∷ ps) y t (says_entry b v t)
 unfolding entry_rule
-entry_writes_value b v at y t ps e s = inl (word b, (mark equals ∷ ps, (refl, (refl, inl (mark equals, (ps, (refl, (refl, entry_value_writes at b v _ y t ps e s))))))))
+entry_writes_value b v at y t ps e short s = inl (word b, (mark equals ∷ ps, (refl, (short, inl (mark equals, (ps, (refl, (refl, entry_value_writes at b v _ y t ps e s))))))))
 
-pub entry_writes_none : (b : List ℕ) (at : ℕ) (y : Seen) (t : Said) → not (is_kind equals y) ≡ true → Writes entry_rule at (word b ∷ []) y t (says_entry b no_value t)
+pub entry_writes_none : (b : List ℕ) (at : ℕ) (y : Seen) (t : Said) → is_short b ≡ true → not (is_kind equals y) ≡ true → Writes entry_rule at (word b ∷ []) y t (says_entry b no_value t)
 unfolding entry_rule
-entry_writes_none b at y t s = inl (word b, ([], (refl, (refl, inr (not_true _ s, (refl, refl))))))
+entry_writes_none b at y t short s = inl (word b, ([], (refl, (short, inr (not_true _ s, (refl, refl))))))
 
-pub value_entry_writes : (b : List ℕ) (v : ValueSaid) (at : ℕ) (y : Seen) (t : Said) → value_suits v y ≡ true → Writes entry_rule at (word b ∷ value_written v) y t (says_entry b v t)
-value_entry_writes b no_value at y t s = entry_writes_none b at y t s
-value_entry_writes b (truth_value c) at y t s = entry_writes_value b (truth_value c) at y t _ refl s
-value_entry_writes b (text_value q) at y t s = entry_writes_value b (text_value q) at y t _ refl s
-value_entry_writes b (number_value n ds w) at y t s = entry_writes_value b (number_value n ds w) at y t _ refl s
+pub value_entry_writes : (b : List ℕ) (v : ValueSaid) (at : ℕ) (y : Seen) (t : Said) → is_short b ≡ true → value_suits v y ≡ true → Writes entry_rule at (word b ∷ value_written v) y t (says_entry b v t)
+value_entry_writes b no_value at y t short s = entry_writes_none b at y t short s
+value_entry_writes b (truth_value c) at y t short s = entry_writes_value b (truth_value c) at y t _ refl short s
+value_entry_writes b (text_value q) at y t short s = entry_writes_value b (text_value q) at y t _ refl short s
+value_entry_writes b (number_value n ds w) at y t short s = entry_writes_value b (number_value n ds w) at y t _ refl short s
 
 pub entry_writes : (a : Attribute) (at : ℕ) (y : Seen) (t : Said) → attribute_suits a y ≡ true → Writes entry_rule at (attribute_written a) y t (attribute_says a t)
-entry_writes a at y t s = value_entry_writes a.name a.value at y t s
+entry_writes a at y t s = let e = and_both _ _ s in value_entry_writes a.name a.value at y t e.0 e.1
 
 -- ---- lists
 

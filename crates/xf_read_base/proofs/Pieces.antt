@@ -1,6 +1,6 @@
 -- Pieces are written by the rules of their slots.
 use Rattle.std.proofs.Common.{◌≡◌, inl, inr, ℕ, ◌+◌, ◌-◌, ◌≤◌, Bool, true, false, not, nat_lt, length, List, [], ◌∷◌, ◌++◌, Option, Some, None, refl, sym, ap, subst, ◌∙◌, arith, append_assoc}
-use Rattle.std.specs.Prelude.{map, ◌&&◌, codes}
+use Rattle.std.specs.Prelude.{map, drop, ◌&&◌, codes}
 use Rattle.std.proofs.lemmas.Bool.{ltb-true}
 use Rattle.std.proofs.lemmas.Bool.Decides.{nat_tests}
 use Rattle.std.proofs.lemmas.List.{length-map}
@@ -22,7 +22,7 @@ use Rattle.xf_read_base.specs.declared.row.Slot.{Slot}
 use Rattle.xf_read_base.specs.declared.row.Slot.TheVariants as slot
 use Rattle.xf_read_base.specs.Words.{spelling}
 use Rattle.xf_read_base.specs.Parts.{Said, text_of, truth, number, no_value, truth_value, number_value, text_value, ValueSaid, says_arg, says_width, says_result, says_entry, says_predicate, says_literal, says_symbol, says_private}
-use Rattle.xf_read_base.specs.Rules.{room_for, is_width, width_meant, is_predicate, predicate_meant, kind_rule, word_rule, symbol_rule, module_name_rule, function_name_rule, argument_rule, use_rule, width_rule, result_rule, predicate_rule, number_rule, truth_rule, literal_rule, entry_width_rule, entry_number_rule, entry_value_rule, entry_rule, param_rule, pair_rule, item_rule, most_items, list_rule, until_rule, dictionary_rule, attributes_rule, result_types_rule, call_results_rule, function_results_rule, listed_results_rule, if_results_rule, operands_rule, iter_args_rule, loop_width_rule, slot_rule, slots_rule}
+use Rattle.xf_read_base.specs.Rules.{is_short, room_for, is_width, width_meant, is_predicate, predicate_meant, kind_rule, word_rule, symbol_rule, module_name_rule, function_name_rule, argument_rule, use_rule, width_rule, result_rule, predicate_rule, number_rule, truth_rule, literal_rule, entry_width_rule, entry_number_rule, entry_value_rule, entry_rule, param_rule, pair_rule, item_rule, most_items, list_rule, until_rule, dictionary_rule, attributes_rule, result_types_rule, call_results_rule, function_results_rule, listed_results_rule, if_results_rule, operands_rule, iter_args_rule, loop_width_rule, slot_rule, slots_rule}
 use Rattle.xf_read_base.specs.Pieces.{mark, word, value_name, width_word, predicate_word, truth_word, Use, Param, Pair, Attribute, hash, use_written, hash_suits, use_suits, use_says, type_written, always, param_written, param_says, pair_written, pair_suits, pair_says, value_written, attribute_written, value_suits, attribute_suits, attribute_says, follow, more_suit, list_suits, says_all, list_written, until_written, until_suits, Piece, nothing, a_symbol, a_private_symbol, a_name, an_operand, a_width, a_predicate, a_truth, a_number, attributes, operands, types, params, typed_operands, pairs, piece_written, suits, piece_says, row_written, row_suits, row_says}
 use Rattle.xf_read_base.proofs.Items.{not_true, and_both, kind_writes, word_writes, width_writes, result_writes, predicate_writes, argument_writes, use_writes, list_writes, paren_writes, brace_writes, uses, stated, resulting, parameters, paired, entries}
 
@@ -35,21 +35,25 @@ spelling_is : (k : Keyword) → is_word (spelling k) (word (spelling k)) ≡ tru
 spelling_is key.To = refl
 spelling_is key.Step = refl
 
-symbol_writes : (b : List ℕ) (at : ℕ) (y : Seen) (t : Said) → Writes symbol_rule at (sees kind.Symbol b ∷ []) y t (says_symbol b t)
+no_kind : (a b : Bool) → a ≡ false → (a && b) ≡ false
+no_kind true b e = absurd cc
+no_kind false b e = refl
+
+symbol_writes : (b : List ℕ) (at : ℕ) (y : Seen) (t : Said) → is_short (drop 1 b) ≡ true → Writes symbol_rule at (sees kind.Symbol b ∷ []) y t (says_symbol b t)
 unfolding symbol_rule
-symbol_writes b at y t = inl (sees kind.Symbol b, ([], (refl, (refl, (refl, refl)))))
+symbol_writes b at y t e = inl (sees kind.Symbol b, ([], (refl, (e, (refl, refl)))))
 
 module_name_writes : (p : Piece) (at : ℕ) (y : Seen) (t : Said) → suits slot.ModuleName p y ≡ true → Writes module_name_rule at (piece_written slot.ModuleName p) y t (piece_says slot.ModuleName p t)
 unfolding module_name_rule
-module_name_writes nothing at y t e = inr (not_true _ e, (refl, refl))
-module_name_writes (a_symbol b) at y t e = inl (sees kind.Symbol b, ([], (refl, (refl, (refl, refl)))))
+module_name_writes nothing at y t e = let n = not_true _ e in inr (no_kind _ _ n, inr (n, (refl, refl)))
+module_name_writes (a_symbol b) at y t e = inl (sees kind.Symbol b, ([], (refl, (e, (refl, refl)))))
 module_name_writes p at y t e = absurd cc
 
 function_name_writes : (p : Piece) (at : ℕ) (y : Seen) (t : Said) → suits slot.FunctionName p y ≡ true → Writes function_name_rule at (piece_written slot.FunctionName p) y t (piece_says slot.FunctionName p t)
 unfolding function_name_rule
-function_name_writes (a_symbol b) at y t e = inr (refl, inl (sees kind.Symbol b, ([], (refl, (refl, (refl, refl))))))
+function_name_writes (a_symbol b) at y t e = inr (refl, inl (sees kind.Symbol b, ([], (refl, (e, (refl, refl))))))
 function_name_writes (a_private_symbol b) at y t e =
-    inl (word (codes "private"), (sees kind.Symbol b ∷ [], (refl, (refl, ([], (sees kind.Symbol b ∷ [], (says_private t, (refl, ((refl, refl), symbol_writes b _ y _)))))))))
+    inl (word (codes "private"), (sees kind.Symbol b ∷ [], (refl, (refl, ([], (sees kind.Symbol b ∷ [], (says_private t, (refl, ((refl, refl), symbol_writes b _ y _ e)))))))))
 function_name_writes p at y t e = absurd cc
 
 attributes_writes : (p : Piece) (at : ℕ) (y : Seen) (t : Said) → suits slot.Attributes p y ≡ true → Writes attributes_rule at (piece_written slot.Attributes p) y t (piece_says slot.Attributes p t)
@@ -251,7 +255,7 @@ piece_writes (slot.Mark b) nothing at y t e = kind_writes due.Other (kind.Mark b
 piece_writes (slot.Word k) nothing at y t e = word_writes (spelling k) (word (spelling k)) (spelling_is k) at y t
 piece_writes slot.ModuleName p at y t e = module_name_writes p at y t e
 piece_writes slot.FunctionName p at y t e = function_name_writes p at y t e
-piece_writes slot.Symbol (a_symbol b) at y t e = symbol_writes b at y t
+piece_writes slot.Symbol (a_symbol b) at y t e = symbol_writes b at y t e
 piece_writes slot.Attributes p at y t e = attributes_writes p at y t e
 piece_writes slot.Dictionary p at y t e = dictionary_writes p at y t e
 piece_writes slot.Literal p at y t e = literal_writes p at y t e

@@ -59,15 +59,15 @@ word_tells w all at = (λ e h. refl, λ e. tt)
 
 symbol_tells : Told symbol_rule
 unfolding symbol_rule
-symbol_tells all at = (λ e h. refl, λ e. tt)
+symbol_tells all at = (λ e h. refl, λ e. (λ o. tt, λ o. tt))
 
 module_name_tells : Told module_name_rule
 unfolding module_name_rule
-module_name_tells all at = (λ e h. refl, λ e h. refl)
+module_name_tells all at = (λ e h. refl, λ e. (λ o. tt, λ o h. refl))
 
 function_name_tells : Told function_name_rule
 unfolding function_name_rule
-function_name_tells all at = (λ e. (λ h. refl, λ n. symbol_tells all n), λ e. (λ o h. refl, λ o. tt))
+function_name_tells all at = (λ e. (λ h. refl, λ n. symbol_tells all n), λ e. (λ o h. refl, λ o. (λ p. tt, λ p. tt)))
 
 argument_tells : Told argument_rule
 unfolding argument_rule
@@ -126,7 +126,7 @@ entry_value_tells all name at = (
       λ e h. entry_told all name value.Unit h,
       λ e. (
         λ e h. entry_told all name (value.Text at) h,
-        λ e. (λ e. entry_number_tells all name true due.Other (at + 1), λ e. entry_number_tells all name false due.AttributeValue at),
+        λ e. (λ e. tt, λ e. (λ e. entry_number_tells all name true due.Other (at + 1), λ e. entry_number_tells all name false due.AttributeValue at)),
       ),
     ),
   ),
@@ -134,7 +134,7 @@ entry_value_tells all name at = (
 
 entry_tells : Told entry_rule
 unfolding entry_rule
-entry_tells all at = (λ e. (λ o. entry_value_tells all at (at + 1 + 1), λ o h. entry_told all at value.Unit h), λ e. tt)
+entry_tells all at = (λ e. (λ o. entry_value_tells all at (at + 1 + 1), λ o h. entry_told all at value.Unit h), λ e. (λ o. tt, λ o. tt))
 
 param_tells : Told param_rule
 unfolding param_rule

@@ -6,6 +6,7 @@ ghost use Rattle.xf_read_base.specs.Parts.{with_entry, text_at};
 ghost use Rattle.xf_read_base.specs.Rules.{has_room, entry_number_rule, entry_rule, entry_value_rule, entry_width_rule};
 
 use crate::due::{Due, HeadFault};
+use crate::names::{is_name, is_string};
 use crate::parts::{Entry, EntryValue, Parts};
 use crate::word::width_of;
 use xf_grammar::{looks, number_at, says, word_at};
@@ -127,9 +128,12 @@ fn entry_value(
         add_entry(parts, name, EntryValue::Unit)?;
         return Ok(at + 1);
     }
-    if looks(tokens, at, TokenKind::Text) {
+    if is_string(tokens, at) {
         add_entry(parts, name, EntryValue::Text(at))?;
         return Ok(at + 1);
+    }
+    if looks(tokens, at, TokenKind::Text) {
+        return Err(HeadFault::At(at, Due::ListEnd));
     }
     if looks(tokens, at, TokenKind::Mark(b'-')) {
         return entry_number(tokens, name, true, Due::Other, parts, at + 1);
@@ -143,7 +147,10 @@ pub fn entry_at(tokens: &[Token], parts: &mut Parts, at: usize) -> Result<usize,
     ensures gives { Gives (λ n. (parts.new, n)) result (by entry_rule tokens.now parts.old at) }
     ensures within { IfOk result (λ n. (at ≤ n) × (n ≤ length tokens.now)) }
 {
-    if !looks(tokens, at, TokenKind::Word) {
+    if !is_name(tokens, at) {
+        if looks(tokens, at, TokenKind::Word) {
+            return Err(HeadFault::At(at, Due::ListEnd));
+        }
         return Err(HeadFault::At(at, Due::Other));
     }
     let next = at + 1;

@@ -12,6 +12,7 @@ mod heads;
 mod kinds;
 mod law;
 mod list;
+mod names;
 mod parts;
 mod quoted;
 mod row;

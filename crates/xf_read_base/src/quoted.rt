@@ -1,5 +1,5 @@
 //! What a string stands for.
-ghost use Rattle.std.specs.Prelude.{◌≡◌, ◌≤◌, drop, IfOk};
+ghost use Rattle.std.specs.Prelude.{◌≡◌, ◌≤◌, drop, length, IfOk};
 ghost use Rattle.std.specs.Char.{digit_value};
 ghost use Rattle.xf_lex.specs.Bytes.{is_hex};
 ghost use Rattle.xf_read_base.specs.Strings.{escaped_byte, step_of, decoded};
@@ -101,4 +101,24 @@ pub fn decoded(alloc: Global, quoted: &[u8]) -> Result<ByteList, NoMemory>
         }
     }
     Ok(bytes)
+}
+
+/// How many bytes a string with its quotes stands for.
+pub fn decoded_len(quoted: &[u8]) -> usize
+    ensures { result ≡ length (decoded quoted.now) }
+{
+    let mut count = 0;
+    let mut escape = Escape::Nothing;
+    let inner = behind_first(quoted);
+    for b in inner {
+        match step_of(escape, *b) {
+            Step::End => return count,
+            Step::Wait(next) => escape = next,
+            Step::Byte(_) => {
+                count += 1;
+                escape = Escape::Nothing;
+            }
+        }
+    }
+    count
 }

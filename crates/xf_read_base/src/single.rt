@@ -6,6 +6,7 @@ ghost use Rattle.xf_read_base.specs.Rules.{argument_rule, function_name_rule, ki
 ghost use Rattle.xf_read_base.specs.declared.due.Due.TheVariants as due;
 
 use crate::due::{Due, HeadFault};
+use crate::names::is_symbol;
 use crate::parts::{Parts, Ref};
 use crate::word::{predicate_of, width_of};
 use xf_grammar::{is_index_at, looks, number_at, says, word_at};
@@ -50,11 +51,14 @@ pub fn symbol_at(tokens: &[Token], parts: &mut Parts, at: usize) -> Result<usize
     ensures gives { Gives (λ n. (parts.new, n)) result (by symbol_rule tokens.now parts.old at) }
     ensures within { IfOk result (λ n. (at ≤ n) × (n ≤ length tokens.now)) }
 {
-    if !looks(tokens, at, TokenKind::Symbol) {
-        return Err(HeadFault::At(at, Due::Other));
+    if is_symbol(tokens, at) {
+        parts.symbol = Some(at);
+        return Ok(at + 1);
     }
-    parts.symbol = Some(at);
-    Ok(at + 1)
+    if looks(tokens, at, TokenKind::Symbol) {
+        return Err(HeadFault::At(at, Due::ListEnd));
+    }
+    Err(HeadFault::At(at, Due::Other))
 }
 
 /// The symbol of a module, which may be left out.
@@ -64,12 +68,14 @@ pub fn module_name_at(tokens: &[Token], parts: &mut Parts, at: usize) -> Result<
     ensures gives { Gives (λ n. (parts.new, n)) result (by module_name_rule tokens.now parts.old at) }
     ensures within { IfOk result (λ n. (at ≤ n) × (n ≤ length tokens.now)) }
 {
-    if looks(tokens, at, TokenKind::Symbol) {
+    if is_symbol(tokens, at) {
         parts.symbol = Some(at);
-        Ok(at + 1)
-    } else {
-        Ok(at)
+        return Ok(at + 1);
     }
+    if looks(tokens, at, TokenKind::Symbol) {
+        return Err(HeadFault::At(at, Due::ListEnd));
+    }
+    Ok(at)
 }
 
 /// The symbol of a function, with `private` before it or not.
@@ -82,11 +88,14 @@ pub fn function_name_at(tokens: &[Token], parts: &mut Parts, at: usize) -> Resul
         parts.private = true;
         return symbol_at(tokens, parts, at + 1);
     }
-    if !looks(tokens, at, TokenKind::Symbol) {
-        return Err(HeadFault::At(at, Due::FunctionName));
+    if is_symbol(tokens, at) {
+        parts.symbol = Some(at);
+        return Ok(at + 1);
     }
-    parts.symbol = Some(at);
-    Ok(at + 1)
+    if looks(tokens, at, TokenKind::Symbol) {
+        return Err(HeadFault::At(at, Due::ListEnd));
+    }
+    Err(HeadFault::At(at, Due::FunctionName))
 }
 
 /// The name of a block argument.
