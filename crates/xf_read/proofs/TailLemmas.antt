@@ -33,11 +33,11 @@ entry_number_leaves name bytes negative d p all at = (λ e. (λ o. (λ c. entry_
 entry_value_leaves : (name : ℕ) (bytes : List ℕ) → Leaves (entry_value_rule name bytes)
 unfolding entry_value_rule
 entry_value_leaves name bytes p all at =
-    (λ e h w. w, λ e. (λ e h w. w, λ e. (λ e h w. w, λ e. (λ e h w. w, λ e. (λ e. entry_number_leaves name bytes true due.Other p all (at + 1), λ e. entry_number_leaves name bytes false due.AttributeValue p all at)))))
+    (λ e h w. w, λ e. (λ e h w. w, λ e. (λ e h w. w, λ e. (λ e h w. w, λ e. (λ e. tt, λ e. (λ e. entry_number_leaves name bytes true due.Other p all (at + 1), λ e. entry_number_leaves name bytes false due.AttributeValue p all at))))))
 
 entry_leaves : Leaves entry_rule
 unfolding entry_rule
-entry_leaves p all at = (λ e. (λ o. entry_value_leaves at _ p all (at + 1 + 1), λ o h w. w), λ e. tt)
+entry_leaves p all at = (λ e. (λ o. entry_value_leaves at _ p all (at + 1 + 1), λ o h w. w), λ e. (λ o. tt, λ o. tt))
 
 until_leaves : Leaves (until_rule close_brace due.Other item.Entry)
 unfolding until_rule
