@@ -1,15 +1,13 @@
 -- A text that is read has as many operations as were counted, and no more than a text may have.
-use Rattle.std.proofs.Common.{◌≡◌, ℕ, zero, suc, ◌+◌, ◌<◌, ◌≤◌, Bool, true, false, nat_lt, ◌==◌, List, length, Ok, Err, refl, subst, ◌∙◌, arith}
+use Rattle.std.proofs.Common.{◌≡◌, ℕ, zero, suc, ◌+◌, ◌<◌, ◌≤◌, Bool, true, false, nat_lt, ◌==◌, List, length, Ok, Err, refl, sym, ap, subst, ◌∙◌, arith}
 use Rattle.std.specs.Prelude.{if◌then◌else◌, codes}
 use Rattle.std.proofs.lemmas.Bool.{ltb-true}
 use Rattle.xf_lex.specs.declared.token.Token.{Token}
 use Rattle.xf_grammar.specs.Tokens.{Seen, seen, looks, says, comma, open_brace, close_brace}
 use Rattle.xf_grammar.specs.Reading.{Out, ◌>>=◌}
 use Rattle.xf_grammar.proofs.Grammar.{not_too_many}
-use Rattle.xf_grammar.proofs.Kept.{Keeps, Has, kept}
 use Rattle.xf_read_base.specs.declared.due.Due.{Due}
 use Rattle.xf_read_base.specs.declared.due.Due.TheVariants as due
-use Rattle.xf_read_base.specs.declared.list.Item.TheVariants as item
 use Rattle.xf_read_base.specs.declared.parts.Parts.{Parts}
 use Rattle.xf_read_base.specs.declared.row.Level.{Level}
 use Rattle.xf_read_base.specs.declared.row.Level.TheVariants as level
@@ -17,48 +15,15 @@ use Rattle.xf_read_base.specs.declared.row.Row.{Row}
 use Rattle.xf_read_base.specs.declared.row.Row.TheVariants as row
 use Rattle.xf_read_base.specs.Heads.{head_at}
 use Rattle.xf_read_base.specs.Reading.{dictionary_at}
-use Rattle.xf_read_base.specs.Rules.{Rule, kind_rule, entry_width_rule, entry_number_rule, entry_value_rule, entry_rule, until_rule, dictionary_rule}
 use Rattle.xf_read.specs.declared.fault.Cause.{Cause}
 use Rattle.xf_read.specs.declared.fault.Cause.TheVariants as cause
 use Rattle.xf_read.specs.declared.tree.File.{File}
 use Rattle.xf_read.specs.Meant.{file_count}
 use Rattle.xf_read.specs.Names.{yield_count, nodes_count, bodies_count, tree_count}
 use Rattle.xf_read.specs.Syntax.{Counted, From, part, most_open, most_operations, too_many, begins_at, inside, behind, may_end_open, lacks_yield, yielded, closed, braced, single, with_else, bodies_at, tail_at, node_at, closes, nodes_at, is_end, ended, written_file, unwritten_file, file_at}
+use Rattle.xf_read.proofs.IsRead.{part_ok}
+use Rattle.xf_read.proofs.TailLemmas.{tail_leaves}
 use Rattle.xf_read.specs.Tree.{Nodes, Bodies, no_bodies, body, Block}
-
--- ---- what a grammar keeps
-
--- attributes leave the row and the types as they are
-abbrev Ends : Bool → Parts → Type 0
-Ends b p = may_end_open p ≡ b
-
-abbrev Keep : Bool → Rule → Type 0
-Keep b rule = (all : List Token) (at : ℕ) → Keeps (Ends b) all rule at
-
-width_keeps : (b : Bool) (name : ℕ) (bytes : List ℕ) (negative : Bool) (digits : ℕ) (x : Seen) → Keep b (entry_width_rule name bytes negative digits x)
-unfolding entry_width_rule
-width_keeps b name bytes negative digits x all at = (λ e. (λ f h q. q, λ f. tt), λ e. tt)
-
-number_keeps : (b : Bool) (name : ℕ) (bytes : List ℕ) (negative : Bool) (d : Due) → Keep b (entry_number_rule name bytes negative d)
-unfolding entry_number_rule
-number_keeps b name bytes negative d all at = (λ e. (λ f. (λ c. width_keeps b name bytes negative at (seen all at) all _, λ c h q. q), λ f. tt), λ e. tt)
-
-value_keeps : (b : Bool) (name : ℕ) (bytes : List ℕ) → Keep b (entry_value_rule name bytes)
-unfolding entry_value_rule
-value_keeps b name bytes all at =
-    (λ e h q. q, λ e. (λ f h q. q, λ f. (λ g h q. q, λ g. (λ i h q. q, λ i. (λ j. tt, λ j. (λ k. number_keeps b name bytes true due.Other all (at + 1), λ k. number_keeps b name bytes false due.AttributeValue all at))))))
-
-entry_keeps : (b : Bool) → Keep b entry_rule
-unfolding entry_rule
-entry_keeps b all at = (λ e. (λ f. value_keeps b at _ all _, λ f h q. q), λ e. (λ f. tt, λ f. tt))
-
-until_keeps : (b : Bool) → Keep b (until_rule close_brace due.Other item.Entry)
-unfolding until_rule kind_rule
-until_keeps b all at = (λ e h q. q, λ e. (λ n. entry_keeps b all n, λ n. (λ f h q. q, λ f. tt)))
-
-dictionary_keeps : (b : Bool) → Keep b dictionary_rule
-unfolding dictionary_rule
-dictionary_keeps b all at = (λ e. until_keeps b all (at + 1), λ e h q. q)
 
 -- ---- numbers of operations
 
@@ -145,17 +110,14 @@ same_bodies : (p q : Parts) (bs : Bodies) → may_end_open p ≡ may_end_open q 
 same_bodies p q no_bodies e = refl
 same_bodies p q (body ns close rest) e = let a = same_yield p q ns e in let b = same_bodies p q rest e in omega arith
 
-part_kept : (b : Bool) (o : Out Parts Due) → Has (Ends b) o → Has (Ends b) (part o)
-part_kept b (Ok x) k = k
-part_kept b (Err e) k = tt
+-- attributes behind the bodies leave the row and the types as they are
+dictionary_kept : (all : List Token) (p : Parts) (at : ℕ) (x : Parts × ℕ) → part (dictionary_at all p at) ≡ Ok x → may_end_open x.0 ≡ may_end_open p
+dictionary_kept all p at x e = let same = tail_leaves p x.0 all at x.1 (part_ok (dictionary_at all p at) x e) in rw (same.0, same.1) refl
 
-tail_kept : (all : List Token) (r : Row) (p : Parts) (at : ℕ) → Has (Ends (may_end_open p)) (tail_at all r p at)
-tail_kept all row.For p at = part_kept (may_end_open p) (dictionary_at all p at) (kept (Ends (may_end_open p)) dictionary_rule all p at (dictionary_keeps (may_end_open p) all at) refl)
-tail_kept all row.If p at = part_kept (may_end_open p) (dictionary_at all p at) (kept (Ends (may_end_open p)) dictionary_rule all p at (dictionary_keeps (may_end_open p) all at) refl)
-tail_kept all r p at = refl
-
-keeps_it : (p : Parts) (o : Out Parts Cause) (x : Parts × ℕ) → o ≡ Ok x → Has (Ends (may_end_open p)) o → may_end_open x.0 ≡ may_end_open p
-keeps_it p o x e k = subst (Has (Ends (may_end_open p))) e k
+tail_kept : (all : List Token) (r : Row) (p : Parts) (at : ℕ) (x : Parts × ℕ) → tail_at all r p at ≡ Ok x → may_end_open x.0 ≡ may_end_open p
+tail_kept all row.For p at x e = dictionary_kept all p at x e
+tail_kept all row.If p at x e = dictionary_kept all p at x e
+tail_kept all r p at x e = let q : p ≡ x.0 = cc in ap may_end_open (sym q)
 
 limited_few : {A : Type 0} (b : Bool) (at : ℕ) (r : Out A Cause) (x : A × ℕ) → (if b then r else too_many at r) ≡ Ok x → b ≡ true
 limited_few true at r x e = refl
@@ -173,7 +135,7 @@ node_adds all f h l depth count at le =
     adds_then count tree_count (bodies_at all (braced all f x.0 depth) x.0.row (count + 1) x.1) _
     (λ bs g. let b = added (count + 1) (bodies_count x.0) (bodies_at all (braced all f x.0 depth) x.0.row (count + 1) x.1) bs g (bodies_adds all x.0 x.0.row (braced all f x.0 depth) (λ c a k. braced_adds all f h x.0 depth c a k) (count + 1) x.1 (omega (arith, few))) in
     adds_then count tree_count (tail_at all x.0.row x.0 bs.1) _
-    (λ p k. let same = same_bodies p.0 x.0 bs.0.0 (keeps_it x.0 (tail_at all x.0.row x.0 bs.1) p k (tail_kept all x.0.row x.0 bs.1)) in (omega (arith, b.0, same), b.1))))
+    (λ p k. let same = same_bodies p.0 x.0 bs.0.0 (tail_kept all x.0.row x.0 bs.1 p k) in (omega (arith, b.0, same), b.1))))
 
 nodes_add : (fuel : ℕ) (all : List Token) → InnerAdds (nodes_at fuel all)
 nodes_add zero all l depth count at le = tt

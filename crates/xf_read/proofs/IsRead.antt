@@ -59,7 +59,7 @@ pub bind_ok : {A B D : Type 0} (r : Out A D) (f : A × ℕ → Out B D) (y : B �
 bind_ok (Ok x) f y e = (x, (refl, e))
 bind_ok (Err d) f y e = absurd cc
 
-part_ok : {A : Type 0} (o : Out A Due) (x : A × ℕ) → part o ≡ Ok x → o ≡ Ok x
+pub part_ok : {A : Type 0} (o : Out A Due) (x : A × ℕ) → part o ≡ Ok x → o ≡ Ok x
 part_ok (Ok z) x e = ap (λ y. Ok y) (same_answer z x (Ok z) refl e)
 part_ok (Err d) x e = absurd cc
 
