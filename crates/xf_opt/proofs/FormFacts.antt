@@ -25,7 +25,7 @@ use Rattle.xf_ir.specs.Tree.{Ops, no_ops, op, Regions, no_regions, region, Tree}
 use Rattle.xf_ir.specs.Types.{have_types, same_types}
 use Rattle.xf_ir.proofs.Lists.{each_left, each_right, each_both, each_map}
 use Rattle.xf_read.specs.Short.{HasShortLists}
-use Rattle.xf_roundtrip.specs.Printable.{AllBytes}
+use Rattle.xf_roundtrip.specs.Printable.{AllBytes, HasShortSymbol, HasShortNames}
 use Rattle.xf_roundtrip.specs.PrintedLaws.{OpsNest, RegionsNest, IsWithin}
 use Rattle.xf_roundtrip.specs.Printing.{is_core, all_scalar, is_core_op, IsCore}
 use Rattle.xf_roundtrip.specs.Stored.{IsStored}
@@ -69,11 +69,12 @@ one_few (t ∷ (u ∷ ts)) e = let p = (and_parts (is_i32 t) (is_empty (u ∷ ts
 record IsCoreKind (k : Kind) : Type 0 where
   core : is_core k ≡ true
   returns : returned_types k ≡ []
+  symbol : HasShortSymbol k
 
 step_kind : (k : Kind) → is_step_kind k ≡ true → IsCoreKind k
-step_kind kind.Return e = record { core = refl; returns = refl }
-step_kind (kind.Constant width bits) e = record { core = refl; returns = refl }
-step_kind (kind.Binary which width) e = record { core = refl; returns = refl }
+step_kind kind.Return e = record { core = refl; returns = refl; symbol = tt }
+step_kind (kind.Constant width bits) e = record { core = refl; returns = refl; symbol = tt }
+step_kind (kind.Binary which width) e = record { core = refl; returns = refl; symbol = tt }
 step_kind _ e = absurd cc
 
 record Step (k : Kind) (ds : List Attr) (ts : List PayloadType) (rs : Regions) : Type 0 where
@@ -104,12 +105,14 @@ record IsSimple (p : Placed) : Type 0 where
   core : is_core_op p.tree ≡ true
   short : HasShortLists p.tree
   bytes : AllBytes p
+  names : HasShortNames p
 
 step_simple : (h : Holder) (env : Typed) (n : OpName) (k : Kind) (os : List ValueName) (ts : List PayloadType) (after : Ops) → IsCoreKind k → IsFew ts → length os ≤ 2 → IsSimple (place h env (record { name = n; kind = k; attrs = []; operands = os; results = ts; regions = no_regions }) after)
 step_simple h env n k os ts after c f few = record {
   core = and_from (is_core k) _ c.core (and_from (all_scalar ts) _ f.scalars (and_from (all_scalar (returned_types k)) true (rw c.returns refl) refl));
   short = record { attributes = omega arith; operands = omega (arith, few); results = let x = f.count in omega arith; arguments = tt; returned = rw c.returns (omega arith) };
   bytes = tt;
+  names = (tt, c.symbol);
 }
 
 -- each has its types
@@ -143,38 +146,40 @@ module_simple h env t after k a r o s few = record {
   core = rw (k, r) s;
   short = record { attributes = rw a (omega arith); operands = omega (arith, o); results = rw r (omega arith); arguments = few; returned = rw k (omega arith) };
   bytes = rw a tt;
+  names = (rw a tt, rw k tt);
 }
 
-function_simple : (h : Holder) (n : OpName) (symbol : List ℕ) (results : List PayloadType) (os : List ValueName) (args : List PayloadType) (ops after : Ops) → is_one_i32 results ≡ true → every is_i32 args ≡ true → length os ≡ 0 → length args < 2 ^ 32 → IsSimple (place h [] (record { name = n; kind = kind.Func symbol false results; attrs = []; operands = os; results = []; regions = region args ops no_regions }) after)
-function_simple h n symbol results os args ops after r a o few = record {
+function_simple : (h : Holder) (n : OpName) (symbol : List ℕ) (results : List PayloadType) (os : List ValueName) (args : List PayloadType) (ops after : Ops) → is_one_i32 results ≡ true → every is_i32 args ≡ true → length os ≡ 0 → length args < 2 ^ 32 → length symbol < 2 ^ 32 → IsSimple (place h [] (record { name = n; kind = kind.Func symbol false results; attrs = []; operands = os; results = []; regions = region args ops no_regions }) after)
+function_simple h n symbol results os args ops after r a o few short = record {
   core = and_from (all_scalar results) _ (one_scalar results r) (and_from (all_scalar args) true (all_scalars args a) refl);
   short = record { attributes = omega arith; operands = omega (arith, o); results = omega arith; arguments = (few, tt); returned = let one = one_few results r in omega (arith, one) };
   bytes = tt;
+  names = (tt, short);
 }
 
 function_placed : (sigs : Signatures) (h : Holder) (n : OpName) (symbol : List ℕ) (results : List PayloadType) (os : List ValueName) (args : List PayloadType) (ops : Ops)
     → AreTyped sigs (functions_placed h (op n (kind.Func symbol false results) [] os [] (region args ops no_regions) no_ops))
-    → is_one_i32 results ≡ true → every is_i32 args ≡ true → length args < 2 ^ 32 → are_steps ops ≡ true
+    → is_one_i32 results ≡ true → every is_i32 args ≡ true → length args < 2 ^ 32 → length symbol < 2 ^ 32 → are_steps ops ≡ true
     → Each IsSimple (functions_placed h (op n (kind.Func symbol false results) [] os [] (region args ops no_regions) no_ops))
-function_placed sigs h n symbol results os args ops typed r a few s =
+function_placed sigs h n symbol results os args ops typed r a few short s =
     let k = holder_of (kind.Func symbol false results) (map (type_at []) os) [] in
     let env : Typed = (inside n 0 (length args), args) ∷ [] in
     let T : Placed → Type 0 = λ p. has_its_types sigs p ≡ true in
     let inner = each_left T (ops_placed k env ops) [] (each_left T (ops_placed k env ops ++ []) [] typed.1) in (
-      function_simple h n symbol results os args ops no_ops r a (nothing_taken [] os [] typed.0) few,
+      function_simple h n symbol results os args ops no_ops r a (nothing_taken [] os [] typed.0) few short,
       each_both IsSimple (ops_placed k env ops ++ []) [] (each_both IsSimple (ops_placed k env ops) [] (steps_simple sigs k env ops (one_few results r) s inner) tt) tt,
     )
 
 blocks_placed_simply : (sigs : Signatures) (h : Holder) (n : OpName) (symbol : List ℕ) (results : List PayloadType) (os : List ValueName) (ts args : List PayloadType) (ops : Ops)
     → AreTyped sigs (blocks_placed h (region [] (op n (kind.Func symbol false results) [] os ts (region args ops no_regions) no_ops) no_regions))
-    → is_one_i32 results ≡ true → every is_i32 args ≡ true → length args < 2 ^ 32 → are_steps ops ≡ true
+    → is_one_i32 results ≡ true → every is_i32 args ≡ true → length args < 2 ^ 32 → length symbol < 2 ^ 32 → are_steps ops ≡ true
     → Each IsSimple (blocks_placed h (region [] (op n (kind.Func symbol false results) [] os ts (region args ops no_regions) no_ops) no_regions))
-blocks_placed_simply sigs h n symbol results os ts args ops typed r a few s =
+blocks_placed_simply sigs h n symbol results os ts args ops typed r a few short s =
     let none = nothing_given (map (type_at []) os) ts typed.0 in
     let f : List PayloadType → Ops = λ us. op n (kind.Func symbol false results) [] os us (region args ops no_regions) no_ops in
     let whole = subst (λ us. AreTyped sigs (blocks_placed h (region [] (f us) no_regions))) none typed in
     let alone = each_left (λ p. has_its_types sigs p ≡ true) (functions_placed h (f [])) [] whole in
-    rw none (each_both IsSimple (functions_placed h (f [])) [] (function_placed sigs h n symbol results os args ops alone r a few s) tt)
+    rw none (each_both IsSimple (functions_placed h (f [])) [] (function_placed sigs h n symbol results os args ops alone r a few short s) tt)
 
 blocks_simple : (sigs : Signatures) (h : Holder) (rs : Regions) → OneRegion rs → AreTyped sigs (blocks_placed h rs) → Each IsSimple (blocks_placed h rs)
 blocks_simple sigs h rs o typed =
@@ -182,7 +187,7 @@ blocks_simple sigs h rs o typed =
     let e = are_laid_out rs o in
     subst (λ (x : Regions). Each IsSimple (blocks_placed h x)) (sym e)
     (blocks_placed_simply sigs h f.name f.heads.symbol f.heads.results f.operands f.gives f.block.args f.block.ops
-    (subst (λ (x : Regions). AreTyped sigs (blocks_placed h x)) e typed) f.heads.type f.block.types f.block.count f.block.steps)
+    (subst (λ (x : Regions). AreTyped sigs (blocks_placed h x)) e typed) f.heads.type f.block.types f.block.count f.heads.short f.block.steps)
 
 plain_block : (rs : Regions) → OneRegion rs → every all_scalar (block_args rs) ≡ true
 plain_block rs o = subst (λ (x : Regions). every all_scalar (block_args x) ≡ true) (sym (are_laid_out rs o)) refl
@@ -205,6 +210,7 @@ pub form_is_stored : (m : Module) → IsFirstForm m → IsStored m
 form_is_stored m f = record {
   lists = each_map IsSimple (λ (p : Placed). HasShortLists p.tree) (placed m) (λ p s. s.short) (all_simple m f);
   bytes = each_map IsSimple AllBytes (placed m) (λ p s. s.bytes) (all_simple m f);
+  names = each_map IsSimple HasShortNames (placed m) (λ p s. s.names) (all_simple m f);
 }
 
 -- ---- limits

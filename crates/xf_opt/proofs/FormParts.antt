@@ -63,9 +63,12 @@ pub record OneHead (k : Kind) : Type 0 where
   pub results : List PayloadType
   pub is : k ≡ kind.Func symbol false results
   pub type : is_one_i32 results ≡ true
+  pub short : length symbol < 2 ^ 32
 
 pub head_parts : (k : Kind) → is_plain_head k ≡ true → OneHead k
-head_parts (kind.Func symbol false results) e = record { symbol = symbol; results = results; is = refl; type = e }
+head_parts (kind.Func symbol false results) e =
+    let p = and_parts (is_one_i32 results) (nat_lt (length symbol) (2 ^ 32)) e in
+    record { symbol = symbol; results = results; is = refl; type = p.0; short = below (length symbol) (2 ^ 32) p.1 }
 head_parts (kind.Func symbol true results) e = absurd cc
 head_parts _ e = absurd cc
 

@@ -7,8 +7,8 @@ ghost use Rattle.xf_opt.specs.Form.{is_i32_width, is_i32, is_i32_at_most, is_one
 use xf_ir::{Block, Kind, Module, Op};
 use xf_type::{BinKind, PayloadType, Width};
 
-/// The number that the function has fewer arguments than.
-const PARAMETERS_END: usize = 1 << 32;
+/// The number that the function has fewer arguments than, and its symbol fewer bytes.
+const LIST_END: usize = 1 << 32;
 
 /// How many operations the function holds at most: as many as a payload may have, but for the module
 /// and the function itself.
@@ -108,7 +108,7 @@ fn are_steps(ops: &[Op]) -> bool
 fn are_parameters(types: &[PayloadType]) -> bool
     ensures { result ≡ are_parameters types.now }
 {
-    are_i32(types) && types.len() < PARAMETERS_END
+    are_i32(types) && types.len() < LIST_END
 }
 
 /// Whether it is the block of such a function.
@@ -130,16 +130,16 @@ fn is_one_block(regions: &[Block]) -> bool
     }
 }
 
-/// Whether it is a function that has a body and gives one value.
+/// Whether it is a function that has a body, gives one value and has a symbol that is not too long.
 fn is_plain_head(kind: &Kind) -> bool
     ensures { result ≡ is_plain_head kind.now }
 {
     match kind {
         Kind::Func {
+            symbol,
             private,
             results,
-            ..
-        } => !*private && is_one_i32(results.as_slice()),
+        } => !*private && (is_one_i32(results.as_slice()) && symbol.len() < LIST_END),
         _ => false,
     }
 }

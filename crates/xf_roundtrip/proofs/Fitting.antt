@@ -23,7 +23,7 @@ use Rattle.xf_ir.specs.Types.{same_items, same_type, same_types, have_types, has
 use Rattle.xf_ir.specs.Words.{is_word}
 use Rattle.xf_print.specs.Names.{first_args}
 use Rattle.xf_roundtrip.specs.Printing.{is_core, all_scalar}
-use Rattle.xf_roundtrip.specs.Printable.{HasBytes}
+use Rattle.xf_roundtrip.specs.Printable.{HasBytes, IsShortAttr}
 use Rattle.xf_roundtrip.proofs.Needs.{IsScalar, AttrFits, ArgsRight, CarriedRight, counted, has_regions}
 use Rattle.xf_roundtrip.proofs.Fits.{lists_are}
 
@@ -198,13 +198,13 @@ narrow k os ts rs c e = absurd cc
 
 -- ---- attributes
 
-pub attrs_right : (ds : List Attr) → attributes_fit ds ≡ true → Each (λ (d : Attr). HasBytes d.value) ds → Each AttrFits ds
-attrs_right [] e b = tt
-attrs_right (d ∷ ds) e b =
+pub attrs_right : (ds : List Attr) → attributes_fit ds ≡ true → Each (λ (d : Attr). HasBytes d.value) ds → Each IsShortAttr ds → Each AttrFits ds
+attrs_right [] e b s = tt
+attrs_right (d ∷ ds) e b s =
     let p = and_parts (is_word d.name && value_fits d.value) _ e in
     let q = and_parts (is_word d.name) (value_fits d.value) p.0 in
     let r = and_parts _ (attributes_fit ds) p.1 in
-    (record { name = q.0; value = q.1; bytes = b.0 }, attrs_right ds r.1 b.1)
+    (record { name = q.0; value = q.1; bytes = b.0; short = s.0 }, attrs_right ds r.1 b.1 s.1)
 
 -- ---- arguments and carried values
 

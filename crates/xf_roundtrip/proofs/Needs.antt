@@ -24,7 +24,7 @@ use Rattle.xf_ir.specs.Tree.{Ops, no_ops, op, Regions, no_regions, region, Tree}
 use Rattle.xf_ir.specs.Words.{is_word}
 use Rattle.xf_print.specs.Names.{Entry, Names, no_names, with_ops, first_args, number_of, first_of}
 use Rattle.xf_print.specs.Printed.{is_empty_yield}
-use Rattle.xf_roundtrip.specs.Printable.{HasBytes}
+use Rattle.xf_roundtrip.specs.Printable.{HasBytes, IsShortAttr, HasShortSymbol}
 use Rattle.xf_roundtrip.specs.Printing.{dictionary_piece, is_core, row_of, pieces_of, results_of}
 
 -- ---- tokens
@@ -78,19 +78,21 @@ Known names (Free num) = ⊥
 abbrev pub IsScalar : PayloadType → Type 0
 IsScalar t = (w : Width) × (t ≡ Scalar w)
 
--- a word and a value of its width
+-- a word and a value of its width, both shorter than 2 ^ 32
 pub record AttrFits (d : Attr) : Type 0 where
   pub name : is_word d.name ≡ true
   pub value : value_fits d.value ≡ true
   pub bytes : HasBytes d.value
+  pub short : IsShortAttr d
 
--- no list of an operation has 2 ^ 32 entries
+-- no list of an operation has 2 ^ 32 entries, and its symbol has fewer bytes
 pub record HasFew (k : Kind) (ds : List Attr) (os : List ValueName) (ts args : List PayloadType) : Type 0 where
   pub attributes : length ds < 2 ^ 32
   pub operands : length os < 2 ^ 32
   pub results : length ts < 2 ^ 32
   pub arguments : length args < 2 ^ 32
   pub returned : length (returned_types k) < 2 ^ 32
+  pub symbol : HasShortSymbol k
 
 -- so many operands as the kind has in print
 abbrev pub counted : Kind → List ValueName → Bool

@@ -25,7 +25,8 @@ use Rattle.xf_read_base.specs.declared.row.Slot.{Slot}
 use Rattle.xf_read_base.specs.declared.row.Slot.TheVariants as slot
 use Rattle.xf_read_base.specs.Parts.{Said, number_value, says_width, says_result}
 use Rattle.xf_read_base.specs.Rows.{slots, fits}
-use Rattle.xf_read_base.specs.Rules.{room_for, most_items}
+use Rattle.xf_read_base.specs.Rules.{is_short, room_for, most_items}
+use Rattle.xf_read_base.specs.Strings.{decoded}
 use Rattle.xf_read_base.specs.Pieces.{Attribute, mark, word, always, follow, more_suit, until_suits, use_suits, hash_suits, pair_suits, value_suits, attribute_suits, attribute_says, use_says, param_says, pair_says, says_all, Piece, attributes, operands, types, params, typed_operands, pairs, nothing, a_symbol, a_name, an_operand, a_predicate, a_truth, a_number, a_width, piece_written, suits, piece_says, row_suits, row_says, Results, head_suits, head_says}
 use Rattle.xf_ir.specs.declared.name.ValueName.{ValueName}
 use Rattle.xf_ir.specs.declared.name.ValueName.TheVariants.{Result, Arg, Free}
@@ -35,8 +36,11 @@ use Rattle.xf_ir.specs.declared.kind.Kind.TheVariants as kind
 use Rattle.xf_ir.specs.Lists.{Each}
 use Rattle.xf_ir.specs.RuleAttributes.{is_index as is_index_width, fits_bits, value_fits}
 use Rattle.xf_ir.specs.Types.{element_of}
+use Rattle.xf_print.specs.Attributes.{string_text}
 use Rattle.xf_print.specs.Names.{Names}
+use Rattle.xf_roundtrip.specs.Printable.{HasBytes, HasShortText, HasShortSymbol}
 use Rattle.xf_roundtrip.specs.Printing.{part_digits, use_of, operand_width, has_minus, digits_of, literal_piece, number_said, attribute_value, attribute_of, dictionary_piece, module_symbol, function_symbol, params_from, pairs_from, results_piece, function_results, given_piece, carried_piece, loop_width, chosen_piece, is_core, row_of, pieces_of, results_of, widths}
+use Rattle.xf_roundtrip.proofs.Dictionaries.{string_again}
 use Rattle.xf_roundtrip.proofs.Needs.{Known, AttrFits, HasFew, counted}
 use Rattle.xf_roundtrip.proofs.Lays.{both_true}
 
@@ -130,12 +134,21 @@ few_params k ts few = let e = params_count k ts in omega (arith, e, few)
 few_pairs : (names : Names) (k : ℕ) (vs : List ValueName) → suc (length vs) + 3 < 2 ^ 32 → nat_lt (length (pairs_from names k vs)) (2 ^ 32 - 4) ≡ true
 few_pairs names k vs few = let e = pairs_count names k vs in lt-ltb (length (pairs_from names k vs)) (2 ^ 32 - 4) (omega (arith, e, few))
 
+-- ---- names and strings
+
+short_is : (bytes : List ℕ) → length bytes < 2 ^ 32 → is_short bytes ≡ true
+short_is bytes few = lt-ltb (length bytes) (2 ^ 32) few
+
+-- a printed string stands for its bytes
+string_short : (bytes : List ℕ) → Each (λ b. b < 256) bytes → length bytes < 2 ^ 32 → is_short (decoded (string_text bytes)) ≡ true
+string_short bytes h few = subst (λ x. is_short x ≡ true) (sym (string_again bytes h)) (short_is bytes few)
+
 -- ---- attributes
 
-value_suit : (v : AttrValue) (y : Seen) → value_fits v ≡ true → not (is_kind equals y) ≡ true → value_suits (attribute_value v) y ≡ true
-value_suit unit_attr y fit e = e
-value_suit (Int width bits) y fit e = bits_suit width bits y fit
-value_suit (Text bytes) y fit e = refl
+value_suit : (v : AttrValue) (y : Seen) → value_fits v ≡ true → HasBytes v → HasShortText v → not (is_kind equals y) ≡ true → value_suits (attribute_value v) y ≡ true
+value_suit unit_attr y fit h few e = e
+value_suit (Int width bits) y fit h few e = bits_suit width bits y fit
+value_suit (Text bytes) y fit h few e = string_short bytes h few
 
 no_equals : (ds : List Attr) → not (is_kind equals (follow (map attribute_of ds) (mark close_brace))) ≡ true
 no_equals [] = refl
@@ -143,7 +156,9 @@ no_equals (d ∷ ds) = refl
 
 entries_suit : (ds : List Attr) → Each AttrFits ds → more_suit attribute_suits (map attribute_of ds) (mark close_brace) ≡ true
 entries_suit [] h = refl
-entries_suit (d ∷ ds) h = both_true (value_suit d.value (follow (map attribute_of ds) (mark close_brace)) h.0.value (no_equals ds)) (entries_suit ds h.1)
+entries_suit (d ∷ ds) h =
+    let a : AttrFits d = h.0 in
+    both_true (both_true (short_is d.name a.short.0) (value_suit d.value (follow (map attribute_of ds) (mark close_brace)) a.value a.bytes a.short.1 (no_equals ds))) (entries_suit ds h.1)
 
 pub dictionary_suits : (ds : List Attr) (y : Seen) → Each AttrFits ds → length ds < 2 ^ 32 → not (is_kind open_brace y) ≡ true → suits slot.Dictionary (dictionary_piece ds) y ≡ true
 dictionary_suits [] y h few e = e
@@ -292,13 +307,13 @@ Follows kind.Return y = y ≡ mark close_brace
 Follows kind.Yield y = y ≡ mark close_brace
 Follows k y = Unit {0}
 
-module_suits : (symbol : Option (List ℕ)) (ds : List Attr) → Each AttrFits ds → length ds < 2 ^ 32 → row_suits (slot.ModuleName ∷ slot.Attributes ∷ []) (module_symbol symbol ∷ dictionary_piece ds ∷ []) (mark open_brace) ≡ true
-module_suits None ds h few = both_true (attributes_first (λ z. not (is_kind token_kind.Symbol z)) ds [] (mark open_brace) refl refl) (both_true (attributes_suit ds (mark open_brace) h few refl) refl)
-module_suits (Some s) ds h few = both_true (attributes_suit ds (mark open_brace) h few refl) refl
+module_suits : (symbol : Option (List ℕ)) (ds : List Attr) → Each AttrFits ds → length ds < 2 ^ 32 → HasShortSymbol (kind.Module symbol) → row_suits (slot.ModuleName ∷ slot.Attributes ∷ []) (module_symbol symbol ∷ dictionary_piece ds ∷ []) (mark open_brace) ≡ true
+module_suits None ds h few s = both_true (attributes_first (λ z. not (is_kind token_kind.Symbol z)) ds [] (mark open_brace) refl refl) (both_true (attributes_suit ds (mark open_brace) h few refl) refl)
+module_suits (Some bytes) ds h few s = both_true (short_is bytes s) (both_true (attributes_suit ds (mark open_brace) h few refl) refl)
 
-name_suits : (private : Bool) (s : List ℕ) (y : Seen) → suits slot.FunctionName (function_symbol private s) y ≡ true
-name_suits true s y = refl
-name_suits false s y = refl
+name_suits : (private : Bool) (s : List ℕ) (y : Seen) → length s < 2 ^ 32 → suits slot.FunctionName (function_symbol private s) y ≡ true
+name_suits true s y few = short_is s few
+name_suits false s y few = short_is s few
 
 return_suits : (names : Names) (ds : List Attr) (os : List ValueName) → Each AttrFits ds → Each (Known names) os → length ds < 2 ^ 32 → length os < 2 ^ 32 → row_suits (slot.Dictionary ∷ slot.Operands ∷ []) (dictionary_piece ds ∷ given_piece names os ∷ []) (mark close_brace) ≡ true
 return_suits names ds os h k few few_operands = both_true (dictionary_suits ds _ h few (given_first names os)) (both_true (given_suits names os k few_operands) refl)
@@ -306,13 +321,13 @@ return_suits names ds os h k few few_operands = both_true (dictionary_suits ds _
 -- the pieces of a kind
 pub pieces_suit : (names : Names) (first : ℕ) (args : List PayloadType) (k : Kind) (ds : List Attr) (os : List ValueName) (ts : List PayloadType) (y : Seen) → is_core k ≡ true → Each AttrFits ds → Each (Known names) os → counted k os ≡ true → HasFew k ds os ts args → Follows k y
     → row_suits (slots (row_of k)) (pieces_of names first args k ds os ts) y ≡ true
-pieces_suit names first args (kind.Module symbol) ds os ts y c h k n few f = subst (λ z. row_suits (slot.ModuleName ∷ slot.Attributes ∷ []) (module_symbol symbol ∷ dictionary_piece ds ∷ []) z ≡ true) (sym f) (module_suits symbol ds h few.attributes)
+pieces_suit names first args (kind.Module symbol) ds os ts y c h k n few f = subst (λ z. row_suits (slot.ModuleName ∷ slot.Attributes ∷ []) (module_symbol symbol ∷ dictionary_piece ds ∷ []) z ≡ true) (sym f) (module_suits symbol ds h few.attributes few.symbol)
 pieces_suit names first args (kind.Func symbol private results) ds os ts y c h k n few f =
     subst (λ z. row_suits (slots (row_of (kind.Func symbol private results))) (pieces_of names first args (kind.Func symbol private results) ds os ts) z ≡ true) (sym f)
-    (both_true (name_suits private symbol _) (both_true (until_any item.Param (params_from first args) (few_params first args few.arguments)) (both_true (function_results_suit results _ few.returned (attributes_first (λ z. not (is_kind token_kind.Arrow z)) ds [] (mark open_brace) refl refl)) (both_true (attributes_suit ds (mark open_brace) h few.attributes refl) refl))))
+    (both_true (name_suits private symbol _ few.symbol) (both_true (until_any item.Param (params_from first args) (few_params first args few.arguments)) (both_true (function_results_suit results _ few.returned (attributes_first (λ z. not (is_kind token_kind.Arrow z)) ds [] (mark open_brace) refl refl)) (both_true (attributes_suit ds (mark open_brace) h few.attributes refl) refl))))
 pieces_suit names first args kind.Return ds os ts y c h k n few f = subst (λ z. row_suits (slot.Dictionary ∷ slot.Operands ∷ []) (dictionary_piece ds ∷ given_piece names os ∷ []) z ≡ true) (sym f) (return_suits names ds os h k few.attributes few.operands)
 pieces_suit names first args (kind.Call callee) ds os ts y c h k n few f =
-    both_true (enclosed_suit names os k few.operands) (both_true (dictionary_suits ds _ h few.attributes refl) (both_true (until_any item.Type (map (operand_width names) os) (few_mapped (operand_width names) os few.operands)) (both_true (results_suit ts y few.results) refl)))
+    both_true (short_is callee few.symbol) (both_true (enclosed_suit names os k few.operands) (both_true (dictionary_suits ds _ h few.attributes refl) (both_true (until_any item.Type (map (operand_width names) os) (few_mapped (operand_width names) os few.operands)) (both_true (results_suit ts y few.results) refl))))
 pieces_suit names first args (kind.Constant width bits) ds os ts y c h k n few f = both_true (dictionary_suits ds _ h few.attributes (literal_first width bits y)) (both_true (literal_suits width bits y) refl)
 pieces_suit names first args (kind.Binary which width) ds (a ∷ b ∷ []) ts y c h k n few f =
     both_true (use_suit names a (mark comma) k.0 refl) (both_true (use_suit names b _ k.1.0 (behind_use ds _ y)) (both_true (dictionary_suits ds _ h few.attributes refl) refl))

@@ -3,9 +3,10 @@ use Rattle.xf_ir.specs.declared.op.Module.{Module}
 use Rattle.xf_ir.specs.Lists.{Each}
 use Rattle.xf_ir.specs.Placed.{placed}
 use Rattle.xf_read.specs.Short.{NoListIsLong}
-use Rattle.xf_roundtrip.specs.Printable.{AllBytes}
+use Rattle.xf_roundtrip.specs.Printable.{AllBytes, HasShortNames}
 
--- no list of an operation has 2 ^ 32 entries, and strings are made of bytes
+-- no list of an operation has 2 ^ 32 entries, strings are made of bytes, and no name and no string has 2 ^ 32 of them
 pub record IsStored (m : Module) : Type 0 where
   pub lists : NoListIsLong m
   pub bytes : Each AllBytes (placed m)
+  pub names : Each HasShortNames (placed m)
