@@ -1,6 +1,5 @@
 -- The tokens in a head are of their kinds.
 use Rattle.std.proofs.Common.{◌≡◌, ℕ, ◌+◌, Bool, true, false, ◌&&◌, List, [], ◌∷◌, Some, refl, sym, ◌∙◌}
-use Rattle.std.proofs.lemmas.Bool.{and_parts}
 use Rattle.std.proofs.lemmas.List.Elements.{All-nil, All-push}
 use Rattle.xf_lex.specs.declared.token.Token.{Token}
 use Rattle.xf_lex.specs.declared.token.TokenKind.{TokenKind}
@@ -25,19 +24,19 @@ use Rattle.xf_read_base.specs.declared.row.Slot.TheVariants as slot
 use Rattle.xf_read_base.specs.Words.{spelling, opening_of}
 use Rattle.xf_read_base.specs.Rows.{slots}
 use Rattle.xf_read_base.specs.Parts.{no_parts, ref, count_of, with_symbol, with_literal, with_define, with_arg, with_use, with_entry}
-use Rattle.xf_read_base.specs.Rules.{Rule, kind_rule, word_rule, symbol_rule, module_name_rule, function_name_rule, argument_rule, use_rule, width_rule, result_rule, predicate_rule, number_rule, truth_rule, literal_rule, entry_width_rule, entry_number_rule, entry_value_rule, entry_rule, param_rule, pair_rule, item_rule, list_rule, until_rule, enclosed_rule, dictionary_rule, attributes_rule, result_types_rule, call_results_rule, function_results_rule, listed_results_rule, if_results_rule, operands_rule, iter_args_rule, loop_width_rule, slot_rule, slots_rule, has_operations, row_opened, row_rule, defines_rule, head_rule}
+use Rattle.xf_read_base.specs.Rules.{Rule, is_symbol, is_name, kind_rule, word_rule, symbol_rule, module_name_rule, function_name_rule, argument_rule, use_rule, width_rule, result_rule, predicate_rule, number_rule, truth_rule, literal_rule, entry_width_rule, entry_number_rule, entry_value_rule, entry_rule, param_rule, pair_rule, item_rule, list_rule, until_rule, enclosed_rule, dictionary_rule, attributes_rule, result_types_rule, call_results_rule, function_results_rule, listed_results_rule, if_results_rule, operands_rule, iter_args_rule, loop_width_rule, slot_rule, slots_rule, has_operations, row_opened, row_rule, defines_rule, head_rule}
 use Rattle.xf_grammar.proofs.Kept.{Keeps}
 use Rattle.xf_read.proofs.OfKind.{IsOf, LiteralOf, ValueOf, EntryOf, NameOf, UseOf, Inside}
 
 -- ---- what is added
 
-symbol_added : (all : List Token) (at : ℕ) (h : Parts) → IsOf kind.Symbol all at → Inside all h → Inside all (with_symbol at h)
+symbol_added : (all : List Token) (at : ℕ) (h : Parts) → is_symbol (seen all at) ≡ true → Inside all h → Inside all (with_symbol at h)
 symbol_added all at h p w = (p, w.1)
 
 literal_added : (all : List Token) (l : Literal) (h : Parts) → LiteralOf all (Some l) → Inside all h → Inside all (with_literal l h)
 literal_added all l h p w = (w.0, (p, w.1.1))
 
-entry_added : (all : List Token) (name : ℕ) (v : EntryValue) (h : Parts) → IsOf kind.Word all name → ValueOf all v → Inside all h → Inside all (with_entry name v h)
+entry_added : (all : List Token) (name : ℕ) (v : EntryValue) (h : Parts) → is_name (seen all name) ≡ true → ValueOf all v → Inside all h → Inside all (with_entry name v h)
 entry_added all name v h k p w = (w.0, (w.1.0, (All-push (EntryOf all) h.entries _ w.1.1.0 (k, p), w.1.1.1)))
 
 define_added : (all : List Token) (r : Ref) (h : Parts) → NameOf all r → Inside all h → Inside all (with_define r h)
@@ -64,15 +63,15 @@ word_stays b all at = (λ e h w. w, λ e. tt)
 
 symbol_stays : Stays symbol_rule
 unfolding symbol_rule
-symbol_stays all at = (λ e h w. symbol_added all at h (and_parts _ _ e).0 w, λ e. (λ o. tt, λ o. tt))
+symbol_stays all at = (λ e h w. symbol_added all at h e w, λ e. (λ o. tt, λ o. tt))
 
 module_name_stays : Stays module_name_rule
 unfolding module_name_rule
-module_name_stays all at = (λ e h w. symbol_added all at h (and_parts _ _ e).0 w, λ e. (λ o. tt, λ o h w. w))
+module_name_stays all at = (λ e h w. symbol_added all at h e w, λ e. (λ o. tt, λ o h w. w))
 
 function_name_stays : Stays function_name_rule
 unfolding function_name_rule
-function_name_stays all at = (λ e. (λ h w. w, λ n. symbol_stays all n), λ e. (λ o h w. symbol_added all at h (and_parts _ _ o).0 w, λ o. (λ q. tt, λ q. tt)))
+function_name_stays all at = (λ e. (λ h w. w, λ n. symbol_stays all n), λ e. (λ o h w. symbol_added all at h o w, λ o. (λ q. tt, λ q. tt)))
 
 argument_stays : Stays argument_rule
 unfolding argument_rule
@@ -113,11 +112,11 @@ unfolding literal_rule
 literal_stays all at =
     (λ e. truth_stays true all (at + 1), λ e. (λ e. truth_stays false all (at + 1), λ e. (λ e. tt, λ e. (λ e. number_stays true due.Other all (at + 1), λ e. number_stays false due.ConstantValue all at))))
 
-entry_width_stays : (all : List Token) (name : ℕ) (bytes : List ℕ) (negative : Bool) (digits at : ℕ) → IsOf kind.Word all name → IsOf kind.Integer all digits → Keeps (Inside all) all (entry_width_rule name bytes negative digits (seen all digits)) at
+entry_width_stays : (all : List Token) (name : ℕ) (bytes : List ℕ) (negative : Bool) (digits at : ℕ) → is_name (seen all name) ≡ true → IsOf kind.Integer all digits → Keeps (Inside all) all (entry_width_rule name bytes negative digits (seen all digits)) at
 unfolding entry_width_rule
 entry_width_stays all name bytes negative digits at lt le = (λ e. (λ o h w. entry_added all name _ h lt le w, λ o. tt), λ e. tt)
 
-entry_number_stays : (all : List Token) (name : ℕ) (bytes : List ℕ) (negative : Bool) (d : Due) (at : ℕ) → IsOf kind.Word all name → Keeps (Inside all) all (entry_number_rule name bytes negative d) at
+entry_number_stays : (all : List Token) (name : ℕ) (bytes : List ℕ) (negative : Bool) (d : Due) (at : ℕ) → is_name (seen all name) ≡ true → Keeps (Inside all) all (entry_number_rule name bytes negative d) at
 unfolding entry_number_rule
 entry_number_stays all name bytes negative d at lt = (
   λ e. (
@@ -130,7 +129,7 @@ entry_number_stays all name bytes negative d at lt = (
   λ e. tt,
 )
 
-entry_value_stays : (all : List Token) (name : ℕ) (bytes : List ℕ) (at : ℕ) → IsOf kind.Word all name → Keeps (Inside all) all (entry_value_rule name bytes) at
+entry_value_stays : (all : List Token) (name : ℕ) (bytes : List ℕ) (at : ℕ) → is_name (seen all name) ≡ true → Keeps (Inside all) all (entry_value_rule name bytes) at
 unfolding entry_value_rule
 entry_value_stays all name bytes at lt = (
   λ e h w. entry_added all name (value.Truth true) h lt tt w,
@@ -139,7 +138,7 @@ entry_value_stays all name bytes at lt = (
     λ e. (
       λ e h w. entry_added all name value.Unit h lt tt w,
       λ e. (
-        λ e h w. entry_added all name (value.Text at) h lt (and_parts _ _ e).0 w,
+        λ e h w. entry_added all name (value.Text at) h lt e w,
         λ e. (λ e. tt, λ e. (λ e. entry_number_stays all name bytes true due.Other (at + 1) lt, λ e. entry_number_stays all name bytes false due.AttributeValue at lt)),
       ),
     ),
@@ -149,7 +148,7 @@ entry_value_stays all name bytes at lt = (
 entry_stays : Stays entry_rule
 unfolding entry_rule
 entry_stays all at =
-    (λ e. let k = (and_parts _ _ e).0 in (λ o. entry_value_stays all at _ (at + 1 + 1) k, λ o h w. entry_added all at value.Unit h k tt w), λ e. (λ o. tt, λ o. tt))
+    (λ e. (λ o. entry_value_stays all at _ (at + 1 + 1) e, λ o h w. entry_added all at value.Unit h e tt w), λ e. (λ o. tt, λ o. tt))
 
 param_stays : Stays param_rule
 unfolding param_rule

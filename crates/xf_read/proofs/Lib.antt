@@ -13,6 +13,7 @@ pub mod ReadAgain
 pub mod SameTypes
 pub mod Scoping
 pub mod ShortLists
+pub mod ShortNames
 pub mod ShortTrees
 pub mod Steps
 pub mod TailLemmas

@@ -1,4 +1,4 @@
--- The tokens in a tree are of their kinds, and so their numbers are those of tokens.
+-- The tokens in a tree are of their kinds, names and strings short ones, and so their numbers are those of tokens.
 use Rattle.std.proofs.Common.{◌≡◌, ℕ, zero, suc, ◌+◌, ◌<◌, Bool, true, false, List, [], ◌∷◌, length, Option, Some, None, refl, sym, ◌∙◌, arith}
 use Rattle.std.specs.Prelude.{All}
 use Rattle.std.proofs.lemmas.List.Elements.{All-nil, All-cons, All-head, All-tail}
@@ -13,6 +13,7 @@ use Rattle.xf_read_base.specs.declared.parts.Literal.{Literal}
 use Rattle.xf_read_base.specs.declared.parts.Literal.TheVariants as literal
 use Rattle.xf_read_base.specs.declared.parts.Parts.{Parts}
 use Rattle.xf_read_base.specs.declared.parts.Ref.{Ref}
+use Rattle.xf_read_base.specs.Rules.{is_symbol, is_name, is_string}
 use Rattle.xf_read.specs.declared.tree.File.{File}
 use Rattle.xf_read.specs.Tree.{Nodes, no_nodes, node, Bodies, no_bodies, body}
 use Rattle.xf_read.specs.Within.{RefWithin, SymbolWithin, LiteralWithin, ValueWithin, EntryWithin, PartsWithin, NodesWithin, BodiesWithin, FunctionsWithin, RootWithin, FileWithin}
@@ -25,7 +26,7 @@ IsOf k all at = is_kind k (seen all at) ≡ true
 
 abbrev pub SymbolOf : List Token → Option ℕ → Type 0
 SymbolOf all None = Unit {0}
-SymbolOf all (Some at) = IsOf kind.Symbol all at
+SymbolOf all (Some at) = is_symbol (seen all at) ≡ true
 
 abbrev pub LiteralOf : List Token → Option Literal → Type 0
 LiteralOf all None = Unit {0}
@@ -36,10 +37,10 @@ abbrev pub ValueOf : List Token → EntryValue → Type 0
 ValueOf all value.Unit = Unit {0}
 ValueOf all (value.Truth b) = Unit {0}
 ValueOf all (value.Integer negative at width) = IsOf kind.Integer all at
-ValueOf all (value.Text at) = IsOf kind.Text all at
+ValueOf all (value.Text at) = is_string (seen all at) ≡ true
 
 abbrev pub EntryOf : List Token → Entry → Type 0
-EntryOf all e = IsOf kind.Word all e.name × ValueOf all e.value
+EntryOf all e = (is_name (seen all e.name) ≡ true) × ValueOf all e.value
 
 abbrev pub NameOf : List Token → Ref → Type 0
 NameOf all r = IsOf kind.Value all r.token
@@ -91,7 +92,7 @@ all_so P Q f (x ∷ xs) a = All-cons Q x xs (f x (All-head P x xs a)) (all_so P 
 
 symbol_within : (all : List Token) (s : Option ℕ) → SymbolOf all s → SymbolWithin (length all) s
 symbol_within all None w = tt
-symbol_within all (Some at) w = at_kind kind.Symbol all at w
+symbol_within all (Some at) w = at_token is_symbol refl all at w
 
 literal_within : (all : List Token) (l : Option Literal) → LiteralOf all l → LiteralWithin (length all) l
 literal_within all None w = tt
@@ -102,7 +103,7 @@ value_within : (all : List Token) (v : EntryValue) → ValueOf all v → ValueWi
 value_within all value.Unit w = tt
 value_within all (value.Truth b) w = tt
 value_within all (value.Integer negative at width) w = at_kind kind.Integer all at w
-value_within all (value.Text at) w = at_kind kind.Text all at w
+value_within all (value.Text at) w = at_token is_string refl all at w
 
 pub parts_within : (all : List Token) (h : Parts) → Inside all h → PartsWithin (length all) h
 parts_within all h w =
@@ -111,7 +112,7 @@ parts_within all h w =
     record {
       symbol = symbol_within all h.symbol w.0;
       literal = literal_within all h.literal w.1.0;
-      entries = all_so (EntryOf all) (EntryWithin n) (λ e v. (at_kind kind.Word all e.name v.0, value_within all e.value v.1)) h.entries w.1.1.0;
+      entries = all_so (EntryOf all) (EntryWithin n) (λ e v. (at_token is_name refl all e.name v.0, value_within all e.value v.1)) h.entries w.1.1.0;
       defines = all_so (NameOf all) (RefWithin n) name h.defines w.1.1.1.0;
       args = all_so (NameOf all) (RefWithin n) name h.args w.1.1.1.1.0;
       uses = all_so (UseOf all) (RefWithin n) (λ r v. name r v.0) h.uses w.1.1.1.1.1;

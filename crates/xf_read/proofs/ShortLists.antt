@@ -32,7 +32,10 @@ use Rattle.xf_read.specs.Short.{HasShortLists, NoListIsLong, SpeltIsShort}
 use Rattle.xf_read.specs.Syntax.{lacks_yield}
 use Rattle.xf_read.specs.Tree.{Nodes, no_nodes, node, Bodies, no_bodies, body, Tree}
 use Rattle.xf_read.specs.Types.{one_type, results_by, args_by}
+use Rattle.xf_read.proofs.OfKind.{Inside, NodesOf, BodiesOf, FunctionsOf, RootOf, FileOf}
+use Rattle.xf_read.proofs.ShortNames.{entries_short, symbol_short}
 use Rattle.xf_read.proofs.ShortTrees.{NodesShort, BodiesShort, TreeShort, text_short}
+use Rattle.xf_read.proofs.TreesWithin.{text_of_kinds}
 
 -- ---- the lists of one operation
 
@@ -81,8 +84,8 @@ agreed : (all : List Token) (p : Parts) (scope : Scope) → agrees all p scope �
 agreed all p scope e = eqb-true (length p.args) (length (args_by p.row p)) (and_parts _ _ (and_parts _ _ e).1).1
 
 -- operation n of a text, where it agrees with its types
-head_lists : (all : List Token) (n : ℕ) (scope : Scope) (t : Tree) → HasShortParts t.parts → agrees all t.parts scope ≡ true → HasShortLists (tree_meant all n scope t)
-head_lists all n scope t s e =
+head_lists : (all : List Token) (n : ℕ) (scope : Scope) (t : Tree) → HasShortParts t.parts → Inside all t.parts → agrees all t.parts scope ≡ true → HasShortLists (tree_meant all n scope t)
+head_lists all n scope t s i e =
     let p : Parts = t.parts in
     let k = entries_grow all p.entries [] in
     let le = s.entries in
@@ -93,9 +96,11 @@ head_lists all n scope t s e =
     let lt : length (args_by p.row p) < 2 ^ 32 = omega (arith, a, names) in
     record {
       attributes = omega (arith, k, le);
+      names = entries_short all p.entries [] i.1.1.0 tt;
       operands = omega (arith, u, us);
       results = results_short p.row p s;
       arguments = arguments_short all (n + 1) p (inside all n p scope) t.bodies lt;
+      symbol = symbol_short all p.row p i;
       returned = returned_short all p.row p s;
     }
 
@@ -126,28 +131,45 @@ joined_short no_ops vs s t = t
 joined_short (op n k ds os ts rs rest) vs s t = (s.0, (s.1.0, joined_short rest vs s.1.1 t))
 
 yield_short : (b : Bool) (n : ℕ) → OpsShort (if b then op (op_name n) kind.Yield [] [] [] no_regions no_ops else no_ops)
-yield_short true n = (record { attributes = omega arith; operands = omega arith; results = omega arith; arguments = tt; returned = omega arith }, (tt, tt))
+yield_short true n = (record { attributes = omega arith; names = tt; operands = omega arith; results = omega arith; arguments = tt; symbol = tt; returned = omega arith }, (tt, tt))
 yield_short false n = tt
 
+-- the operations of each body, whether it is closed or not
+abbrev BodiesInside : List Token → Bodies → Type 0
+BodiesInside all no_bodies = Unit {0}
+BodiesInside all (body ns close rest) = NodesOf all ns × BodiesInside all rest
+
+bodies_inside : (all : List Token) (bs : Bodies) → BodiesOf all bs → BodiesInside all bs
+bodies_inside all no_bodies w = tt
+bodies_inside all (body ns close rest) w = (w.0, bodies_inside all rest w.1.1)
+
+functions_inside : (all : List Token) (bs : Bodies) → FunctionsOf all bs → BodiesInside all bs
+functions_inside all no_bodies w = tt
+functions_inside all (body ns close rest) w = (w.0, bodies_inside all rest w.1)
+
+root_inside : (all : List Token) (written : Bool) (first : ℕ) (p : Parts) (bs : Bodies) → RootOf all written first p bs → Inside all p × BodiesInside all bs
+root_inside all true first p bs w = (w.1.0, bodies_inside all bs w.1.1.0)
+root_inside all false first p bs w = (w.0, functions_inside all bs w.1)
+
 mutual
-  nodes_lists : (all : List Token) (n : ℕ) (scope : Scope) (ns : Nodes) → NodesShort ns → (nodes_faults all n scope ns).mismatch ≡ None → OpsShort (nodes_meant all n scope ns)
-  nodes_lists all n scope no_nodes s e = tt
-  nodes_lists all n scope (node first p bs rest) s e =
+  nodes_lists : (all : List Token) (n : ℕ) (scope : Scope) (ns : Nodes) → NodesShort ns → NodesOf all ns → (nodes_faults all n scope ns).mismatch ≡ None → OpsShort (nodes_meant all n scope ns)
+  nodes_lists all n scope no_nodes s w e = tt
+  nodes_lists all n scope (node first p bs rest) s w e =
       let f = none_earlier _ _ e in
       let g = none_earlier _ _ f.0 in (
-        head_lists all n scope (record { first = first; parts = p; bodies = bs }) s.0 (unless (agrees all p scope) first g.0),
+        head_lists all n scope (record { first = first; parts = p; bodies = bs }) s.0 w.1.0 (unless (agrees all p scope) first g.0),
         (
-          bodies_lists all (n + 1) p (inside all n p scope) bs s.1.0 g.1,
-          nodes_lists all (n + (1 + bodies_count p bs)) (behind all n p scope) rest s.1.1 f.1,
+          bodies_lists all (n + 1) p (inside all n p scope) bs s.1.0 (bodies_inside all bs w.1.1.0) g.1,
+          nodes_lists all (n + (1 + bodies_count p bs)) (behind all n p scope) rest s.1.1 w.1.1.1 f.1,
         ),
       )
 
-  bodies_lists : (all : List Token) (n : ℕ) (p : Parts) (scope : Scope) (bs : Bodies) → BodiesShort bs → (bodies_faults all n p scope bs).mismatch ≡ None → RegionsShort (bodies_meant all n p scope bs)
-  bodies_lists all n p scope no_bodies s e = tt
-  bodies_lists all n p scope (body ns close rest) s e =
+  bodies_lists : (all : List Token) (n : ℕ) (p : Parts) (scope : Scope) (bs : Bodies) → BodiesShort bs → BodiesInside all bs → (bodies_faults all n p scope bs).mismatch ≡ None → RegionsShort (bodies_meant all n p scope bs)
+  bodies_lists all n p scope no_bodies s w e = tt
+  bodies_lists all n p scope (body ns close rest) s w e =
       let f = none_earlier _ _ e in (
-        joined_short (nodes_meant all n scope ns) (left_out p ns (n + nodes_count ns)) (nodes_lists all n scope ns s.0 f.0) (yield_short (lacks_yield p ns) (n + nodes_count ns)),
-        bodies_lists all (n + (nodes_count ns + yield_count p ns)) p scope rest s.1 f.1,
+        joined_short (nodes_meant all n scope ns) (left_out p ns (n + nodes_count ns)) (nodes_lists all n scope ns s.0 w.0 f.0) (yield_short (lacks_yield p ns) (n + nodes_count ns)),
+        bodies_lists all (n + (nodes_count ns + yield_count p ns)) p scope rest s.1 w.1 f.1,
       )
 
 -- ---- where they stand
@@ -181,13 +203,14 @@ blocks_each h (region args ops rest) s = each_both IsShort (functions_placed h o
 
 -- ---- texts
 
-tree_lists : (all : List Token) (file : File) → TreeShort file.root → (tree_faults all 0 no_names file.root).mismatch ≡ None → NoListIsLong (meant all file)
-tree_lists all file s e =
+tree_lists : (all : List Token) (file : File) → TreeShort file.root → FileOf all file → (tree_faults all 0 no_names file.root).mismatch ≡ None → NoListIsLong (meant all file)
+tree_lists all file s k e =
     let t : Tree = file.root in
+    let w = root_inside all file.written t.first t.parts t.bodies k in
     let f = none_earlier _ _ e in (
-      head_lists all 0 no_names t s.0 (unless (agrees all t.parts no_names) t.first f.0),
-      blocks_each (root_holder (tree_meant all 0 no_names t)) (bodies_meant all 1 t.parts (inside all 0 t.parts no_names) t.bodies) (bodies_lists all 1 t.parts (inside all 0 t.parts no_names) t.bodies s.1 f.1),
+      head_lists all 0 no_names t s.0 w.0 (unless (agrees all t.parts no_names) t.first f.0),
+      blocks_each (root_holder (tree_meant all 0 no_names t)) (bodies_meant all 1 t.parts (inside all 0 t.parts no_names) t.bodies) (bodies_lists all 1 t.parts (inside all 0 t.parts no_names) t.bodies s.1 w.1 f.1),
     )
 
 pub spelt_is_short : SpeltIsShort
-spelt_is_short bytes m s = subst NoListIsLong s.means (tree_lists s.tokens s.file (text_short s.tokens s.file s.is_text) (ap (λ (f : Faults). f.mismatch) s.no_fault))
+spelt_is_short bytes m s = subst NoListIsLong s.means (tree_lists s.tokens s.file (text_short s.tokens s.file s.is_text) (text_of_kinds s.tokens s.file s.is_text) (ap (λ (f : Faults). f.mismatch) s.no_fault))
