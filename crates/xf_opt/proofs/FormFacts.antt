@@ -24,8 +24,8 @@ use Rattle.xf_ir.specs.Spots.{ops_length}
 use Rattle.xf_ir.specs.Tree.{Ops, no_ops, op, Regions, no_regions, region, Tree}
 use Rattle.xf_ir.specs.Types.{have_types, same_types}
 use Rattle.xf_ir.proofs.Lists.{each_left, each_right, each_both, each_map}
-use Rattle.xf_read.specs.Short.{HasShortLists}
-use Rattle.xf_roundtrip.specs.Printable.{AllBytes, HasShortSymbol, HasShortNames}
+use Rattle.xf_read.specs.Short.{HasShortLists, HasShortSymbol}
+use Rattle.xf_roundtrip.specs.Printable.{AllBytes}
 use Rattle.xf_roundtrip.specs.PrintedLaws.{OpsNest, RegionsNest, IsWithin}
 use Rattle.xf_roundtrip.specs.Printing.{is_core, all_scalar, is_core_op, IsCore}
 use Rattle.xf_roundtrip.specs.Stored.{IsStored}
@@ -105,14 +105,12 @@ record IsSimple (p : Placed) : Type 0 where
   core : is_core_op p.tree ≡ true
   short : HasShortLists p.tree
   bytes : AllBytes p
-  names : HasShortNames p
 
 step_simple : (h : Holder) (env : Typed) (n : OpName) (k : Kind) (os : List ValueName) (ts : List PayloadType) (after : Ops) → IsCoreKind k → IsFew ts → length os ≤ 2 → IsSimple (place h env (record { name = n; kind = k; attrs = []; operands = os; results = ts; regions = no_regions }) after)
 step_simple h env n k os ts after c f few = record {
   core = and_from (is_core k) _ c.core (and_from (all_scalar ts) _ f.scalars (and_from (all_scalar (returned_types k)) true (rw c.returns refl) refl));
-  short = record { attributes = omega arith; operands = omega (arith, few); results = let x = f.count in omega arith; arguments = tt; returned = rw c.returns (omega arith) };
+  short = record { attributes = omega arith; names = tt; operands = omega (arith, few); results = let x = f.count in omega arith; arguments = tt; symbol = c.symbol; returned = rw c.returns (omega arith) };
   bytes = tt;
-  names = (tt, c.symbol);
 }
 
 -- each has its types
@@ -144,17 +142,15 @@ module_simple : (h : Holder) (env : Typed) (t : Tree) (after : Ops) → t.kind �
     → Each (λ (ts : List PayloadType). length ts < 2 ^ 32) (block_args t.regions) → IsSimple (place h env t after)
 module_simple h env t after k a r o s few = record {
   core = rw (k, r) s;
-  short = record { attributes = rw a (omega arith); operands = omega (arith, o); results = rw r (omega arith); arguments = few; returned = rw k (omega arith) };
+  short = record { attributes = rw a (omega arith); names = rw a tt; operands = omega (arith, o); results = rw r (omega arith); arguments = few; symbol = rw k tt; returned = rw k (omega arith) };
   bytes = rw a tt;
-  names = (rw a tt, rw k tt);
 }
 
 function_simple : (h : Holder) (n : OpName) (symbol : List ℕ) (results : List PayloadType) (os : List ValueName) (args : List PayloadType) (ops after : Ops) → is_one_i32 results ≡ true → every is_i32 args ≡ true → length os ≡ 0 → length args < 2 ^ 32 → length symbol < 2 ^ 32 → IsSimple (place h [] (record { name = n; kind = kind.Func symbol false results; attrs = []; operands = os; results = []; regions = region args ops no_regions }) after)
 function_simple h n symbol results os args ops after r a o few short = record {
   core = and_from (all_scalar results) _ (one_scalar results r) (and_from (all_scalar args) true (all_scalars args a) refl);
-  short = record { attributes = omega arith; operands = omega (arith, o); results = omega arith; arguments = (few, tt); returned = let one = one_few results r in omega (arith, one) };
+  short = record { attributes = omega arith; names = tt; operands = omega (arith, o); results = omega arith; arguments = (few, tt); symbol = short; returned = let one = one_few results r in omega (arith, one) };
   bytes = tt;
-  names = (tt, short);
 }
 
 function_placed : (sigs : Signatures) (h : Holder) (n : OpName) (symbol : List ℕ) (results : List PayloadType) (os : List ValueName) (args : List PayloadType) (ops : Ops)
@@ -210,7 +206,6 @@ pub form_is_stored : (m : Module) → IsFirstForm m → IsStored m
 form_is_stored m f = record {
   lists = each_map IsSimple (λ (p : Placed). HasShortLists p.tree) (placed m) (λ p s. s.short) (all_simple m f);
   bytes = each_map IsSimple AllBytes (placed m) (λ p s. s.bytes) (all_simple m f);
-  names = each_map IsSimple HasShortNames (placed m) (λ p s. s.names) (all_simple m f);
 }
 
 -- ---- limits

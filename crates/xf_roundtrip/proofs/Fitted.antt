@@ -31,7 +31,7 @@ use Rattle.xf_read.specs.Short.{HasShortLists}
 use Rattle.xf_read.specs.Syntax.{most_operations}
 use Rattle.xf_print.specs.Names.{Entry, Names, no_names, with_ops, first_args, next_number, number_of, first_of}
 use Rattle.xf_roundtrip.specs.Printing.{is_core, all_scalar, is_core_op, IsCore}
-use Rattle.xf_roundtrip.specs.Printable.{AllBytes, HasShortNames, FunctionsNumber}
+use Rattle.xf_roundtrip.specs.Printable.{AllBytes, FunctionsNumber}
 use Rattle.xf_roundtrip.proofs.Needs.{Known, IsScalar, Fits, OpsFit, RegionsFit, FunctionsFit, ModuleFits}
 use Rattle.xf_roundtrip.specs.Stored.{IsStored}
 use Rattle.xf_roundtrip.proofs.Again.{ops_number, regions_number, ops_argument, regions_argument, ops_number_more, regions_number_more, ops_argument_more, regions_argument_more}
@@ -104,11 +104,10 @@ pub record Rules (sigs : Signatures) (p : Placed) : Type 0 where
   pub core : is_core_op p.tree ≡ true
   pub short : HasShortLists p.tree
   pub bytes : AllBytes p
-  pub names : HasShortNames p
 
-rules_of : (sigs : Signatures) (xs : List Placed) → Each (λ p. has_its_regions p ≡ true) xs → Each (λ p. ends_its_blocks p ≡ true) xs → Each (λ p. has_its_types sigs p ≡ true) xs → Each (λ p. has_its_attributes p ≡ true) xs → Each (λ (p : Placed). is_core_op p.tree ≡ true) xs → Each (λ (p : Placed). HasShortLists p.tree) xs → Each AllBytes xs → Each HasShortNames xs → Each (Rules sigs) xs
-rules_of sigs [] a b c d e f g i = tt
-rules_of sigs (x ∷ xs) a b c d e f g i = (record { regions = a.0; blocks = b.0; types = c.0; attributes = d.0; core = e.0; short = f.0; bytes = g.0; names = i.0 }, rules_of sigs xs a.1 b.1 c.1 d.1 e.1 f.1 g.1 i.1)
+rules_of : (sigs : Signatures) (xs : List Placed) → Each (λ p. has_its_regions p ≡ true) xs → Each (λ p. ends_its_blocks p ≡ true) xs → Each (λ p. has_its_types sigs p ≡ true) xs → Each (λ p. has_its_attributes p ≡ true) xs → Each (λ (p : Placed). is_core_op p.tree ≡ true) xs → Each (λ (p : Placed). HasShortLists p.tree) xs → Each AllBytes xs → Each (Rules sigs) xs
+rules_of sigs [] a b c d e f g = tt
+rules_of sigs (x ∷ xs) a b c d e f g = (record { regions = a.0; blocks = b.0; types = c.0; attributes = d.0; core = e.0; short = f.0; bytes = g.0 }, rules_of sigs xs a.1 b.1 c.1 d.1 e.1 f.1 g.1)
 
 -- an operation that keeps the rules fits, where its entry and its operands are known
 op_fits : (names : Names) (sigs : Signatures) (h : Holder) (env : Typed) (n : OpName) (k : Kind) (ds : List Attr) (os : List ValueName) (ts : List PayloadType) (rs : Regions) (after rest : Ops)
@@ -122,7 +121,7 @@ op_fits names sigs h env n k ds os ts rs after rest r last values number first =
     record {
       core = c.0;
       kind_fit = at.0;
-      attrs = attrs_right ds at.1 r.bytes r.names.0;
+      attrs = attrs_right ds at.1 r.bytes r.short.names;
       values = values;
       count = counts sigs h.gives k env os ts r.types;
       regions = regions_right k (map (type_at env) os) ts rs c.0 r.regions;
@@ -133,7 +132,7 @@ op_fits names sigs h env n k ds os ts rs after rest r last values number first =
       returned = all_are_scalar (returned_types k) e.0;
       number = number;
       first = first;
-      few = record { attributes = r.short.attributes; operands = r.short.operands; results = r.short.results; arguments = first_short rs r.short.arguments; returned = r.short.returned; symbol = r.names.1 };
+      few = record { attributes = r.short.attributes; operands = r.short.operands; results = r.short.results; arguments = first_short rs r.short.arguments; returned = r.short.returned; symbol = r.short.symbol };
       last = last;
     }
 
@@ -263,7 +262,7 @@ module_fits m v core st few =
     let t = m.root in
     let sigs = signatures m in
     let h = root_holder t in
-    let rules = rules_of sigs (placed m) v.regions v.blocks v.types v.attributes core st.lists st.bytes st.names in
+    let rules = rules_of sigs (placed m) v.regions v.blocks v.types v.attributes core st.lists st.bytes in
     let k = module_kind t.kind v.functions.root in
     let empty = root_empty sigs t.kind k.0 (map (type_at []) t.operands) t.results k.1 v.types.0 in
     let one : t.regions ≡ region [] (block_of t.regions) no_regions = one_block t.kind v.functions.root (map (type_at []) t.operands) t.results t.regions v.regions.0 in

@@ -1,5 +1,6 @@
 -- What the tokens of a head mean is what they say in bytes.
 use Rattle.std.proofs.Common.{◌≡◌, ℕ, ◌+◌, Bool, true, false, List, [], ◌∷◌, drop, Option, Some, None, refl, sym, ap, ◌∙◌, slice_get}
+use Rattle.std.proofs.lemmas.Bool.{and_parts}
 use Rattle.std.specs.Prelude.{All, map, is_some, option_map}
 use Rattle.std.proofs.lemmas.List.Elements.{All-head, All-tail}
 use Rattle.xf_type.specs.declared.attribute.AttrValue.TheVariants as attr
@@ -172,11 +173,11 @@ attr_value_is : (all : List Token) (v : EntryValue) → ValueOf all v → value_
 attr_value_is all value.Unit w = refl
 attr_value_is all (value.Truth b) w = refl
 attr_value_is all (value.Integer negative at width) w = ap (λ n. attr.Int width (wrapped width (signed negative n))) (number_is all at w)
-attr_value_is all (value.Text at) w = ap (λ bytes. attr.Text (decoded bytes)) (text_is kind_of.Text string_shows all at w)
+attr_value_is all (value.Text at) w = ap (λ bytes. attr.Text (decoded bytes)) (text_is kind_of.Text string_shows all at (and_parts _ _ w).0)
 
 attr_is : (all : List Token) (e : Entry) → EntryOf all e → attr_of all e ≡ attr_said (entry_said all e)
 attr_is all e w =
-    let p = word_is all e.name w.0 in
+    let p = word_is all e.name (and_parts _ _ w.0).0 in
     let q = attr_value_is all e.value w.1 in
     λ i. record { name = p i; value = q i }
 
@@ -197,11 +198,11 @@ bits_are all w (Some (literal.Integer negative at)) p = ap (integer_bits w negat
 
 module_name_is : (all : List Token) (s : Option ℕ) → SymbolOf all s → option_map (symbol_of all) s ≡ option_map (drop 1) (option_map (text_at all) s)
 module_name_is all None w = refl
-module_name_is all (Some at) w = ap (λ bytes. Some (drop 1 bytes)) (symbol_is all at w)
+module_name_is all (Some at) w = ap (λ bytes. Some (drop 1 bytes)) (symbol_is all at (and_parts _ _ w).0)
 
 symbol_word_is : (all : List Token) (s : Option ℕ) → SymbolOf all s → symbol_or all s ≡ word_said (option_map (text_at all) s)
 symbol_word_is all None w = refl
-symbol_word_is all (Some at) w = ap (drop 1) (symbol_is all at w)
+symbol_word_is all (Some at) w = ap (drop 1) (symbol_is all at (and_parts _ _ w).0)
 
 pub kind_is : (r : Row) (all : List Token) (p : Parts) → Inside all p → kind_by all r p ≡ kind_said r (said all p)
 kind_is row.Module all p w = ap kind.Module (module_name_is all p.symbol w.0)
@@ -236,7 +237,7 @@ SymbolNamed all (Some at) s = s ≡ Some (text all at)
 
 pub function_is : (r : Row) (all : List Token) (s : Option ℕ) → SymbolOf all s → SymbolNamed all (function_symbol r s) (function_named r (option_map (text_at all) s))
 function_is row.Function all None w = refl
-function_is row.Function all (Some at) w = ap Some (sym (symbol_is all at w))
+function_is row.Function all (Some at) w = ap Some (sym (symbol_is all at (and_parts _ _ w).0))
 function_is row.Module all s w = refl
 function_is row.Return all s w = refl
 function_is row.Call all s w = refl

@@ -1,5 +1,6 @@
 -- No check of names or types finds a fault exactly where what the tokens say is right.
 use Rattle.std.proofs.Common.{◌≡◌, ℕ, ◌+◌, ◌==◌, Bool, true, false, ◌&&◌, not, cond, List, [], ◌∷◌, length, Option, Some, None, refl, sym, ap, ◌∙◌, slice_get}
+use Rattle.std.proofs.lemmas.Bool.{and_parts}
 use Rattle.std.specs.Prelude.{All, map, is_some, option_map}
 use Rattle.std.proofs.lemmas.List.{length-map}
 use Rattle.std.proofs.lemmas.List.Elements.{All-head, All-tail}
@@ -109,7 +110,7 @@ entries_free : (all : List Token) (names : List ℕ → Bool) (es : List Entry) 
 unfolding free
 entries_free all names [] w = refl
 entries_free all names (e ∷ es) w =
-    let a = word_is all e.name (All-head (EntryOf all) e es w).0 in
+    let a = word_is all e.name (and_parts _ _ (All-head (EntryOf all) e es w).0).0 in
     let b = entries_free all (also (text all e.name) names) es (All-tail (EntryOf all) e es w) in
     free_unless (names (text all e.name)) (entries_twice all (also (text all e.name) names) es) e.name
     ∙ ap (λ c. not (names (text all e.name)) && c) b

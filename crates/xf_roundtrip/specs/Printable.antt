@@ -1,10 +1,8 @@
 -- Modules whose printed form says them again: valid ones of builtin, func, arith and scf.
-use Rattle.std.specs.Prelude.{◌^◌, ◌<◌, ◌≤◌, length, Some}
+use Rattle.std.specs.Prelude.{◌^◌, ◌<◌, ◌≤◌, length}
 use Rattle.xf_type.specs.declared.attribute.AttrValue.{AttrValue}
 use Rattle.xf_type.specs.declared.attribute.AttrValue.TheVariants as attr
 use Rattle.xf_ir.specs.declared.kind.Attr.{Attr}
-use Rattle.xf_ir.specs.declared.kind.Kind.{Kind}
-use Rattle.xf_ir.specs.declared.kind.Kind.TheVariants as kind
 use Rattle.xf_ir.specs.declared.op.Module.{Module}
 use Rattle.xf_ir.specs.Lists.{Each}
 use Rattle.xf_ir.specs.Placed.{Placed, placed, Everywhere, functions_of}
@@ -22,26 +20,6 @@ HasBytes (attr.Text bytes) = Each (λ b. b < 256) bytes
 
 abbrev pub AllBytes : Placed → Type 0
 AllBytes p = Each (λ (d : Attr). HasBytes d.value) p.tree.attrs
-
--- a string is shorter than 2 ^ 32
-abbrev pub HasShortText : AttrValue → Type 0
-HasShortText attr.Unit = Unit {0}
-HasShortText (attr.Int width bits) = Unit {0}
-HasShortText (attr.Text bytes) = length bytes < 2 ^ 32
-
--- the name of an attribute is, and so is its string
-abbrev pub IsShortAttr : Attr → Type 0
-IsShortAttr d = (length d.name < 2 ^ 32) × HasShortText d.value
-
--- so is the symbol of a module, a function or a call
-abbrev pub HasShortSymbol : Kind → Type 0
-HasShortSymbol (kind.Module (Some symbol)) = length symbol < 2 ^ 32
-HasShortSymbol (kind.Func symbol private results) = length symbol < 2 ^ 32
-HasShortSymbol (kind.Call callee) = length callee < 2 ^ 32
-HasShortSymbol k = Unit {0}
-
-abbrev pub HasShortNames : Placed → Type 0
-HasShortNames p = Each IsShortAttr p.tree.attrs × HasShortSymbol p.tree.kind
 
 -- no block has more than 2 ^ 32 arguments
 abbrev pub HasFewArguments : Placed → Type 0
