@@ -23,6 +23,7 @@ pub mod Spelling
 pub mod Spots
 pub mod Bounds
 pub mod Changes
+pub mod Defined
 pub mod Edits
 pub mod Choices
 pub mod Used

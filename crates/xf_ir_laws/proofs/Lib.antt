@@ -17,3 +17,9 @@ pub mod MovedBack
 pub mod ChangeLemmas
 pub mod AttributedTrees
 pub mod InverseLaws
+pub mod DefinedLemmas
+pub mod ChangedPlaces
+pub mod GoneTrees
+pub mod NextAbove
+pub mod InverseFits
+pub mod Replays
