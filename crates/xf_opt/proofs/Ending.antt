@@ -6,7 +6,7 @@ use Rattle.xf_host.specs.declared.sink.SinkFail.TheVariants as failed
 use Rattle.xf_span.specs.declared.code.Code.TheVariants.{N1}
 use Rattle.xf_span.specs.declared.fault.Fault.{Fault}
 use Rattle.xf_span.specs.Fault.{fault_at}
-use Rattle.xf_lex.specs.Lexes.{first_place}
+use Rattle.xf_span.specs.Place.{first_place}
 use Rattle.xf_ir.specs.declared.op.Module.{Module}
 use Rattle.xf_ir.specs.Valid.{IsValid}
 use Rattle.xf_ir.specs.Choices.{weight_at}

@@ -5,7 +5,8 @@ use Rattle.xf_span.specs.declared.fault.TextFault.{TextFault}
 use Rattle.xf_span.specs.declared.fault.TextFault.TheVariants as text_fault
 use Rattle.xf_ir.specs.declared.op.Module.{Module}
 use Rattle.xf_read.specs.Spells.{Spells, HasPlaces, IsUnread}
-use Rattle.xf_payload.specs.Payload.{file_limit, IsRefused, IsJudged}
+use Rattle.xf_span.specs.Limit.{file_limit}
+use Rattle.xf_payload.specs.Payload.{IsRefused, IsJudged}
 
 -- its bytes spell no module
 pub unread_refused : (file : List ℕ) (e : TextFault) → length file ≤ file_limit → IsUnread file e → IsRefused file e

@@ -1,6 +1,6 @@
 use Rattle.std.proofs.Common.{◌≡◌, drop}
-use Rattle.xf_lex.specs.Lexes.{place_after}
-use Rattle.xf_lex.proofs.place.place_after.Given as goal
+use Rattle.xf_span.specs.Place.{place_after}
+use Rattle.xf_span.proofs.place.place_after.Given as goal
 
 -- the place behind all is the one behind the rest, from here on
 abbrev pub invariant-loop-b : goal.invariant-loop-b
