@@ -24,6 +24,7 @@ pub mod Spots
 pub mod Bounds
 pub mod Changes
 pub mod Edits
+pub mod Replaced
 pub mod Choices
 pub mod Laws
 pub mod Used
