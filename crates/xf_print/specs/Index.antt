@@ -4,7 +4,7 @@ use Rattle.std.specs.Ordering.{nat_cmp}
 use Rattle.std.specs.BTreeMap.{get}
 use Rattle.xf_print.specs.declared.index.Defined.{Defined}
 use Rattle.xf_print.specs.declared.index.Index.{Index}
-use Rattle.xf_print.specs.Names.{Entry, Names}
+use Rattle.xf_ir.specs.PrintedNames.{Entry, Names}
 
 abbrev pub entry_of : Defined → Entry
 entry_of d = record { number = d.number; results = d.results.now; first = d.first; args = d.args.now }

@@ -1,11 +1,11 @@
 //! The rows of arith, appended to the line so far. They refuse for want of memory alone.
 ghost use Rattle.std.specs.Prelude.{◌≡◌, ◌++◌, OnOk, [], codes};
 ghost use Rattle.xf_ir.specs.declared.kind.Kind.TheVariants as kind;
-ghost use Rattle.xf_print.specs.Attributes.{attrs_text};
+ghost use Rattle.xf_ir.specs.PrintedAttributes.{attrs_text};
 ghost use Rattle.xf_print.specs.Index.{names_of};
-ghost use Rattle.xf_print.specs.Names.{no_names, values_text};
-ghost use Rattle.xf_print.specs.Rows.{row_text};
-ghost use Rattle.xf_print.specs.Words.{width_text};
+ghost use Rattle.xf_ir.specs.PrintedNames.{no_names, values_text};
+ghost use Rattle.xf_ir.specs.PrintedRows.{row_text};
+ghost use Rattle.xf_ir.specs.PrintedWords.{width_text};
 
 use crate::attributes::write_attrs;
 use crate::dense::write_body;

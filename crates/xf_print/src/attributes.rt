@@ -1,8 +1,8 @@
 //! Dictionaries of attributes, appended to the line so far. They refuse for want of memory alone.
 ghost use Rattle.std.specs.Prelude.{◌≡◌, ◌<◌, ◌++◌, OnOk, map};
 ghost use Rattle.std.specs.List.{flat_map};
-ghost use Rattle.xf_print.specs.Attributes.{hex_digit, is_plain, byte_text, string_text, value_text, entry_text, dictionary_behind, attrs_text};
-ghost use Rattle.xf_print.specs.Words.{listed};
+ghost use Rattle.xf_ir.specs.PrintedAttributes.{hex_digit, is_plain, byte_text, string_text, value_text, entry_text, dictionary_behind, attrs_text};
+ghost use Rattle.xf_ir.specs.PrintedWords.{listed};
 
 use crate::number::write_literal;
 use xf_ir::Attr;

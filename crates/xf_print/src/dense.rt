@@ -1,9 +1,9 @@
 //! The bodies of dense constants, appended to the line so far. They refuse for want of memory alone.
 ghost use Rattle.std.specs.Prelude.{◌≡◌, ◌∷◌, ◌++◌, ◌/◌, OnOk, IfOk, map, take, drop};
 ghost use Rattle.xf_type.specs.declared.payload_type.Dim.TheVariants.{Fixed};
-ghost use Rattle.xf_print.specs.Dense.{rows, nested, body_text};
-ghost use Rattle.xf_print.specs.Numbers.{number_text};
-ghost use Rattle.xf_print.specs.Words.{listed};
+ghost use Rattle.xf_ir.specs.PrintedDense.{rows, nested, body_text};
+ghost use Rattle.xf_ir.specs.PrintedNumbers.{number_text};
+ghost use Rattle.xf_ir.specs.PrintedWords.{listed};
 
 use crate::number::write_number_of;
 use xf_type::{Dim, NoMemory, Shape, Width};

@@ -2,9 +2,9 @@
 ghost use Rattle.std.specs.Prelude.{◌≡◌, ◌++◌, OnOk, []};
 ghost use Rattle.xf_ir.specs.declared.kind.Kind.TheVariants as kind;
 ghost use Rattle.xf_print.specs.Index.{names_of};
-ghost use Rattle.xf_print.specs.Attributes.{attrs_text};
-ghost use Rattle.xf_print.specs.Names.{no_names};
-ghost use Rattle.xf_print.specs.Rows.{symbol_text, attributes_text, private_text, returned_text, given_text, row_text};
+ghost use Rattle.xf_ir.specs.PrintedAttributes.{attrs_text};
+ghost use Rattle.xf_ir.specs.PrintedNames.{no_names};
+ghost use Rattle.xf_ir.specs.PrintedRows.{symbol_text, attributes_text, private_text, returned_text, given_text, row_text};
 
 use crate::attributes::write_dictionary;
 use crate::index::Index;

@@ -4,7 +4,7 @@ ghost use Rattle.std.specs.Option.{option_map, option_copied};
 ghost use Rattle.xf_ir.specs.Tree.{cons, no_ops};
 ghost use Rattle.xf_ir.specs.View.{ops_of, regions_of};
 ghost use Rattle.xf_print.specs.Index.{entry_of, names_of};
-ghost use Rattle.xf_print.specs.Names.{no_names, with_op, with_ops, with_regions, first_args, next_number, result_part, result_text, argument_text, name_text, type_of, value_type, number_of, first_of};
+ghost use Rattle.xf_ir.specs.PrintedNames.{no_names, with_op, with_ops, with_regions, first_args, next_number, result_part, result_text, argument_text, name_text, type_of, value_type, number_of, first_of};
 
 use crate::words::{write_number, write_type};
 use std::alloc::{AllocError, Global};

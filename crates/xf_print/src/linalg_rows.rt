@@ -1,10 +1,10 @@
 //! The rows of linalg, appended to the line so far. They refuse for want of memory alone.
 ghost use Rattle.std.specs.Prelude.{◌≡◌, ◌++◌, OnOk, [], map, codes};
 ghost use Rattle.xf_ir.specs.declared.kind.Kind.TheVariants as kind;
-ghost use Rattle.xf_print.specs.Attributes.{attrs_text, dictionary_behind};
+ghost use Rattle.xf_ir.specs.PrintedAttributes.{attrs_text, dictionary_behind};
 ghost use Rattle.xf_print.specs.Index.{names_of};
-ghost use Rattle.xf_print.specs.Rows.{ins_text, outs_text, structured_text, dimension_texts, map_text, generic_text, row_text};
-ghost use Rattle.xf_print.specs.Words.{listed, arrow_types, dimension_text, iterator_text};
+ghost use Rattle.xf_ir.specs.PrintedRows.{ins_text, outs_text, structured_text, dimension_texts, map_text, generic_text, row_text};
+ghost use Rattle.xf_ir.specs.PrintedWords.{listed, arrow_types, dimension_text, iterator_text};
 
 use crate::attributes::write_dictionary;
 use crate::index::Index;

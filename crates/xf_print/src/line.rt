@@ -1,10 +1,10 @@
 //! Whole lines, each made in a buffer that is used again. They refuse for want of memory alone.
 ghost use Rattle.std.specs.Prelude.{◌≡◌, ◌*◌, ◌-◌, ◌++◌, OnOk, [], ◌∷◌, replicate, codes};
-ghost use Rattle.xf_print.specs.Attributes.{attrs_text};
+ghost use Rattle.xf_ir.specs.PrintedAttributes.{attrs_text};
 ghost use Rattle.xf_print.specs.Index.{names_of};
-ghost use Rattle.xf_print.specs.Names.{first_args, first_of, param_texts};
-ghost use Rattle.xf_print.specs.Printed.{line_at, op_text};
-ghost use Rattle.xf_print.specs.Words.{listed, arrow_types};
+ghost use Rattle.xf_ir.specs.PrintedNames.{first_args, first_of, param_texts};
+ghost use Rattle.xf_ir.specs.PrintedForm.{line_at, op_text};
+ghost use Rattle.xf_ir.specs.PrintedWords.{listed, arrow_types};
 
 use crate::index::{Index, first_args};
 use crate::row::write_op;

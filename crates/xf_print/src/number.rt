@@ -2,7 +2,7 @@
 ghost use Rattle.std.specs.Prelude.{◌≡◌, ◌-◌, ◌^◌, ◌++◌, OnOk};
 ghost use Rattle.std.specs.Fmt.{signed_decimal};
 ghost use Rattle.xf_type.specs.Integers.{bits_of, signed_value};
-ghost use Rattle.xf_print.specs.Numbers.{truth_text, number_text, literal_text};
+ghost use Rattle.xf_ir.specs.PrintedNumbers.{truth_text, number_text, literal_text};
 
 use crate::words::{write_number, write_width};
 use xf_type::{NoMemory, Width};

@@ -1,9 +1,9 @@
 //! The row of an operation, by its kind.
 ghost use Rattle.std.specs.Prelude.{◌≡◌, ◌++◌, OnOk};
 ghost use Rattle.xf_print.specs.Index.{names_of};
-ghost use Rattle.xf_print.specs.Names.{first_args, first_of, number_of, results_text};
-ghost use Rattle.xf_print.specs.Printed.{op_text};
-ghost use Rattle.xf_print.specs.Rows.{row_text};
+ghost use Rattle.xf_ir.specs.PrintedNames.{first_args, first_of, number_of, results_text};
+ghost use Rattle.xf_ir.specs.PrintedForm.{op_text};
+ghost use Rattle.xf_ir.specs.PrintedRows.{row_text};
 
 use crate::arith_rows::{write_compare, write_constant, write_convert, write_dense, write_simple};
 use crate::func_rows::{Signature, write_call, write_func, write_giving, write_module};

@@ -2,9 +2,9 @@
 ghost use Rattle.std.specs.Prelude.{◌≡◌, ◌+◌, ◌++◌, OnOk, [], drop, codes};
 ghost use Rattle.xf_ir.specs.declared.kind.Kind.TheVariants as kind;
 ghost use Rattle.xf_print.specs.Index.{names_of};
-ghost use Rattle.xf_print.specs.Names.{argument_text, carried_texts};
-ghost use Rattle.xf_print.specs.Rows.{carried_text, bound_text, chosen_text, row_text};
-ghost use Rattle.xf_print.specs.Words.{listed, types_text};
+ghost use Rattle.xf_ir.specs.PrintedNames.{argument_text, carried_texts};
+ghost use Rattle.xf_ir.specs.PrintedRows.{carried_text, bound_text, chosen_text, row_text};
+ghost use Rattle.xf_ir.specs.PrintedWords.{listed, types_text};
 
 use crate::index::{Index, write_argument};
 use crate::values::{

@@ -2,8 +2,8 @@
 ghost use Rattle.std.specs.Prelude.{◌≡◌, ◌++◌, OnOk, IfOk, [], map, drop};
 ghost use Rattle.xf_ir.specs.declared.kind.Kind.TheVariants as kind;
 ghost use Rattle.xf_print.specs.Index.{names_of};
-ghost use Rattle.xf_print.specs.Rows.{place_text, behind_place, place_texts, behind_places, stride_text, window_text, row_text};
-ghost use Rattle.xf_print.specs.Words.{listed};
+ghost use Rattle.xf_ir.specs.PrintedRows.{place_text, behind_place, place_texts, behind_places, stride_text, window_text, row_text};
+ghost use Rattle.xf_ir.specs.PrintedWords.{listed};
 
 use crate::index::Index;
 use crate::values::{

@@ -1,10 +1,10 @@
 //! Values and their types, appended to the line so far. They refuse for want of memory alone.
 ghost use Rattle.std.specs.Prelude.{◌≡◌, ◌+◌, ◌++◌, OnOk, drop, codes};
-ghost use Rattle.xf_print.specs.Attributes.{attrs_text};
+ghost use Rattle.xf_ir.specs.PrintedAttributes.{attrs_text};
 ghost use Rattle.xf_print.specs.Index.{names_of};
-ghost use Rattle.xf_print.specs.Names.{name_text, values_text, value_types, argument_text, param_texts, carried_texts, results_text};
-ghost use Rattle.xf_print.specs.Rows.{operand, operand_type, given_text};
-ghost use Rattle.xf_print.specs.Words.{listed, type_text, types_text, arrow_types};
+ghost use Rattle.xf_ir.specs.PrintedNames.{name_text, values_text, value_types, argument_text, param_texts, carried_texts, results_text};
+ghost use Rattle.xf_ir.specs.PrintedRows.{operand, operand_type, given_text};
+ghost use Rattle.xf_ir.specs.PrintedWords.{listed, type_text, types_text, arrow_types};
 
 use crate::attributes::write_attrs;
 use crate::index::{Index, write_argument};

@@ -3,7 +3,7 @@ ghost use Rattle.std.specs.Prelude.{◌≡◌, ◌++◌, OnOk, decimal, codes};
 ghost use Rattle.std.specs.Fmt.{signed_decimal};
 ghost use Rattle.std.specs.List.{flat_map};
 ghost use Rattle.xf_type.specs.declared.payload_type.PayloadType.TheVariants.{Tensor};
-ghost use Rattle.xf_print.specs.Words.{width_text, dim_text, type_text, types_text, arrow_types, predicate_text, iterator_text, dimension_text};
+ghost use Rattle.xf_ir.specs.PrintedWords.{width_text, dim_text, type_text, types_text, arrow_types, predicate_text, iterator_text, dimension_text};
 
 use itoa::Buffer;
 use xf_ir::IteratorKind;

@@ -22,8 +22,8 @@ use Rattle.xf_ir.specs.Walk.{ops_names, regions_names}
 use Rattle.xf_ir.proofs.Obeys.{OpsObey, RegionsObey}
 use Rattle.xf_ir.proofs.SeenTypes.{seen_of}
 use Rattle.xf_read.specs.Names.{op_name}
-use Rattle.xf_print.specs.Names.{Entry, Names, first_args, next_number, type_of}
-use Rattle.xf_print.specs.Printed.{is_empty_yield}
+use Rattle.xf_ir.specs.PrintedNames.{Entry, Names, first_args, next_number, type_of}
+use Rattle.xf_ir.specs.PrintedForm.{is_empty_yield}
 use Rattle.xf_roundtrip.specs.SaidPrinted.{head_by}
 use Rattle.xf_roundtrip.proofs.Again.{ops_count, regions_count, ops_number, regions_number, ops_argument, regions_argument, number_more, ops_number_more, regions_number_more, ops_argument_more, regions_argument_more, SaysIt, OpsSo, RegionsSo}
 use Rattle.xf_roundtrip.proofs.Entries.{Counts, counts_left, counts_right, ops_names_count, regions_names_count, Entered, RegionsEntered}

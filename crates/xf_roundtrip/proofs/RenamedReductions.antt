@@ -16,7 +16,7 @@ use Rattle.xf_ir.specs.Uses.{ops_operands, regions_operands, same_value, use_cou
 use Rattle.xf_ir.specs.Walk.{ops_names, regions_names, first_of, ops_find, regions_find}
 use Rattle.xf_ir.proofs.Found.{tree}
 use Rattle.xf_ir.proofs.Lists.{at_cases, each_left, each_right}
-use Rattle.xf_roundtrip.specs.Renamed.{value_renamed, ops_renamed, regions_renamed, tree_renamed}
+use Rattle.xf_ir.specs.Renamed.{value_renamed, ops_renamed, regions_renamed, tree_renamed}
 use Rattle.xf_roundtrip.proofs.RenamedPlaces.{same_test, IsOf, placed_renamed}
 use Rattle.xf_roundtrip.proofs.RenamedRules.{renamed_or, block_same}
 

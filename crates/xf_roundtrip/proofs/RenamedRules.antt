@@ -13,7 +13,7 @@ use Rattle.xf_ir.specs.RuleAttributes.{type_fits, has_types_in_range}
 use Rattle.xf_ir.specs.RuleBlocks.{block_args, blocks_fit, has_its_regions, is_end, block_ends, blocks_end, ends_its_blocks}
 use Rattle.xf_ir.specs.Tree.{Ops, no_ops, op, Regions, no_regions, region, Tree}
 use Rattle.xf_ir.specs.Valid.{OpsInner, RegionsInner, FunctionsAlone, BlocksAlone, symbols_before, symbols_of, symbols_in, block_of}
-use Rattle.xf_roundtrip.specs.Renamed.{ops_renamed, regions_renamed, tree_renamed}
+use Rattle.xf_ir.specs.Renamed.{ops_renamed, regions_renamed, tree_renamed}
 use Rattle.xf_roundtrip.proofs.RenamedPlaces.{placed_renamed}
 
 module _ (f : OpName → OpName) where

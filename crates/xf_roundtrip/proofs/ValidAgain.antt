@@ -20,7 +20,7 @@ use Rattle.xf_ir.proofs.Obeys.{Passes, BlocksObey, blocks_obey, each_blocks}
 use Rattle.xf_ir.proofs.Root.{one_block}
 use Rattle.xf_ir.proofs.SeenTypes.{Known, functions_see, functions_known, root_seen, root_known}
 use Rattle.xf_roundtrip.specs.AgainLaws.{RenamedIsValid, PrintedIsValidAgain}
-use Rattle.xf_roundtrip.specs.Renamed.{ops_renamed, regions_renamed, tree_renamed}
+use Rattle.xf_ir.specs.Renamed.{ops_renamed, regions_renamed, tree_renamed}
 use Rattle.xf_roundtrip.proofs.KnownPlaces.{module_known}
 use Rattle.xf_roundtrip.proofs.NamedOnce.{spelt_is_named}
 use Rattle.xf_roundtrip.proofs.RenamedPlaces.{placed_renamed, each_among, regions_names_renamed, block_again, no_types}

@@ -33,8 +33,8 @@ use Rattle.xf_ir.specs.RuleBlocks.{is_end}
 use Rattle.xf_ir.specs.Tree.{Ops, no_ops, op, Regions, no_regions, region, Tree}
 use Rattle.xf_read.specs.Syntax.{most_operations, behind}
 use Rattle.xf_read.specs.Written.{SaidNodes, no_nodes_said, node_said, no_bodies_said, body_said, operations, NestsWell, has_else, has_tail, TailWritten, NodesWritten, BodiesWritten, ModuleWritten, IsWritten}
-use Rattle.xf_print.specs.Names.{Names, no_names, with_ops, first_args, number_of, first_of}
-use Rattle.xf_print.specs.Printed.{is_empty_yield}
+use Rattle.xf_ir.specs.PrintedNames.{Names, no_names, with_ops, first_args, number_of, first_of}
+use Rattle.xf_ir.specs.PrintedForm.{is_empty_yield}
 use Rattle.xf_roundtrip.specs.Printing.{attribute_of, dictionary_piece, is_core, row_of, pieces_of, results_of, tail_says, op_says, ops_printed, bodies_printed, functions_printed, module_printed}
 use Rattle.xf_roundtrip.proofs.Needs.{Known, head_tokens, tail_tokens, ops_tokens, regions_tokens, functions_tokens, module_tokens, AttrFits, HasFew, counted, has_regions, Fits, OpsFit, RegionsFit, FunctionsFit, ModuleFits}
 use Rattle.xf_roundtrip.proofs.Suits.{dictionary_suits, dictionary_first, Follows, pieces_suit, body_suits, head_row}

@@ -2,11 +2,11 @@
 use Rattle.std.specs.Prelude.{ℕ, List}
 use Rattle.xf_ir.specs.declared.op.Module.{Module}
 use Rattle.xf_ir.specs.Valid.{IsNamedOnce, IsValid}
-use Rattle.xf_print.specs.Printed.{printed_form}
+use Rattle.xf_ir.specs.PrintedForm.{printed_form}
 use Rattle.xf_read.specs.Spells.{Spells}
 use Rattle.xf_roundtrip.specs.PrintedLaws.{IsWithin}
 use Rattle.xf_roundtrip.specs.Printing.{IsCore}
-use Rattle.xf_roundtrip.specs.Renamed.{IsRenamed}
+use Rattle.xf_ir.specs.Renamed.{IsRenamed}
 use Rattle.xf_roundtrip.specs.Stored.{IsStored}
 
 -- a module that a text spells names each of its operations once

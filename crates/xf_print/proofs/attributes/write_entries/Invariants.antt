@@ -1,7 +1,7 @@
 use Rattle.std.proofs.Common.{◌≡◌, ◌++◌, drop}
 use Rattle.std.specs.Prelude.{map}
-use Rattle.xf_print.specs.Words.{listed, listed_more}
-use Rattle.xf_print.specs.Attributes.{entry_text}
+use Rattle.xf_ir.specs.PrintedWords.{listed, listed_more}
+use Rattle.xf_ir.specs.PrintedAttributes.{entry_text}
 use Rattle.xf_print.proofs.attributes.write_entries.Given as goal
 
 abbrev pub invariant-loop-attr : goal.invariant-loop-attr

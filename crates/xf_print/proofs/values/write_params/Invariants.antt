@@ -1,6 +1,6 @@
 use Rattle.std.proofs.Common.{◌≡◌, ◌+◌, ◌++◌, drop}
-use Rattle.xf_print.specs.Names.{param_texts}
-use Rattle.xf_print.specs.Words.{listed, listed_more}
+use Rattle.xf_ir.specs.PrintedNames.{param_texts}
+use Rattle.xf_ir.specs.PrintedWords.{listed, listed_more}
 use Rattle.xf_print.proofs.values.write_params.Given as goal
 
 abbrev pub invariant-loop-of : goal.invariant-loop-of

@@ -1,7 +1,7 @@
 use Rattle.std.proofs.Common.{◌≡◌, ◌++◌, map, drop}
 use Rattle.xf_print.specs.Index.{names_of}
-use Rattle.xf_print.specs.Names.{name_text}
-use Rattle.xf_print.specs.Words.{listed, listed_more}
+use Rattle.xf_ir.specs.PrintedNames.{name_text}
+use Rattle.xf_ir.specs.PrintedWords.{listed, listed_more}
 use Rattle.xf_print.proofs.values.write_values.Given as goal
 
 abbrev pub invariant-loop-value : goal.invariant-loop-value

@@ -1,6 +1,6 @@
 use Rattle.std.proofs.Common.{◌≡◌, ◌++◌, drop}
 use Rattle.std.specs.List.{flat_map}
-use Rattle.xf_print.specs.Words.{dim_text}
+use Rattle.xf_ir.specs.PrintedWords.{dim_text}
 use Rattle.xf_print.proofs.words.write_dims.Given as goal
 
 abbrev pub invariant-loop-dim : goal.invariant-loop-dim

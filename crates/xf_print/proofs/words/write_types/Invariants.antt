@@ -1,6 +1,6 @@
 use Rattle.std.proofs.Common.{◌≡◌, ◌++◌, drop}
 use Rattle.std.specs.Prelude.{map}
-use Rattle.xf_print.specs.Words.{listed, listed_more, type_text}
+use Rattle.xf_ir.specs.PrintedWords.{listed, listed_more, type_text}
 use Rattle.xf_print.proofs.words.write_types.Given as goal
 
 abbrev pub invariant-loop-of : goal.invariant-loop-of

@@ -1,7 +1,7 @@
 use Rattle.std.proofs.Common.{◌≡◌, drop}
 use Rattle.xf_ir.specs.View.{ops_of, regions_of}
 use Rattle.xf_print.specs.Index.{names_of}
-use Rattle.xf_print.specs.Names.{with_ops, with_regions}
+use Rattle.xf_ir.specs.PrintedNames.{with_ops, with_regions}
 use Rattle.xf_print.proofs.index.Index.+number.Given as goal
 
 abbrev pub invariant-add_ops-loop-op : goal.invariant-add_ops-loop-op

@@ -4,8 +4,8 @@ use Rattle.xf_type.specs.declared.payload_type.Width.{Width}
 use Rattle.xf_type.specs.declared.payload_type.Shape.{Shape}
 use Rattle.xf_type.specs.declared.payload_type.Dim.{Dim}
 use Rattle.xf_type.specs.declared.payload_type.Dim.TheVariants.{Fixed, Dynamic}
-use Rattle.xf_print.specs.Words.{listed}
-use Rattle.xf_print.specs.Numbers.{number_text}
+use Rattle.xf_ir.specs.PrintedWords.{listed}
+use Rattle.xf_ir.specs.PrintedNumbers.{number_text}
 
 -- so many rows of that many numbers
 abbrev pub rows : ℕ → ℕ → List ℕ → List (List ℕ)

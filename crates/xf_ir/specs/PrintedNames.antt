@@ -6,7 +6,7 @@ use Rattle.xf_ir.specs.declared.name.OpName.{OpName}
 use Rattle.xf_ir.specs.declared.name.ValueName.{ValueName}
 use Rattle.xf_ir.specs.declared.name.ValueName.TheVariants.{Result, Arg, Free}
 use Rattle.xf_ir.specs.Tree.{Ops, no_ops, op, Regions, no_regions, region}
-use Rattle.xf_print.specs.Words.{listed, type_text}
+use Rattle.xf_ir.specs.PrintedWords.{listed, type_text}
 
 -- what an operation defines: results, which have one number, and the arguments of its first block, which have numbers of their own
 -- from `first` on

@@ -5,8 +5,8 @@ use Rattle.xf_type.specs.declared.attribute.AttrValue.{AttrValue}
 use Rattle.xf_type.specs.declared.attribute.AttrValue.TheVariants.{Unit as unit_attr, Int, Text}
 use Rattle.xf_ir.specs.declared.kind.Attr.{Attr}
 use Rattle.xf_ir.specs.Words.{between}
-use Rattle.xf_print.specs.Words.{listed}
-use Rattle.xf_print.specs.Numbers.{literal_text}
+use Rattle.xf_ir.specs.PrintedWords.{listed}
+use Rattle.xf_ir.specs.PrintedNumbers.{literal_text}
 
 -- ---- strings
 

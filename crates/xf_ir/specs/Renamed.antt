@@ -1,10 +1,12 @@
 -- Modules that differ in the names of operations alone.
-use Rattle.std.specs.Prelude.{◌≡◌, map}
+use Rattle.std.specs.Prelude.{◌≡◌, map, true}
 use Rattle.xf_ir.specs.declared.name.OpName.{OpName}
 use Rattle.xf_ir.specs.declared.name.ValueName.{ValueName}
 use Rattle.xf_ir.specs.declared.name.ValueName.TheVariants.{Result, Arg, Free}
 use Rattle.xf_ir.specs.declared.op.Module.{Module}
 use Rattle.xf_ir.specs.Tree.{Ops, no_ops, op, Regions, no_regions, region, Tree}
+use Rattle.xf_ir.specs.Lists.{is_among}
+use Rattle.xf_ir.specs.Walk.{tree_names}
 
 abbrev pub value_renamed : (OpName → OpName) → ValueName → ValueName
 value_renamed f (Result o num) = Result (f o) num
@@ -23,7 +25,9 @@ abbrev mutual
 abbrev pub tree_renamed : (OpName → OpName) → Tree → Tree
 tree_renamed f t = record { name = f t.name; kind = t.kind; attrs = t.attrs; operands = map (value_renamed f) t.operands; results = t.results; regions = regions_renamed f t.regions }
 
--- the second is the first with other names; where both are valid, no two names become one
+-- the second is the first with other names, and different names stay different
 pub record IsRenamed (m m' : Module) : Type 0 where
   pub names : OpName → OpName
   pub root : m'.root ≡ tree_renamed names m.root
+  pub apart : (a b : OpName) → is_among a (tree_names m.root) ≡ true → is_among b (tree_names m.root) ≡ true
+      → names a ≡ names b → a ≡ b

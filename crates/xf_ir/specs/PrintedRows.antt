@@ -14,11 +14,11 @@ use Rattle.xf_ir.specs.declared.kind.SliceIndex.TheVariants.{Fixed, Dynamic}
 use Rattle.xf_ir.specs.declared.kind.IteratorKind.{IteratorKind}
 use Rattle.xf_ir.specs.Spelling.{binary_spelling, conversion_spelling, named_spelling}
 use Rattle.xf_ir.specs.RuleAttributes.{is_index}
-use Rattle.xf_print.specs.Words.{listed, width_text, type_text, types_text, arrow_types, predicate_text, iterator_text, dimension_text}
-use Rattle.xf_print.specs.Numbers.{literal_text}
-use Rattle.xf_print.specs.Attributes.{attrs_text, dictionary_behind}
-use Rattle.xf_print.specs.Dense.{body_text}
-use Rattle.xf_print.specs.Names.{Names, name_text, values_text, value_type, value_types, argument_text, param_texts, carried_texts}
+use Rattle.xf_ir.specs.PrintedWords.{listed, width_text, type_text, types_text, arrow_types, predicate_text, iterator_text, dimension_text}
+use Rattle.xf_ir.specs.PrintedNumbers.{literal_text}
+use Rattle.xf_ir.specs.PrintedAttributes.{attrs_text, dictionary_behind}
+use Rattle.xf_ir.specs.PrintedDense.{body_text}
+use Rattle.xf_ir.specs.PrintedNames.{Names, name_text, values_text, value_type, value_types, argument_text, param_texts, carried_texts}
 
 -- ---- operands
 

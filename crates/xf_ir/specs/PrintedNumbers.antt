@@ -4,7 +4,7 @@ use Rattle.std.specs.Fmt.{signed_decimal}
 use Rattle.xf_type.specs.declared.payload_type.Width.{Width}
 use Rattle.xf_type.specs.declared.payload_type.Width.TheVariants.{I1}
 use Rattle.xf_type.specs.Integers.{signed_value}
-use Rattle.xf_print.specs.Words.{width_text}
+use Rattle.xf_ir.specs.PrintedWords.{width_text}
 
 abbrev pub truth_text : ℕ → List ℕ
 truth_text bits = if bits == 0 then codes "false" else codes "true"

@@ -9,10 +9,10 @@ use Rattle.xf_ir.specs.declared.kind.Kind.TheVariants as kind
 use Rattle.xf_ir.specs.declared.op.Module.{Module}
 use Rattle.xf_ir.specs.Tree.{Ops, no_ops, op, Regions, no_regions, region, Tree}
 use Rattle.xf_ir.specs.Placed.{functions_of}
-use Rattle.xf_print.specs.Words.{listed, arrow_types}
-use Rattle.xf_print.specs.Attributes.{attrs_text}
-use Rattle.xf_print.specs.Names.{Names, no_names, with_ops, first_args, number_of, first_of, results_text, param_texts}
-use Rattle.xf_print.specs.Rows.{row_text}
+use Rattle.xf_ir.specs.PrintedWords.{listed, arrow_types}
+use Rattle.xf_ir.specs.PrintedAttributes.{attrs_text}
+use Rattle.xf_ir.specs.PrintedNames.{Names, no_names, with_ops, first_args, number_of, first_of, results_text, param_texts}
+use Rattle.xf_ir.specs.PrintedRows.{row_text}
 
 -- a line, two blanks behind the margin for each level
 abbrev pub line_at : ℕ → List ℕ → List ℕ
