@@ -12,7 +12,7 @@ use Rattle.xf_ir.specs.Valid.{IsValid}
 use Rattle.xf_ir.specs.Choices.{weight_at}
 use Rattle.xf_sem.specs.Keeps.{KeepsMeaning}
 use Rattle.xf_sem.proofs.Keeping.{keeping_composes}
-use Rattle.xf_print.specs.Printed.{printed_form}
+use Rattle.xf_ir.specs.PrintedForm.{printed_form}
 use Rattle.xf_read.specs.Names.{op_name}
 use Rattle.xf_roundtrip.proofs.ValidAgain.{printed_is_valid_again}
 use Rattle.xf_payload.specs.Payload.{IsPayload}
@@ -25,7 +25,7 @@ use Rattle.xf_opt.specs.Words.{Asked, run, verify}
 use Rattle.xf_opt.specs.Ends.{IsRunnable, Reaches, Headline, Due, Refuses, Finishes, WritesFront}
 use Rattle.xf_opt.specs.Ended.{EndsPlainly, EndsByPayload, IsPastPayload, RefusesBy, write_refusal}
 use Rattle.xf_opt.proofs.FormFacts.{form_is_core, form_is_stored, form_is_within}
-use Rattle.xf_opt.proofs.Renaming.{renaming_keeps}
+use Rattle.xf_sem.proofs.Renaming.{renaming_keeps}
 
 -- there are few choices
 abbrev pub IsFew : Module → List Entry → Type 0

@@ -4,15 +4,14 @@ use Rattle.std.proofs.lemmas.Bool.{eqb-true}
 use Rattle.std.specs.Prelude.{if◌then◌else◌}
 use Rattle.xf_ir.specs.declared.name.OpName.{OpName}
 use Rattle.xf_ir.specs.declared.name.ValueName.TheVariants.{Result, Arg, Free}
-use Rattle.xf_ir.specs.declared.op.Module.{Module}
 use Rattle.xf_ir.specs.Tree.{Ops, no_ops, op, Regions, no_regions, region}
 use Rattle.xf_ir.specs.Places.{below, results_of, args_of}
-use Rattle.xf_ir.specs.Valid.{IsValid, functions_of, block_of}
+use Rattle.xf_ir.specs.Valid.{functions_of, block_of}
 use Rattle.xf_ir.proofs.Scopes.{scoped}
 use Rattle.xf_sem.specs.Copying.{Follows, OpsCopy, RegionsCopy, FunctionsCopy}
-use Rattle.xf_sem.specs.Keeps.{KeepsMeaning}
+use Rattle.xf_sem.specs.Laws.{RenamingKeeps}
 use Rattle.xf_sem.proofs.Copying.{copying_keeps}
-use Rattle.xf_roundtrip.specs.Renamed.{value_renamed, ops_renamed, regions_renamed, IsRenamed}
+use Rattle.xf_ir.specs.Renamed.{value_renamed, ops_renamed, regions_renamed}
 
 same_name : (o n : OpName) → (o.0 == n.0) ≡ true → o ≡ n
 same_name o n h = ap (λ z. let r : OpName = record { 0 = z } in r) (eqb-true o.0 n.0 h)
@@ -28,12 +27,12 @@ both : (b c b' : Bool) → (b ≡ true → b' ≡ true) → (b && c) ≡ true �
 both true c b' h e = let t = h refl in rw t e
 both false c b' h e = cc
 
-pub results_follow : (f : OpName → OpName) (n : OpName) (count : ℕ) → Follows (value_renamed f) (results_of n count) (results_of (f n) count)
+results_follow : (f : OpName → OpName) (n : OpName) (count : ℕ) → Follows (value_renamed f) (results_of n count) (results_of (f n) count)
 results_follow f n count (Result o num) i e = some_if (o.0 == n.0) ((f o).0 == (f n).0) (below num count) i (own_name f o n) e
 results_follow f n count (Arg o r num) i e = cc
 results_follow f n count (Free num) i e = cc
 
-pub args_follow : (f : OpName → OpName) (n : OpName) (number count : ℕ) → Follows (value_renamed f) (args_of n number count) (args_of (f n) number count)
+args_follow : (f : OpName → OpName) (n : OpName) (number count : ℕ) → Follows (value_renamed f) (args_of n number count) (args_of (f n) number count)
 args_follow f n number count (Result o num) i e = cc
 args_follow f n number count (Arg o r num) i e =
     some_if ((o.0 == n.0) && (r == number)) (((f o).0 == (f n).0) && (r == number)) (below num count) i (both (o.0 == n.0) (r == number) ((f o).0 == (f n).0) (own_name f o n)) e
@@ -57,7 +56,7 @@ block_renamed f no_regions = refl
 block_renamed f (region args ops rest) = refl
 
 -- a renamed module keeps the meaning
-pub renaming_keeps : (m m' : Module) → IsValid m → IsValid m' → IsRenamed m m' → KeepsMeaning m m'
+pub renaming_keeps : RenamingKeeps
 renaming_keeps m m' v v' r =
     let functions : functions_of m' ≡ ops_renamed r.names (functions_of m) = ap (λ t. block_of t.regions) r.root ∙ block_renamed r.names m.root.regions in
     copying_keeps m m' (value_renamed r.names) (scoped m v) (scoped m' v')
