@@ -34,6 +34,4 @@ pub mod Edits
 pub mod Replaced
 pub mod Renamed
 pub mod Choices
-pub mod Laws
 pub mod Used
-pub mod Sample
