@@ -17,3 +17,8 @@ pub mod MovedBack
 pub mod ChangeLemmas
 pub mod AttributedTrees
 pub mod InverseLaws
+pub mod RenamedPlaces
+pub mod RenamedRules
+pub mod RenamedReductions
+pub mod KnownPlaces
+pub mod RenamedValid

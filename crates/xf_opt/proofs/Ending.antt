@@ -48,7 +48,7 @@ headline_is payload journal m after s r n k g =
       spells = again.1.0;
       renamed = again.1.1.0;
       valid = again.1.1.1;
-      same = keeping_composes m after again.0 k (renaming_keeps after again.0 g.valid again.1.1.1 again.1.1.0);
+      same = keeping_composes m after again.0 k (renaming_keeps after again.0 g.valid again.1.1.0);
     }
 
 pub whole_is : (payload script path : List ℕ) (journal : List Entry) (m after : Module) (old new : Option (List ℕ)) → IsRunnable payload m → Runs m journal after → IsFew m journal → KeepsMeaning m after → IsFirstForm after → Gains old (printed_form after) new → Finishes (run script path) payload journal old new

@@ -13,10 +13,6 @@ use Rattle.xf_roundtrip.specs.Stored.{IsStored}
 abbrev pub SpeltIsNamedOnce : Type 0
 SpeltIsNamedOnce = (bytes : List ℕ) (m : Module) → Spells bytes m → IsNamedOnce m
 
--- a valid module stays valid under other names, each of which occurs once
-abbrev pub RenamedIsValid : Type 0
-RenamedIsValid = (m again : Module) → IsValid m → IsRenamed m again → IsNamedOnce again → IsValid again
-
 -- the printed form of a valid module of builtin, func, arith on scalars and scf spells it again, up to the names of operations, and
 -- what it spells is valid
 abbrev pub PrintedIsValidAgain : Type 0

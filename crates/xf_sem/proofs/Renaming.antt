@@ -1,17 +1,22 @@
 -- A module under other names of operations keeps the meaning.
-use Rattle.std.proofs.Common.{◌≡◌, ℕ, suc, length, Option, Some, None, Bool, true, false, ◌==◌, ◌&&◌, refl, ap, sym, subst, ◌∙◌, eq-eqb}
+use Rattle.std.proofs.Common.{◌≡◌, ℕ, suc, ◌+◌, ◌<◌, List, [], ◌∷◌, length, Option, Some, None, Bool, true, false, ◌==◌, ◌&&◌, refl, ap, sym, subst, ◌∙◌, arith, eq-eqb}
 use Rattle.std.proofs.lemmas.Bool.{eqb-true}
 use Rattle.std.specs.Prelude.{if◌then◌else◌}
 use Rattle.xf_ir.specs.declared.name.OpName.{OpName}
 use Rattle.xf_ir.specs.declared.name.ValueName.TheVariants.{Result, Arg, Free}
+use Rattle.xf_ir.specs.declared.op.Module.{Module}
+use Rattle.xf_ir.specs.Lists.{Each}
 use Rattle.xf_ir.specs.Tree.{Ops, no_ops, op, Regions, no_regions, region}
 use Rattle.xf_ir.specs.Places.{below, results_of, args_of}
 use Rattle.xf_ir.specs.Valid.{functions_of, block_of}
+use Rattle.xf_ir.specs.Renamed.{value_renamed, ops_renamed, regions_renamed, IsRenamed}
+use Rattle.xf_ir.specs.Walk.{tree_names}
+use Rattle.xf_ir.proofs.Lists.{each_map}
+use Rattle.xf_ir_laws.proofs.RenamedValid.{renaming_keeps_valid}
 use Rattle.xf_ir_laws.proofs.Scopes.{scoped}
 use Rattle.xf_sem.specs.Copying.{Follows, OpsCopy, RegionsCopy, FunctionsCopy}
 use Rattle.xf_sem.specs.Laws.{RenamingKeeps}
 use Rattle.xf_sem.proofs.Copying.{copying_keeps}
-use Rattle.xf_ir.specs.Renamed.{value_renamed, ops_renamed, regions_renamed}
 
 same_name : (o n : OpName) → (o.0 == n.0) ≡ true → o ≡ n
 same_name o n h = ap (λ z. let r : OpName = record { 0 = z } in r) (eqb-true o.0 n.0 h)
@@ -55,9 +60,22 @@ block_renamed : (f : OpName → OpName) (rs : Regions) → block_of (regions_ren
 block_renamed f no_regions = refl
 block_renamed f (region args ops rest) = refl
 
--- a renamed module keeps the meaning
+-- ---- names below a number
+
+abbrev above : List OpName → ℕ
+above [] = 0
+above (n ∷ ns) = (n.0 + above ns) + 1
+
+all_below : (ns : List OpName) → Each (λ n. n.0 < above ns) ns
+all_below [] = tt
+all_below (m ∷ ns) = (omega arith, each_map (λ n. n.0 < above ns) (λ n. n.0 < above (m ∷ ns)) ns (λ n l. omega (arith, l)) (all_below ns))
+
+-- a renamed module keeps the meaning: with a next name above its own it is valid, so its values are scoped
 pub renaming_keeps : RenamingKeeps
-renaming_keeps m m' v v' r =
+renaming_keeps m m' v r =
+    let again : Module = record { root = m'.root; next = above (tree_names m'.root) } in
+    let same : IsRenamed m again = record { names = r.names; root = r.root; apart = r.apart } in
+    let valid = renaming_keeps_valid m again v same (all_below (tree_names m'.root)) in
     let functions : functions_of m' ≡ ops_renamed r.names (functions_of m) = ap (λ t. block_of t.regions) r.root ∙ block_renamed r.names m.root.regions in
-    copying_keeps m m' (value_renamed r.names) (scoped m v) (scoped m' v')
+    copying_keeps m m' (value_renamed r.names) (scoped m v) (scoped again valid)
     (subst (λ fs. FunctionsCopy (value_renamed r.names) (functions_of m) fs) (sym functions) (functions_copy r.names (functions_of m)))

@@ -30,4 +30,4 @@ ErasingKeeps = (m : Module) (target name : OpName) → IsValid m → MayErase m 
 
 -- a valid module keeps its meaning under other names of operations
 abbrev pub RenamingKeeps : Type 0
-RenamingKeeps = (m m' : Module) → IsValid m → IsValid m' → IsRenamed m m' → KeepsMeaning m m'
+RenamingKeeps = (m m' : Module) → IsValid m → IsRenamed m m' → KeepsMeaning m m'

@@ -8,7 +8,7 @@ use Rattle.xf_ir.specs.declared.kind.Kind.TheVariants as kind
 use Rattle.xf_ir.specs.declared.name.OpName.{OpName}
 use Rattle.xf_ir.specs.declared.name.ValueName.{ValueName}
 use Rattle.xf_ir.specs.declared.name.ValueName.TheVariants.{Result, Arg, Free}
-use Rattle.xf_ir.specs.Lists.{Each, Once, is_among, some}
+use Rattle.xf_ir.specs.Lists.{Each, is_among, some}
 use Rattle.xf_ir.specs.Placed.{Placed, block_of}
 use Rattle.xf_ir.specs.RuleLinalg.{only_value, yielded, definer, depends, dependents, all_dependents, is_apart, is_combiner, joins_out, combines, is_reduction, has_reduction, out_argument, reduces, has_its_reduction}
 use Rattle.xf_ir.specs.Tree.{Ops, no_ops, op, Regions, no_regions, region, Tree}
@@ -17,8 +17,8 @@ use Rattle.xf_ir.specs.Walk.{ops_names, regions_names, first_of, ops_find, regio
 use Rattle.xf_ir.proofs.Found.{tree}
 use Rattle.xf_ir.proofs.Lists.{at_cases, each_left, each_right}
 use Rattle.xf_ir.specs.Renamed.{value_renamed, ops_renamed, regions_renamed, tree_renamed}
-use Rattle.xf_roundtrip.proofs.RenamedPlaces.{same_test, IsOf, placed_renamed}
-use Rattle.xf_roundtrip.proofs.RenamedRules.{renamed_or, block_same}
+use Rattle.xf_ir_laws.proofs.RenamedPlaces.{StayApart, same_test, IsOf, placed_renamed}
+use Rattle.xf_ir_laws.proofs.RenamedRules.{renamed_or, block_same}
 
 -- the names of an operation and of what it holds are among these, and the values that it holds are of such operations
 pub record IsKnown (all : List OpName) (p : Placed) : Type 0 where
@@ -123,7 +123,7 @@ definer_of all body (Some (Free num)) h = tt
 
 -- ---- tests of names
 
-module _ (f : OpName → OpName) (all : List OpName) (once : Once (map f all)) where
+module _ (f : OpName → OpName) (all : List OpName) (stay : StayApart f all) where
   abbrev In : OpName → Type 0
   In n = is_among n all ≡ true
 
@@ -141,7 +141,7 @@ module _ (f : OpName → OpName) (all : List OpName) (once : Once (map f all)) w
   among_same : (n : OpName) (ns : List OpName) → In n → Each In ns → is_among (f n) (map f ns) ≡ is_among n ns
   among_same n [] h k = refl
   among_same n (m ∷ ns) h k =
-      let a = same_test f all m n once k.0 h in
+      let a = same_test f all m n stay k.0 h in
       let b = among_same n ns h k.1 in
       λ i. a i || b i
 
@@ -156,7 +156,7 @@ module _ (f : OpName → OpName) (all : List OpName) (once : Once (map f all)) w
     find_same : (o : OpName) (ops : Ops) → In o → Each In (ops_names ops) → ops_find (f o) (ops_renamed f ops) ≡ renamed_or f (ops_find o ops)
     find_same o no_ops h k = refl
     find_same o (op n kd ds os ts rs rest) h k =
-        let e = same_test f all n o once k.0 h in
+        let e = same_test f all n o stay k.0 h in
         let a = find_in_same o rs h (each_left In (regions_names rs) (ops_names rest) k.1) in
         let b = find_same o rest h (each_right In (regions_names rs) (ops_names rest) k.1) in
         elim (cases_Bool (eqb n.0 o.0)) [

@@ -14,7 +14,7 @@ use Rattle.xf_ir.specs.RuleBlocks.{block_args, blocks_fit, has_its_regions, is_e
 use Rattle.xf_ir.specs.Tree.{Ops, no_ops, op, Regions, no_regions, region, Tree}
 use Rattle.xf_ir.specs.Valid.{OpsInner, RegionsInner, FunctionsAlone, BlocksAlone, symbols_before, symbols_of, symbols_in, block_of}
 use Rattle.xf_ir.specs.Renamed.{ops_renamed, regions_renamed, tree_renamed}
-use Rattle.xf_roundtrip.proofs.RenamedPlaces.{placed_renamed}
+use Rattle.xf_ir_laws.proofs.RenamedPlaces.{placed_renamed}
 
 module _ (f : OpName → OpName) where
   -- ---- V2: functions

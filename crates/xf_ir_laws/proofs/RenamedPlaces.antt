@@ -1,7 +1,7 @@
 -- The operations of a module under other names stand where those of the module stand, with the same types.
 use Rattle.std.proofs.Common.{◌≡◌, ℕ, suc, true, false, cond, eqb, List, [], ◌∷◌, ◌++◌, length, Option, None, inl, inr, refl, sym, ap, subst, ◌∙◌, append-nil}
 use Rattle.std.specs.Prelude.{◌&&◌, map, is_some}
-use Rattle.std.proofs.lemmas.Bool.{cases_Bool, eq-eqb, or_cases}
+use Rattle.std.proofs.lemmas.Bool.{cases_Bool, eq-eqb, or_cases, or_parts, or_from}
 use Rattle.std.proofs.lemmas.List.{map-append}
 use Rattle.xf_type.specs.declared.payload_type.PayloadType.{PayloadType}
 use Rattle.xf_ir.specs.declared.name.OpName.{OpName}
@@ -20,46 +20,43 @@ use Rattle.xf_ir.specs.Renamed.{value_renamed, ops_renamed, regions_renamed, tre
 
 -- ---- no two names become one
 
-mapped : (f : OpName → OpName) (n : OpName) (ns : List OpName) → is_among n ns ≡ true → is_among (f n) (map f ns) ≡ true
-mapped f n [] h = absurd (cc)
-mapped f n (m ∷ ns) h =
-    elim (cases_Bool (same_name m n)) [
-      | inl t ↦ (let e = eq-eqb (f m).0 (f n).0 (ap (λ x. (f x).0) (name_is m n t)) in rw e refl)
-      | inr g ↦ among_right (f n) (f m ∷ []) (map f ns) (mapped f n ns (rw g at h))
-    ]
+-- different names among these stay different
+abbrev pub StayApart : (OpName → OpName) → List OpName → Type 0
+StayApart f ns = (a b : OpName) → is_among a ns ≡ true → is_among b ns ≡ true → f a ≡ f b → a ≡ b
 
-apart : (f : OpName → OpName) (m n : OpName) (ns : List OpName) → is_among (f m) (map f ns) ≡ false → is_among n ns ≡ true → f m ≡ f n → ⊥
-apart f m n ns o h e =
-    let y = mapped f n ns h in
-    let z = subst (λ x. is_among x (map f ns) ≡ false) e o in
-    (cc)
+among_more : (m : OpName) (ns : List OpName) (n : OpName) → is_among n ns ≡ true → is_among n (m ∷ ns) ≡ true
+among_more m ns n h = among_right n (m ∷ []) ns h
 
-injective : (f : OpName → OpName) (ns : List OpName) (a b : OpName) → Once (map f ns) → is_among a ns ≡ true → is_among b ns ≡ true → f a ≡ f b → a ≡ b
-injective f [] a b o h k e = absurd (cc)
-injective f (m ∷ ns) a b o h k e =
-    elim (cases_Bool (same_name m a)) [
-      | inl p ↦ elim (cases_Bool (same_name m b)) [
-        | inl q ↦ sym (name_is m a p) ∙ name_is m b q
-        | inr q ↦ absurd (apart f m b ns o.0 (rw q at k) (ap f (name_is m a p) ∙ e))
-      ]
-      | inr p ↦ elim (cases_Bool (same_name m b)) [
-        | inl q ↦ absurd (apart f m a ns o.0 (rw p at h) (ap f (name_is m b q) ∙ sym e))
-        | inr q ↦ injective f ns a b o.1 (rw p at h) (rw q at k) e
-      ]
-    ]
+-- a name that is not among others is not among them under other names
+not_mapped : (f : OpName → OpName) (m : OpName) (ns : List OpName) → ((n : OpName) → is_among n ns ≡ true → f m ≡ f n → m ≡ n) → is_among m ns ≡ false
+    → is_among (f m) (map f ns) ≡ false
+not_mapped f m [] h o = refl
+not_mapped f m (n ∷ ns) h o =
+    let p = or_parts (same_name n m) (is_among m ns) o in
+    let later = not_mapped f m ns (λ x k. h x (among_more n ns x k)) p.1 in
+    let own : is_among n (n ∷ ns) ≡ true = rw (own_name n) refl in
+    or_from (same_name (f n) (f m)) (is_among (f m) (map f ns))
+    (elim (cases_Bool (same_name (f n) (f m))) [
+      | inl t ↦ absurd (let e = h n own (sym (name_is (f n) (f m) t)) in let y = eq-eqb n.0 m.0 (ap (λ (x : OpName). x.0) (sym e)) in let z = p.0 in cc)
+      | inr g ↦ g
+    ]) later
 
-pub same_test : (f : OpName → OpName) (ns : List OpName) (a b : OpName) → Once (map f ns) → is_among a ns ≡ true → is_among b ns ≡ true → eqb (f a).0 (f b).0 ≡ eqb a.0 b.0
+-- names that occur once do so under other names
+pub once_mapped : (f : OpName → OpName) (ns : List OpName) → StayApart f ns → Once ns → Once (map f ns)
+once_mapped f [] h o = tt
+once_mapped f (m ∷ ns) h o =
+    let own : is_among m (m ∷ ns) ≡ true = rw (own_name m) refl in
+    (not_mapped f m ns (λ n k. h m n own (among_more m ns n k)) o.0, once_mapped f ns (λ a b k l. h a b (among_more m ns a k) (among_more m ns b l)) o.1)
+
+pub same_test : (f : OpName → OpName) (ns : List OpName) (a b : OpName) → StayApart f ns → is_among a ns ≡ true → is_among b ns ≡ true → eqb (f a).0 (f b).0 ≡ eqb a.0 b.0
 same_test f ns a b o h k =
     elim (cases_Bool (eqb a.0 b.0)) [
       | inl t ↦ eq-eqb (f a).0 (f b).0 (ap (λ x. (f x).0) (name_is a b t)) ∙ sym t
       | inr g ↦ elim (cases_Bool (eqb (f a).0 (f b).0)) [
-        | inl t ↦ absurd (let e = injective f ns a b o h k (name_is (f a) (f b) t) in let y = eq-eqb a.0 b.0 (ap (λ x. x.0) e) in cc)
+        | inl t ↦ absurd (let e = o a b h k (name_is (f a) (f b) t) in let y = eq-eqb a.0 b.0 (ap (λ x. x.0) e) in cc)
         | inr t ↦ t ∙ sym g
       ]
     ]
-
-among_more : (m : OpName) (ns : List OpName) (n : OpName) → is_among n ns ≡ true → is_among n (m ∷ ns) ≡ true
-among_more m ns n h = among_right n (m ∷ []) ns h
 
 -- each name is among its list
 pub each_among : (ns : List OpName) → Each (λ n. is_among n ns ≡ true) ns
@@ -124,17 +121,17 @@ pub all_of : (all : List OpName) (ss : List Seen) (vs : List ValueName) → Owne
 all_of all ss [] w h = tt
 all_of all ss (v ∷ vs) w h = (of_seen all ss v w h.0, all_of all ss vs w h.1)
 
-module _ (f : OpName → OpName) (all : List OpName) (once : Once (map f all)) where
+module _ (f : OpName → OpName) (all : List OpName) (stay : StayApart f all) where
   abbrev seen_renamed : Seen → Seen
   seen_renamed (done n count) = done (f n) count
   seen_renamed (inside n i count) = inside (f n) i count
 
   place_same : (s : Seen) (v : ValueName) → is_among (owner s) all ≡ true → IsOf all v → place_of (seen_renamed s) (value_renamed f v) ≡ place_of s v
-  place_same (done n count) (Result o num) h k = ap (λ b. cond b (below num count) None) (same_test f all o n once k h)
+  place_same (done n count) (Result o num) h k = ap (λ b. cond b (below num count) None) (same_test f all o n stay k h)
   place_same (done n count) (Arg o r num) h k = refl
   place_same (done n count) (Free num) h k = refl
   place_same (inside n i count) (Result o num) h k = refl
-  place_same (inside n i count) (Arg o r num) h k = ap (λ b. cond (b && eqb r i) (below num count) None) (same_test f all o n once k h)
+  place_same (inside n i count) (Arg o r num) h k = ap (λ b. cond (b && eqb r i) (below num count) None) (same_test f all o n stay k h)
   place_same (inside n i count) (Free num) h k = refl
 
   -- values have the same types under other names
