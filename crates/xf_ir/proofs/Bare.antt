@@ -1,15 +1,17 @@
 -- Trees without the bodies of linalg.generic: what is found in them, and where it stands in the whole.
-use Rattle.std.proofs.Common.{◌≡◌, ◌∷◌, ◌++◌, true, false, eqb, Option, Some, inl, inr, refl, sym, subst}
+use Rattle.std.proofs.Common.{◌≡◌, ◌∷◌, ◌++◌, true, false, eqb, Option, None, Some, inl, inr, refl, sym, subst}
 use Rattle.std.proofs.lemmas.Bool.{cases_Bool, or_parts}
 use Rattle.xf_ir.specs.declared.name.OpName.{OpName}
+use Rattle.xf_ir.specs.declared.op.Module.{Module}
 use Rattle.xf_ir.specs.Tree.{Ops, no_ops, op, Regions, no_regions, region, Tree}
-use Rattle.xf_ir.specs.Walk.{ops_names, regions_names, ops_find, regions_find}
+use Rattle.xf_ir.specs.Walk.{ops_names, regions_names, ops_find, regions_find, tree_find}
 use Rattle.xf_ir.specs.Kinds.{is_generic}
 use Rattle.xf_ir.specs.Lists.{Once, same_name, is_among}
 use Rattle.xf_ir.specs.Edits.{ops_at, regions_at, tail, tree_erased}
-use Rattle.xf_ir.specs.Choices.{ops_bare, regions_bare, bare}
+use Rattle.xf_ir.specs.Choices.{ops_bare, regions_bare, bare, scope_of, scope_at}
+use Rattle.xf_ir.specs.Valid.{IsNamedOnce}
 use Rattle.xf_ir.proofs.Lists.{at_cases, not_left, not_right, once_left, once_right, once_apart, absent_before, Part, none, keep, part_none, part_append, not_part, once_part, name_is}
-use Rattle.xf_ir.proofs.Found.{tree, first_cases, found_name, found_name_regions, lost_name, lost_name_regions}
+use Rattle.xf_ir.proofs.Found.{tree, first_cases, found_name, found_name_regions, lost_name, lost_name_regions, find_inside_regions}
 use Rattle.xf_ir.proofs.Kept.{OpsApart, RegionsApart}
 
 -- ---- names
@@ -186,3 +188,19 @@ below_bare root t name h =
 pub once_bare : (root : Tree) → Once (regions_names root.regions) → Once (regions_names (bare root).regions)
 once_bare root o =
     at_cases (is_generic root.kind) no_regions (regions_bare root.regions) (λ rs. Once (regions_names rs)) (λ _. tt) (λ _. once_part (bare_names_regions root.regions) o)
+
+-- ---- what is found in a scope is found in the module
+
+pub in_scope : (t : Tree) (target name : OpName) (s : Tree) → Once (regions_names t.regions) → regions_find name (scope_of (tree_find target t)) ≡ Some s → regions_find name t.regions ≡ Some s
+in_scope t target name s o h =
+    at_cases (eqb t.name.0 target.0) (Some t) (regions_find target t.regions) (λ u. regions_find name (scope_of u) ≡ Some s → regions_find name t.regions ≡ Some s)
+    (λ _ g. g) (λ _ g. deeper (regions_find target t.regions) refl g) h
+  where
+    deeper : (u : Option Tree) → regions_find target t.regions ≡ u → regions_find name (scope_of u) ≡ Some s → regions_find name t.regions ≡ Some s
+    deeper None e g = absurd (cc)
+    deeper (Some x) e g = find_inside_regions t.regions target name x s o e g
+
+-- an operation of the scope, as the module holds it
+pub found_inside : (m : Module) (target name : OpName) (t : Tree) → IsNamedOnce m → regions_find name (scope_at m target) ≡ Some t → Whole (regions_find name m.root.regions) t
+found_inside m target name t o h =
+    found_whole m.root.regions name t o.once.1 (below_bare m.root t name (in_scope (bare m.root) target name t (once_bare m.root o.once.1) h))

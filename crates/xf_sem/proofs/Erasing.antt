@@ -11,7 +11,7 @@ use Rattle.xf_ir.specs.Kinds.{is_container, ends}
 use Rattle.xf_ir.specs.Edits.{tail}
 use Rattle.xf_ir.proofs.Found as found
 use Rattle.xf_ir.proofs.Scopes.{scoped}
-use Rattle.xf_ir.proofs.ErasingLaws.{found_inside, valid_kept}
+use Rattle.xf_ir.proofs.ErasingLaws.{valid_kept}
 use Rattle.xf_sem.specs.Meaning.{extend, does, bodies_of}
 use Rattle.xf_sem.specs.Surroundings.{Site, visible, outside, behind, within, OpsWhere, RegionsWhere, FunctionsWhere, NoFunction, LeadsHere}
 use Rattle.xf_sem.specs.Laws.{ErasingKeeps}
@@ -78,10 +78,7 @@ inner_block name (region args ops rest) h = h.0
 pub erasing_keeps : ErasingKeeps
 erasing_keeps m target name valid may =
     let once = valid.names.once in
-    let whole = found_inside m target name valid.names may in
-    let stays = subst (λ (t : Tree). is_container t.kind ≡ false) whole.2 may.dead.inner in
-    let goes = subst (λ (t : Tree). ends t.kind ≡ false) whole.2 may.dead.goes in
-    let inner = inner_block name m.root.regions (found.where_found_regions name Inner whole.0 m.root.regions once.1 whole.1 (stays, goes)) in
+    let inner = inner_block name m.root.regions (found.where_found_regions name Inner may.tree m.root.regions once.1 may.inside (may.suits.inner, may.suits.goes)) in
     surroundings_keep m name tail
     (record { inner = no_function name (functions_of m) (functions_alone m.root.regions valid.functions.alone) inner; before = scoped m valid; after = scoped _ (valid_kept m target name valid may) })
     (functions_lead name (functions_of m) inner)
