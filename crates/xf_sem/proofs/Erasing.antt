@@ -1,13 +1,13 @@
 -- An operation whose results are unused may be erased.
 use Rattle.std.proofs.Common.{◌≡◌, ℕ, suc, Bool, true, false, eqb, refl, subst}
 use Rattle.std.specs.Prelude.{length, map}
+use Rattle.std.proofs.lemmas.Bool.{or_parts}
 use Rattle.xf_ir.specs.declared.name.OpName.{OpName}
 use Rattle.xf_ir.specs.declared.kind.Kind.{Kind}
-use Rattle.xf_ir.specs.declared.kind.Kind.TheVariants as kind
 use Rattle.xf_ir.specs.Tree.{Ops, no_ops, op, Regions, no_regions, region, Tree}
 use Rattle.xf_ir.specs.Places.{results_of}
 use Rattle.xf_ir.specs.Valid.{IsFunction, FunctionsAlone, BlocksAlone, functions_of, block_of}
-use Rattle.xf_ir.specs.Kinds.{is_container, ends}
+use Rattle.xf_ir.specs.Kinds.{is_container, is_module, is_function, ends}
 use Rattle.xf_ir.specs.Edits.{tail}
 use Rattle.xf_ir.proofs.Found as found
 use Rattle.xf_ir.proofs.Scopes.{scoped}
@@ -55,12 +55,8 @@ functions_lead : (name : OpName) (fs : Ops) → found.OpsWhere name Inner fs →
 functions_lead name no_ops h = tt
 functions_lead name (op n k ds os ts rs rest) h = (leads_where_regions name rs outside n 0 h.1.0, functions_lead name rest h.1.1)
 
-container : (k : Kind) → IsFunction k → is_container k ≡ true
-container (kind.Func symbol private types) f = refl
-container _ f = absurd (cc)
-
 other_name : (b : Bool) (k : Kind) → IsFunction k → (b ≡ true → is_container k ≡ false) → b ≡ false
-other_name true k f h = let no = h refl in let yes = container k f in cc
+other_name true k f h = let no = (or_parts (is_module k) (is_function k) (h refl)).1 in let yes : is_function k ≡ true = f in cc
 other_name false k f h = refl
 
 no_function : (name : OpName) (fs : Ops) → FunctionsAlone fs → found.OpsWhere name Inner fs → NoFunction name fs
