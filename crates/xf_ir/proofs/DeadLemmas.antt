@@ -18,11 +18,9 @@ use Rattle.xf_ir.specs.Choices.{bare, scope_of, scope_at, stands_before, MayEras
 use Rattle.xf_ir.specs.Used.{with_uses, goes_unused, ops_first, regions_first}
 use Rattle.xf_ir.specs.Valid.{IsValid, block_of, OpsSee, RegionsSee, FunctionsSee}
 use Rattle.xf_ir.proofs.Lists.{name_is, own_name, not_left, not_right, once_left, once_right, absent_before, apart_names, each_both}
-use Rattle.xf_ir.proofs.Found.{tree, none_of, first_cases, found_in, found_name, found_name_regions, found_named_regions, lost_name, lost_name_regions, OpsWhere, RegionsWhere, where_found_regions}
-use Rattle.xf_ir.proofs.ErasedUses.{Gives, Outside}
+use Rattle.xf_ir.proofs.Found.{tree, none_of, first_cases, found_in, found_name, found_name_regions, found_named_regions, lost_name, lost_name_regions, OpsWhere, RegionsWhere, where_found_regions, block_where, Gives, Outside}
 use Rattle.xf_ir.proofs.Root.{one_block}
 use Rattle.xf_ir.proofs.Bare.{once_bare, found_inside}
-use Rattle.xf_ir.proofs.ErasingLaws.{block_where}
 
 -- ---- the operations that are used
 

@@ -25,6 +25,4 @@ pub mod Bounds
 pub mod Changes
 pub mod Edits
 pub mod Choices
-pub mod Laws
 pub mod Used
-pub mod Sample

@@ -18,7 +18,7 @@ use Rattle.xf_ir.specs.Walk.{regions_find}
 use Rattle.xf_ir.specs.Kinds.{is_container}
 use Rattle.xf_ir.specs.Edits.{edited, ops_at, regions_at, tail}
 use Rattle.xf_ir.specs.Choices.{MayErase}
-use Rattle.xf_ir.proofs.ErasingLaws.{valid_kept}
+use Rattle.xf_ir_laws.proofs.ErasingLaws.{valid_kept}
 use Rattle.xf_read.specs.Syntax.{most_operations}
 use Rattle.xf_opt.specs.Form.{is_step, are_steps, are_parameters, is_plain_block, has_no_regions, is_one_block, is_plain_head, is_plain_function, is_one_function, is_plain_module, holds_one_function, is_first_form, IsFirstForm}
 

@@ -8,7 +8,7 @@ use Rattle.xf_ir.specs.declared.op.Module.{Module}
 use Rattle.xf_ir.specs.Tree.{Ops, no_ops, op, Regions, no_regions, region}
 use Rattle.xf_ir.specs.Places.{below, results_of, args_of}
 use Rattle.xf_ir.specs.Valid.{IsValid, functions_of, block_of}
-use Rattle.xf_ir.proofs.Scopes.{scoped}
+use Rattle.xf_ir_laws.proofs.Scopes.{scoped}
 use Rattle.xf_sem.specs.Copying.{Follows, OpsCopy, RegionsCopy, FunctionsCopy}
 use Rattle.xf_sem.specs.Keeps.{KeepsMeaning}
 use Rattle.xf_sem.proofs.Copying.{copying_keeps}

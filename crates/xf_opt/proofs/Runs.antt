@@ -6,7 +6,7 @@ use Rattle.xf_ir.specs.declared.op.Module.{Module}
 use Rattle.xf_ir.specs.Count.{tree_count}
 use Rattle.xf_ir.specs.Edits.{edited}
 use Rattle.xf_ir.specs.Choices.{unused, numbered, dead_code, MayErase, IsNormal, weight_at}
-use Rattle.xf_ir.proofs.ErasingLaws.{lowers_count, lowers_weight}
+use Rattle.xf_ir_laws.proofs.ErasingLaws.{lowers_count, lowers_weight}
 use Rattle.xf_sem.specs.Keeps.{KeepsMeaning}
 use Rattle.xf_sem.proofs.Keeping.{keeping_composes, keeping_is_reflexive}
 use Rattle.xf_sem.proofs.Erasing.{erasing_keeps}

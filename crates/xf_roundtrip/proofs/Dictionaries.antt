@@ -19,7 +19,7 @@ use Rattle.xf_ir.specs.Attributes.{bytes_before}
 use Rattle.xf_ir.specs.Lists.{Each, every}
 use Rattle.xf_ir.specs.RuleAttributes.{value_fits, attributes_fit}
 use Rattle.xf_ir.specs.Words.{is_word}
-use Rattle.xf_ir.proofs.SortedAttributes.{not_itself}
+use Rattle.xf_ir.proofs.BytesOrder.{not_itself}
 use Rattle.xf_read_base.specs.Attributes.{also}
 use Rattle.xf_read_base.specs.Strings.{decoded}
 use Rattle.xf_read_base.specs.Values.{with_attr}

@@ -25,7 +25,7 @@ use Rattle.xf_ir.specs.Types.{same_types, have_types}
 use Rattle.xf_ir.specs.Valid.{OpsInner, RegionsInner, FunctionsAlone, BlocksAlone, OpsSee, RegionsSee, FunctionsSee, IsValid}
 use Rattle.xf_ir.specs.Walk.{ops_names, regions_names}
 use Rattle.xf_ir.proofs.Lists.{once_left, once_right}
-use Rattle.xf_ir.proofs.Obeys.{OpsObey, RegionsObey, FunctionsObey, BlocksObey, blocks_obey}
+use Rattle.xf_ir_laws.proofs.Obeys.{OpsObey, RegionsObey, FunctionsObey, BlocksObey, blocks_obey}
 use Rattle.xf_ir.proofs.Root.{one_block}
 use Rattle.xf_read.specs.Short.{HasShortLists}
 use Rattle.xf_read.specs.Syntax.{most_operations}

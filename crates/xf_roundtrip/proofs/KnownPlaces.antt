@@ -11,7 +11,7 @@ use Rattle.xf_ir.specs.Uses.{ops_operands, regions_operands}
 use Rattle.xf_ir.specs.Valid.{OpsSee, RegionsSee, FunctionsSee}
 use Rattle.xf_ir.specs.Walk.{ops_names, regions_names, tree_names}
 use Rattle.xf_ir.proofs.Lists.{each_left, each_right, each_both}
-use Rattle.xf_ir.proofs.Obeys.{OpsObey, RegionsObey, FunctionsObey, BlocksObey, each_blocks}
+use Rattle.xf_ir_laws.proofs.Obeys.{OpsObey, RegionsObey, FunctionsObey, BlocksObey, each_blocks}
 use Rattle.xf_roundtrip.proofs.RenamedPlaces.{IsOf, Owned, all_of, each_among}
 use Rattle.xf_roundtrip.proofs.RenamedReductions.{IsKnown}
 

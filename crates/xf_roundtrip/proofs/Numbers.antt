@@ -10,7 +10,7 @@ use Rattle.xf_ir.specs.Placed.{Typed, Holder, Placed, placed, root_holder, funct
 use Rattle.xf_ir.specs.RuleBlocks.{block_args}
 use Rattle.xf_ir.specs.Tree.{Ops, no_ops, op, Regions, no_regions, region}
 use Rattle.xf_ir.proofs.Lists.{each_map}
-use Rattle.xf_ir.proofs.Obeys.{OpsObey, RegionsObey, FunctionsObey, BlocksObey, blocks_obey}
+use Rattle.xf_ir_laws.proofs.Obeys.{OpsObey, RegionsObey, FunctionsObey, BlocksObey, blocks_obey}
 use Rattle.xf_read.specs.Short.{HasShortLists, NoListIsLong}
 use Rattle.xf_read.specs.Syntax.{most_operations}
 use Rattle.xf_print.specs.Names.{no_names, first_args, next_number}

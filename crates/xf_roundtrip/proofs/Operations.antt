@@ -19,8 +19,8 @@ use Rattle.xf_ir.specs.RuleBlocks.{block_args, are_blocks, is_one, block_ends, b
 use Rattle.xf_ir.specs.Tree.{Ops, no_ops, op, Regions, no_regions, region}
 use Rattle.xf_ir.specs.Valid.{OpsInner, RegionsInner, OpsSee, RegionsSee}
 use Rattle.xf_ir.specs.Walk.{ops_names, regions_names}
-use Rattle.xf_ir.proofs.Obeys.{OpsObey, RegionsObey}
-use Rattle.xf_ir.proofs.SeenTypes.{seen_of}
+use Rattle.xf_ir_laws.proofs.Obeys.{OpsObey, RegionsObey}
+use Rattle.xf_ir_laws.proofs.SeenTypes.{seen_of}
 use Rattle.xf_read.specs.Names.{op_name}
 use Rattle.xf_print.specs.Names.{Entry, Names, first_args, next_number, type_of}
 use Rattle.xf_print.specs.Printed.{is_empty_yield}

@@ -21,7 +21,7 @@ use Rattle.xf_ir.specs.Types.{have_types, same_types}
 use Rattle.xf_ir.specs.Valid.{FunctionsAlone, BlocksAlone, FunctionsSee, block_of, symbols_before, symbols_of, symbols_in}
 use Rattle.xf_ir.specs.Walk.{ops_names, regions_names, tree_names}
 use Rattle.xf_ir.proofs.Lists.{not_left, once_left, once_right}
-use Rattle.xf_ir.proofs.Obeys.{FunctionsObey, BlocksObey, blocks_obey}
+use Rattle.xf_ir_laws.proofs.Obeys.{FunctionsObey, BlocksObey, blocks_obey}
 use Rattle.xf_ir.proofs.Root.{one_block}
 use Rattle.xf_read.specs.Names.{op_name}
 use Rattle.xf_read.specs.Syntax.{ends_open}

@@ -14,7 +14,7 @@ use Rattle.xf_ir.specs.Tree.{Ops, no_ops, op, Regions, no_regions, region, Tree}
 use Rattle.xf_ir.specs.Valid.{OpsSee, RegionsSee, FunctionsSee}
 use Rattle.xf_ir.specs.Walk.{ops_names, regions_names}
 use Rattle.xf_ir.proofs.Found.{tree}
-use Rattle.xf_ir.proofs.Kept.{placed_at}
+use Rattle.xf_ir_laws.proofs.Kept.{placed_at}
 use Rattle.xf_ir.proofs.Lists.{name_is, own_name, among_right, each_left, each_right, each_map}
 use Rattle.xf_roundtrip.specs.Renamed.{value_renamed, ops_renamed, regions_renamed, tree_renamed}
 

@@ -14,11 +14,11 @@ use Rattle.xf_ir.specs.RuleTypes.{has_its_types}
 use Rattle.xf_ir.specs.Tree.{Ops, no_ops, no_regions, region}
 use Rattle.xf_ir.specs.Valid.{IsNamedOnce, IsValid, FunctionsSee}
 use Rattle.xf_ir.specs.Walk.{ops_names, regions_names, tree_names}
-use Rattle.xf_ir.proofs.Kept.{placed_at}
+use Rattle.xf_ir_laws.proofs.Kept.{placed_at}
 use Rattle.xf_ir.proofs.Lists.{each_left}
-use Rattle.xf_ir.proofs.Obeys.{Passes, BlocksObey, blocks_obey, each_blocks}
+use Rattle.xf_ir_laws.proofs.Obeys.{Passes, BlocksObey, blocks_obey, each_blocks}
 use Rattle.xf_ir.proofs.Root.{one_block}
-use Rattle.xf_ir.proofs.SeenTypes.{Known, functions_see, functions_known, root_seen, root_known}
+use Rattle.xf_ir_laws.proofs.SeenTypes.{Known, functions_see, functions_known, root_seen, root_known}
 use Rattle.xf_roundtrip.specs.AgainLaws.{RenamedIsValid, PrintedIsValidAgain}
 use Rattle.xf_roundtrip.specs.Renamed.{ops_renamed, regions_renamed, tree_renamed}
 use Rattle.xf_roundtrip.proofs.KnownPlaces.{module_known}

@@ -20,7 +20,7 @@ use Rattle.xf_ir.specs.RuleTypes.{has_its_types}
 use Rattle.xf_ir.specs.RuleTypes.{row_of as type_row}
 use Rattle.xf_ir.specs.Tree.{Ops, no_ops, op, Regions, no_regions, region}
 use Rattle.xf_ir.specs.Types.{have_types, same_types}
-use Rattle.xf_ir.proofs.Obeys.{OpsObey}
+use Rattle.xf_ir_laws.proofs.Obeys.{OpsObey}
 use Rattle.xf_read.specs.Syntax.{ends_open, is_yield}
 use Rattle.xf_read.specs.Written.{SaidNodes, no_nodes_said, node_said, SaidBodies, says_yield_last}
 use Rattle.xf_print.specs.Names.{Names}

@@ -10,8 +10,8 @@ use Rattle.xf_ir.specs.Valid.{IsFunction, FunctionsAlone, BlocksAlone, functions
 use Rattle.xf_ir.specs.Kinds.{is_container, is_module, is_function, ends}
 use Rattle.xf_ir.specs.Edits.{tail}
 use Rattle.xf_ir.proofs.Found as found
-use Rattle.xf_ir.proofs.Scopes.{scoped}
-use Rattle.xf_ir.proofs.ErasingLaws.{valid_kept}
+use Rattle.xf_ir_laws.proofs.Scopes.{scoped}
+use Rattle.xf_ir_laws.proofs.ErasingLaws.{valid_kept}
 use Rattle.xf_sem.specs.Meaning.{extend, does, bodies_of}
 use Rattle.xf_sem.specs.Surroundings.{Site, visible, outside, behind, within, OpsWhere, RegionsWhere, FunctionsWhere, NoFunction, LeadsHere}
 use Rattle.xf_sem.specs.Laws.{ErasingKeeps}
