@@ -11,6 +11,7 @@ mod laws;
 mod name;
 mod name_set;
 mod op;
+mod rule;
 mod snippet;
 mod spelling;
 mod spot;
@@ -31,6 +32,7 @@ pub use laws::{
 pub use name::{OpName, ValueName};
 pub use name_set::NameSet;
 pub use op::{Block, BlockList, Module, Op, OpList};
+pub use rule::Rule;
 pub use snippet::Snippet;
 pub use spot::{Located, Spot};
 pub use values::ValueList;
