@@ -1,5 +1,5 @@
 -- Calls: what a symbol names, and how deep calls go.
-use Rattle.std.specs.Prelude.{ℕ, zero, suc, List, [], ◌∷◌, ◌++◌, Option, Some, None, Bool, true, false, ◌&&◌, is_none, if◌then◌else◌}
+use Rattle.std.specs.Prelude.{ℕ, zero, suc, List, [], ◌∷◌, ◌++◌, Option, Some, None, Bool, true, false, is_none, if◌then◌else◌}
 use Rattle.xf_type.specs.declared.payload_type.PayloadType.{PayloadType}
 use Rattle.xf_ir.specs.declared.kind.Kind.{Kind}
 use Rattle.xf_ir.specs.declared.kind.Kind.TheVariants as kind
@@ -7,7 +7,7 @@ use Rattle.xf_ir.specs.declared.op.Module.{Module}
 use Rattle.xf_ir.specs.Tree.{Ops, no_ops, op, Regions, no_regions, region, Tree}
 use Rattle.xf_ir.specs.Kinds.{symbol_of, callee_of, returned_types}
 use Rattle.xf_ir.specs.Lists.{every, is_text, option_passes, item_before}
-use Rattle.xf_ir.specs.Types.{have_types, same_types}
+use Rattle.xf_ir.specs.Types.{same_types}
 use Rattle.xf_ir.specs.Placed.{Placed, functions_of}
 
 -- ---- what a symbol names
@@ -20,10 +20,10 @@ abbrev pub function_of : List ℕ → Ops → Option Tree
 function_of s no_ops = None
 function_of s (op n k ds os ts rs rest) = if has_symbol s k then Some (record { name = n; kind = k; attrs = ds; operands = os; results = ts; regions = rs }) else function_of s rest
 
--- the types of what a function takes and of what it returns
+-- the types of a function's arguments and of what it returns (MLIR: FunctionType)
 pub record Signature : Type 0 where
-  pub takes : List PayloadType
-  pub gives : List PayloadType
+  pub inputs : List PayloadType
+  pub results : List PayloadType
 
 -- the signature of each symbol that names a function
 abbrev pub Signatures : Type 0
@@ -36,23 +36,23 @@ first_args (region args ops rest) = args
 
 abbrev pub signature : Option Tree → Option Signature
 signature None = None
-signature (Some t) = Some (record { takes = first_args t.regions; gives = returned_types t.kind })
+signature (Some t) = Some (record { inputs = first_args t.regions; results = returned_types t.kind })
 
 abbrev pub signatures : Module → Signatures
 signatures m s = signature (function_of s (functions_of m))
 
--- ---- V8: a callee exists and its types agree
+-- ---- V8: a callee exists, and the results of its call are what it returns; that the operands are its arguments is V6
 
-abbrev pub agrees : Option Signature → List (Option PayloadType) → List PayloadType → Bool
-agrees None os ts = false
-agrees (Some s) os ts = have_types os s.takes && same_types ts s.gives
+abbrev pub agrees : Option Signature → List PayloadType → Bool
+agrees None ts = false
+agrees (Some s) ts = same_types ts s.results
 
-abbrev pub callee_agrees : Signatures → Kind → List (Option PayloadType) → List PayloadType → Bool
-callee_agrees sigs (kind.Call callee) os ts = agrees (sigs callee) os ts
-callee_agrees sigs _ os ts = true
+abbrev pub callee_agrees : Signatures → Kind → List PayloadType → Bool
+callee_agrees sigs (kind.Call callee) ts = agrees (sigs callee) ts
+callee_agrees sigs _ ts = true
 
 abbrev pub has_its_callee : Signatures → Placed → Bool
-has_its_callee sigs p = callee_agrees sigs p.tree.kind p.types p.tree.results
+has_its_callee sigs p = callee_agrees sigs p.tree.kind p.tree.results
 
 -- ---- V9: no call lies on a cycle of calls, and no chain of calls passes 32 functions
 

@@ -103,7 +103,7 @@ pub record IsValid (m : Module) : Type 0 where
   pub types : Everywhere (has_its_types (signatures m)) m
   -- V7: symbols and attributes fit
   pub attributes : Everywhere has_its_attributes m
-  -- V8: each callee exists and its types agree
+  -- V8: each callee exists, and the results of its call are what it returns
   pub callees : Everywhere (has_its_callee (signatures m)) m
   -- V9: no call lies on a cycle of calls, and no chain of calls passes 32 functions
   pub chains : Everywhere (has_short_chains (functions_of m)) m

@@ -55,7 +55,7 @@ function_kept name s (op n k ds os ts rs rest) t =
 
 signature_erased : (name : OpName) (o : Option Tree) → signature (erased_or name o) ≡ signature o
 signature_erased name None = refl
-signature_erased name (Some t) = ap (λ args. Some (let x : Signature = record { takes = args; gives = returned_types t.kind } in x)) (first_args_at name t.regions)
+signature_erased name (Some t) = ap (λ args. Some (let x : Signature = record { inputs = args; results = returned_types t.kind } in x)) (first_args_at name t.regions)
 
 pub signature_kept : (name : OpName) (s : List ℕ) (fs : Ops) → OpsStay name fs → signature (function_of s (ops_at name tail fs)) ≡ signature (function_of s fs)
 signature_kept name s fs t = ap signature (function_kept name s fs t) ∙ signature_erased name (function_of s fs)
@@ -125,12 +125,12 @@ module _ (name : OpName) where
   pub attributes_step : Step name (Passes has_its_attributes) (Passes has_its_attributes)
   attributes_step = record { turn = λ h types t after a g e. e }
 
-  agrees_kept : (sigs sigs' : Signatures) → ((s : List ℕ) → sigs' s ≡ sigs s) → (k : Kind) (os : List (Option PayloadType)) (ts : List PayloadType) → callee_agrees sigs k os ts ≡ true → callee_agrees sigs' k os ts ≡ true
-  agrees_kept sigs sigs' q (kind.Call callee) os ts e = (let z = q callee in rw z e)
-  agrees_kept sigs sigs' q _ os ts e = e
+  agrees_kept : (sigs sigs' : Signatures) → ((s : List ℕ) → sigs' s ≡ sigs s) → (k : Kind) (ts : List PayloadType) → callee_agrees sigs k ts ≡ true → callee_agrees sigs' k ts ≡ true
+  agrees_kept sigs sigs' q (kind.Call callee) ts e = (let z = q callee in rw z e)
+  agrees_kept sigs sigs' q _ ts e = e
 
   pub callees_step : (sigs sigs' : Signatures) → ((s : List ℕ) → sigs' s ≡ sigs s) → Step name (Passes (has_its_callee sigs)) (Passes (has_its_callee sigs'))
-  callees_step sigs sigs' q = record { turn = λ h types t after a g e. agrees_kept sigs sigs' q t.kind types t.results e }
+  callees_step sigs sigs' q = record { turn = λ h types t after a g e. agrees_kept sigs sigs' q t.kind t.results e }
 
   pub chains_step : (fs : Ops) → OpsStay name fs → Step name (Passes (has_short_chains fs)) (Passes (has_short_chains (ops_at name tail fs)))
   chains_step fs s = record { turn = λ h types t after a g e. chain_kept name fs s (callee_of t.kind) e }

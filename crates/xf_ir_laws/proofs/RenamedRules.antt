@@ -103,7 +103,7 @@ module _ (f : OpName → OpName) where
 
   signature_or_same : (o : Option Tree) → signature (renamed_or o) ≡ signature o
   signature_or_same None = refl
-  signature_or_same (Some t) = ap (λ args. Some (let x : Signature = record { takes = args; gives = returned_types t.kind } in x)) (first_args_same t.regions)
+  signature_or_same (Some t) = ap (λ args. Some (let x : Signature = record { inputs = args; results = returned_types t.kind } in x)) (first_args_same t.regions)
 
   pub signature_same : (fs : Ops) (s : List ℕ) → signature (function_of s (ops_renamed f fs)) ≡ signature (function_of s fs)
   signature_same fs s = ap signature (function_same s fs) ∙ signature_or_same (function_of s fs)

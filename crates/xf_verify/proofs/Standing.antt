@@ -11,7 +11,8 @@ use Rattle.xf_ir.specs.Lists.{is_among}
 use Rattle.xf_ir.specs.Calls.{Signatures, signatures, chains_end, callee_ends, chain_ends}
 use Rattle.xf_ir.specs.Places.{done, inside}
 use Rattle.xf_ir.specs.Placed.{Typed, type_at, Holder, holder_of, Placed, place, ops_placed, regions_placed, functions_placed, blocks_placed, top, root_holder, functions_of}
-use Rattle.xf_ir.specs.Violations.{is_new_name, local_rules, rules_kept, first_false, broken_or, first_broken, first_violation, holds_functions}
+use Rattle.xf_ir.specs.declared.rule.Rule.TheVariants as rule
+use Rattle.xf_ir.specs.Violations.{Kept, is_new_name, local_rules, rules_kept, first_false, broken_or, first_broken, first_violation, holds_functions}
 use Rattle.xf_ir.specs.Calls.{has_its_callee}
 use Rattle.xf_ir.specs.RuleTypes.{has_its_types}
 use Rattle.xf_ir.specs.RuleAttributes.{has_its_attributes}
@@ -60,8 +61,11 @@ pub record IsOf (m : Module) (f : Facts) : Type 0 where
 chain_kept : (m : Module) (f : Facts) → IsOf m f → (k : Kind) → callee_ends (ends_in f.calls) k ≡ chain_ends (functions_of m) k
 chain_kept m f o k = ap (λ e. callee_ends e k) o.ends_are
 
-abbrev rules_with : Signatures → Bool → Placed → List Bool
-rules_with sigs ends p = shape_rules p ++ ((has_its_types sigs p ∷ (has_its_attributes p ∷ (has_its_callee sigs p ∷ (ends ∷ [])))) ++ (linalg_rules p ++ range_rules p))
+abbrev rules_with : Signatures → Bool → Placed → List Kept
+rules_with sigs ends p =
+    shape_rules p
+    ++ (((rule.Types, has_its_types sigs p) ∷ ((rule.Attributes, has_its_attributes p) ∷ ((rule.Callees, has_its_callee sigs p) ∷ ((rule.Chains, ends) ∷ []))))
+    ++ (linalg_rules p ++ range_rules p))
 
 rules_by : (s t : Signatures) → s ≡ t → (b c : Bool) → b ≡ c → (p : Placed) → rules_with s b p ≡ rules_with t c p
 rules_by s t e b c h p = ap (λ x. rules_with x b p) e ∙ ap (λ x. rules_with t x p) h
@@ -84,25 +88,30 @@ new_same m f o ns n = ap (λ b. not b && nat_lt n.0 f.next) (among_same ns n) �
 
 -- ---- the same violation
 
+abbrev rules_from : Bool → Bool → List Kept → List Kept
+rules_from new functions more = (rule.Names, new) ∷ ((rule.Functions, functions) ∷ more)
+
 behind_same : (m : Module) (f : Facts) → IsOf m f → (x : OpName) (ns : List OpName) (ps : List Placed) → first_broken m (x ∷ ns) ps ≡ first_behind f (names_from (x ∷ ns)) ps
 behind_same m f o x ns [] = refl
 behind_same m f o x ns (p ∷ ps) = sym (
-    ap (λ bs. broken_or (first_false 1 bs) p.tree.name (first_behind f (names_from (p.tree.name ∷ (x ∷ ns))) ps)) rules
-    ∙ ap (broken_or (first_false 1 (rules_kept m (x ∷ ns) p)) p.tree.name) (sym (behind_same m f o p.tree.name (x ∷ ns) ps)))
+    ap (λ bs. broken_or (first_false bs) p.tree.name (first_behind f (names_from (p.tree.name ∷ (x ∷ ns))) ps)) rules
+    ∙ ap (broken_or (first_false (rules_kept m (x ∷ ns) p)) p.tree.name) (sym (behind_same m f o p.tree.name (x ∷ ns) ps)))
   where
     rules : rules_behind f (names_from (x ∷ ns)) p ≡ rules_kept m (x ∷ ns) p
-    rules = ap (λ (b : Bool). b ∷ (true ∷ rules_of f p)) (new_same m f o (x ∷ ns) p.tree.name) ∙ ap (λ (bs : List Bool). is_new_name m.next (x ∷ ns) p.tree.name ∷ (true ∷ bs)) (local_same m f o p)
+    rules =
+        ap (λ (b : Bool). rules_from b true (rules_of f p)) (new_same m f o (x ∷ ns) p.tree.name)
+        ∙ ap (rules_from (is_new_name m.next (x ∷ ns) p.tree.name) true) (local_same m f o p)
 
 -- where the root's name and its functions are right, the walk finds the first violation
 pub walk_finds : (m : Module) (f : Facts) → IsOf m f → holds_functions m ≡ true → (names : Names) → names ≡ set.empty →
     first_behind f names (stands top (type_at []) m.root no_ops ∷ blocks_stand (root_holder m.root) (type_at []) m.root.regions) ≡ first_violation m
 walk_finds m f o h names e =
     ap (λ x. first_behind f x (stands top (type_at []) m.root no_ops ∷ blocks_stand (root_holder m.root) (type_at []) m.root.regions)) e
-    ∙ ap (λ bs. broken_or (first_false 1 bs) m.root.name (first_behind f (names_from (m.root.name ∷ [])) (blocks_stand (root_holder m.root) (type_at []) m.root.regions))) rules
-    ∙ ap (broken_or (first_false 1 (rules_kept m [] (place top [] m.root no_ops))) m.root.name) (ap (first_behind f (names_from (m.root.name ∷ []))) (sym (blocks_same (root_holder m.root) m.root.regions)) ∙ sym (behind_same m f o m.root.name [] (blocks_placed (root_holder m.root) m.root.regions)))
+    ∙ ap (λ bs. broken_or (first_false bs) m.root.name (first_behind f (names_from (m.root.name ∷ [])) (blocks_stand (root_holder m.root) (type_at []) m.root.regions))) rules
+    ∙ ap (broken_or (first_false (rules_kept m [] (place top [] m.root no_ops))) m.root.name) (ap (first_behind f (names_from (m.root.name ∷ []))) (sym (blocks_same (root_holder m.root) m.root.regions)) ∙ sym (behind_same m f o m.root.name [] (blocks_placed (root_holder m.root) m.root.regions)))
   where
     rules : rules_behind f (names_from []) (place top [] m.root no_ops) ≡ rules_kept m [] (place top [] m.root no_ops)
     rules =
-        ap (λ (b : Bool). b ∷ (true ∷ rules_of f (place top [] m.root no_ops))) (new_same m f o [] m.root.name)
-        ∙ ap (λ (b : Bool). is_new_name m.next [] m.root.name ∷ (b ∷ rules_of f (place top [] m.root no_ops))) (sym h)
-        ∙ ap (λ (bs : List Bool). is_new_name m.next [] m.root.name ∷ (holds_functions m ∷ bs)) (local_same m f o (place top [] m.root no_ops))
+        ap (λ (b : Bool). rules_from b true (rules_of f (place top [] m.root no_ops))) (new_same m f o [] m.root.name)
+        ∙ ap (λ (b : Bool). rules_from (is_new_name m.next [] m.root.name) b (rules_of f (place top [] m.root no_ops))) (sym h)
+        ∙ ap (rules_from (is_new_name m.next [] m.root.name) (holds_functions m)) (local_same m f o (place top [] m.root no_ops))

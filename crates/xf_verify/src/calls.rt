@@ -152,19 +152,19 @@ fn ends_of(alloc: Global, calls: &[CalleeList]) -> Result<Vec<bool>, NoMemory>
     Ok(ends)
 }
 
-/// What a function takes and gives.
+/// The signature of a function.
 fn signature_of(function: &Op) -> Signature<'_>
     ensures { callee_seen (Some result) ≡ signature (Some function.now) }
 {
-    let takes = match function.regions.first() {
+    let inputs = match function.regions.first() {
         Some(block) => block.args.as_slice(),
         None => &[],
     };
-    let gives = match &function.kind {
+    let results = match &function.kind {
         Kind::Func { results, .. } => results.as_slice(),
         _ => &[],
     };
-    Signature { takes, gives }
+    Signature { inputs, results }
 }
 
 impl<'a> Calls<'a> {
@@ -194,7 +194,7 @@ impl<'a> Calls<'a> {
         self.functions.get(*number)
     }
 
-    /// What the function takes and gives that an operation calls; `None` where it calls none that there is.
+    /// The signature of the function that an operation calls; `None` where it calls none that there is.
     pub fn callee(&self, kind: &Kind) -> Option<Signature<'a>>
         ensures { callee_seen result ≡ callee_of (signatures_in self.now) kind.now }
     {
