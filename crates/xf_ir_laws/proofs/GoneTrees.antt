@@ -117,8 +117,8 @@ pub all_gone : (n : OpName) (root t : Tree) → Once (tree_names root) → regio
 all_gone n root t o h =
     each_among (λ m. is_among m (tree_names (tree_erased n root)) ≡ false) (tree_names t)
     (λ m i. let j = among_part m (found_part n root.regions t h) i in
-      or_from (same_name root.name m) (is_among m (regions_names (regions_at n tail root.regions)))
-      (apart_names m root.name (regions_names root.regions) j o.0) (gone_regions n m root.regions t o.1 h i))
+    or_from (same_name root.name m) (is_among m (regions_names (regions_at n tail root.regions)))
+    (apart_names m root.name (regions_names root.regions) j o.0) (gone_regions n m root.regions t o.1 h i))
 
 -- ---- what is put at no spot changes nothing
 

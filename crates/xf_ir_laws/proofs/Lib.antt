@@ -23,3 +23,8 @@ pub mod GoneTrees
 pub mod NextAbove
 pub mod InverseFits
 pub mod Replays
+pub mod RenamedPlaces
+pub mod RenamedRules
+pub mod RenamedReductions
+pub mod KnownPlaces
+pub mod RenamedValid

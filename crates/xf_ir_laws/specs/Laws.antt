@@ -13,6 +13,9 @@ use Rattle.xf_ir.specs.Attributes.{IsSortedByName, attr_set}
 use Rattle.xf_ir.specs.Edits.{edited, inverse_of, replayed, inverses_of, FitsEdit, FitEdits}
 use Rattle.xf_ir.specs.Violations.{first_violation}
 use Rattle.xf_ir.specs.Choices.{MayErase, weight_at}
+use Rattle.xf_ir.specs.Lists.{Each}
+use Rattle.xf_ir.specs.Renamed.{IsRenamed}
+use Rattle.xf_ir.specs.Walk.{tree_names}
 
 -- in a valid module each operand is visible where it stands, and each value is defined once among those that are visible
 abbrev pub ValidIsScoped : Type 0
@@ -61,3 +64,7 @@ InversesLeadBack = (m : Module) (es : List Edit) → IsNamedOnce m → SeesItsUs
 -- an attribute that is given a value or taken away leaves attributes sorted by their names
 abbrev pub SettingKeepsSorted : Type 0
 SettingKeepsSorted = (key : List ℕ) (value : Option AttrValue) (ds : List Attr) → IsSortedByName ds → IsSortedByName (attr_set key value ds)
+
+-- a valid module stays valid under other names that are below its next one
+abbrev pub RenamingKeepsValid : Type 0
+RenamingKeepsValid = (m again : Module) → IsValid m → IsRenamed m again → Each (λ n. n.0 < again.next) (tree_names again.root) → IsValid again

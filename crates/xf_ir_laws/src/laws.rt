@@ -1,5 +1,5 @@
 //! Laws of valid modules and of edits, each as the contract of a function that does nothing.
-ghost use Rattle.xf_ir_laws.specs.Laws.{ValidIsScoped, ValidHasNoViolation, ErasingFits, ErasingKeepsValid, ErasingLowersWeight, ErasingLowersCount, InverseLeadsBack, InverseFits, ReplayingComposes, InversesFit, InversesLeadBack, SettingKeepsSorted};
+ghost use Rattle.xf_ir_laws.specs.Laws.{ValidIsScoped, ValidHasNoViolation, ErasingFits, ErasingKeepsValid, ErasingLowersWeight, ErasingLowersCount, InverseLeadsBack, InverseFits, ReplayingComposes, InversesFit, InversesLeadBack, SettingKeepsSorted, RenamingKeepsValid};
 
 /// In a valid module each operand is visible where it stands, and each value is defined once among those that are visible.
 pub fn valid_is_scoped()
@@ -55,4 +55,9 @@ pub fn inverses_lead_back()
 /// An attribute that is given a value or taken away leaves the attributes sorted by the bytes of their names.
 pub fn setting_keeps_sorted()
     ensures { SettingKeepsSorted }
+{}
+
+/// A valid module stays valid under other names of operations that are below its next one.
+pub fn renaming_keeps_valid()
+    ensures { RenamingKeepsValid }
 {}

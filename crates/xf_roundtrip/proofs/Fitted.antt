@@ -29,7 +29,7 @@ use Rattle.xf_ir_laws.proofs.Obeys.{OpsObey, RegionsObey, FunctionsObey, BlocksO
 use Rattle.xf_ir.proofs.Root.{one_block}
 use Rattle.xf_read.specs.Short.{HasShortLists}
 use Rattle.xf_read.specs.Syntax.{most_operations}
-use Rattle.xf_print.specs.Names.{Entry, Names, no_names, with_ops, first_args, next_number, number_of, first_of}
+use Rattle.xf_ir.specs.PrintedNames.{Entry, Names, no_names, with_ops, first_args, next_number, number_of, first_of}
 use Rattle.xf_roundtrip.specs.Printing.{is_core, all_scalar, is_core_op, IsCore}
 use Rattle.xf_roundtrip.specs.Printable.{AllBytes, FunctionsNumber}
 use Rattle.xf_roundtrip.proofs.Needs.{Known, IsScalar, Fits, OpsFit, RegionsFit, FunctionsFit, ModuleFits}
