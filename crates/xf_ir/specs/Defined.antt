@@ -9,12 +9,14 @@ use Rattle.xf_ir.specs.Places.{results_of, args_of}
 abbrev mutual
   pub ops_define : Ops → ValueName → Bool
   ops_define no_ops v = false
-  ops_define (op n k ds os ts rs rest) v = is_some (results_of n (length ts) v) || (regions_define n 0 rs v || ops_define rest v)
+  ops_define (op n k ds os ts rs rest) v =
+      is_some (results_of n (length ts) v) || (regions_define n 0 rs v || ops_define rest v)
 
   -- those of an operation from its region i on
   pub regions_define : OpName → ℕ → Regions → ValueName → Bool
   regions_define n i no_regions v = false
-  regions_define n i (region args ops rest) v = is_some (args_of n i (length args) v) || (ops_define ops v || regions_define n (suc i) rest v)
+  regions_define n i (region args ops rest) v =
+      is_some (args_of n i (length args) v) || (ops_define ops v || regions_define n (suc i) rest v)
 
 abbrev pub is_defined_in : Tree → ValueName → Bool
 is_defined_in t v = is_some (results_of t.name (length t.results) v) || regions_define t.name 0 t.regions v

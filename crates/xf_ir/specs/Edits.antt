@@ -104,21 +104,23 @@ wants_memory (Restore tree at by changes) = true
 wants_memory (Move name to) = true
 wants_memory (SetAttr name key value) = true
 
--- the tree has new names and its spot is one of the module, and after it names occur once and each use is of a visible value
+-- ---- edits that fit: each leaves a module in which names occur once and each use is of a visible value
+
+-- the tree has new names and its spot is one of the module
 pub record FitsInsert (m : Module) (tree : Tree) (at : Spot) : Type 0 where
   pub fresh : Each (λ n. is_among n (tree_names m.root) ≡ false) (tree_names tree)
   pub spot : IsSpot at m.root
   pub names : IsNamedOnce (edited m (Insert tree at))
   pub uses : SeesItsUses (edited m (Insert tree at))
 
--- what an edit names is in the module, the root stays, and after it names occur once and each use is of a visible value
+-- the operation is in the module below the root
 pub record FitsErase (m : Module) (name : OpName) : Type 0 where
   pub tree : Tree
   pub inside : regions_find name m.root.regions ≡ Some tree
   pub names : IsNamedOnce (edited m (Erase name))
   pub uses : SeesItsUses (edited m (Erase name))
 
--- the changes fit the module, and after it names occur once and each use is of a visible value
+-- the changes fit the module
 pub record FitsReplaceUses (m : Module) (changes : List Change) : Type 0 where
   pub places : FitsChanges m.root changes
   pub names : IsNamedOnce (edited m (ReplaceUses changes))
@@ -136,7 +138,7 @@ pub record FitsValues (root tree : Tree) (by : List ValueName) : Type 0 where
   pub defined : Each (λ v. is_defined_in root v ≡ true) by
   pub outside : Each (λ v. is_defined_in tree v ≡ false) by
 
--- the operation is in the module below the root, its values and the changes fit, and after it names occur once and each use is of a visible value
+-- the operation is in the module below the root, and its values and the changes fit
 pub record FitsReplace (m : Module) (name : OpName) (by : List ValueName) (changes : List Change) : Type 0 where
   pub tree : Tree
   pub inside : regions_find name m.root.regions ≡ Some tree
@@ -146,7 +148,7 @@ pub record FitsReplace (m : Module) (name : OpName) (by : List ValueName) (chang
   pub names : IsNamedOnce (edited m (Replace name by changes))
   pub uses : SeesItsUses (edited m (Replace name by changes))
 
--- the tree has new names, its spot is one of the module, its values and the changes fit, and after it names occur once and each use is of a visible value
+-- the tree has new names, its spot is one of the module, and its values and the changes fit
 pub record FitsRestore (m : Module) (tree : Tree) (at : Spot) (by : List ValueName) (changes : List Change) : Type 0 where
   pub fresh : Each (λ n. is_among n (tree_names m.root) ≡ false) (tree_names tree)
   pub spot : IsSpot at m.root
@@ -156,7 +158,7 @@ pub record FitsRestore (m : Module) (tree : Tree) (at : Spot) (by : List ValueNa
   pub names : IsNamedOnce (edited m (Restore tree at by changes))
   pub uses : SeesItsUses (edited m (Restore tree at by changes))
 
--- the operation is in the module below the root, its spot is one of the tree without it, and after it names occur once and each use is of a visible value
+-- the operation is in the module below the root, and its spot is one of the tree without it
 pub record FitsMove (m : Module) (name : OpName) (to : Spot) : Type 0 where
   pub tree : Tree
   pub inside : regions_find name m.root.regions ≡ Some tree
@@ -164,7 +166,7 @@ pub record FitsMove (m : Module) (name : OpName) (to : Spot) : Type 0 where
   pub names : IsNamedOnce (edited m (Move name to))
   pub uses : SeesItsUses (edited m (Move name to))
 
--- the operation is in the module, its attributes are sorted by their names, and after it names occur once and each use is of a visible value
+-- the operation is in the module, and its attributes are sorted by their names
 pub record FitsSetAttr (m : Module) (name : OpName) (key : List ℕ) (value : Option AttrValue) : Type 0 where
   pub tree : Tree
   pub found : tree_find name m.root ≡ Some tree

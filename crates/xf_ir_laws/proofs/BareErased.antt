@@ -1,5 +1,5 @@
 -- Trees without the bodies of linalg.generic: what is found in them stands in no such body, and one of their operations is erased.
-use Rattle.std.proofs.Common.{◌≡◌, ◌∷◌, ◌++◌, true, false, eqb, Option, Some, inl, inr, refl, subst}
+use Rattle.std.proofs.Common.{◌≡◌, ◌++◌, false, eqb, Some, inl, inr, refl, subst}
 use Rattle.std.proofs.lemmas.Bool.{cases_Bool, or_parts}
 use Rattle.xf_ir.specs.declared.name.OpName.{OpName}
 use Rattle.xf_ir.specs.Tree.{Ops, no_ops, op, Regions, no_regions, region, Tree}

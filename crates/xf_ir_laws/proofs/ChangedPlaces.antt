@@ -7,7 +7,7 @@ use Rattle.xf_ir.specs.declared.name.ValueName.{ValueName}
 use Rattle.xf_ir.specs.declared.change.Change.{Change}
 use Rattle.xf_ir.specs.Tree.{Ops, no_ops, op, Regions, no_regions, region, Tree}
 use Rattle.xf_ir.specs.Walk.{ops_find, regions_find, tree_find}
-use Rattle.xf_ir.specs.Lists.{Each, same_name}
+use Rattle.xf_ir.specs.Lists.{Each}
 use Rattle.xf_ir.specs.Changes.{is_place, value_changed, operands_changed, ops_changed, regions_changed, tree_changed, turned, operand_of, is_place_among, PlacesOnce, FitsChanges}
 use Rattle.xf_ir.proofs.Lists.{name_is, own_name}
 use Rattle.xf_ir.proofs.Found.{found_named_regions}

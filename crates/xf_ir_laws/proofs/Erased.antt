@@ -1,5 +1,5 @@
 -- What stays where one operation is taken out: the rules that speak of each operation for itself.
-use Rattle.std.proofs.Common.{◌≡◌, ℕ, List, ◌∷◌, ◌++◌, true, false, eqb, ◌||◌, inl, inr, refl, ap}
+use Rattle.std.proofs.Common.{◌≡◌, List, ◌∷◌, ◌++◌, true, false, eqb, ◌||◌, inl, inr, refl, ap}
 use Rattle.std.specs.Prelude.{if◌then◌else◌}
 use Rattle.std.proofs.lemmas.Bool.{cases_Bool, and_from, and_parts, or_cases, or_parts}
 use Rattle.xf_type.specs.declared.payload_type.PayloadType.{PayloadType}

@@ -11,7 +11,7 @@ use Rattle.xf_ir.specs.declared.op.Module.{Module}
 use Rattle.xf_ir.specs.Tree.{Ops, no_ops, op, Regions, no_regions, region, Tree}
 use Rattle.xf_ir.specs.Count.{ops_count, regions_count, tree_count}
 use Rattle.xf_ir.specs.Walk.{ops_names, regions_names, ops_find, regions_find, tree_find}
-use Rattle.xf_ir.specs.Kinds.{is_container, is_generic, ends}
+use Rattle.xf_ir.specs.Kinds.{is_generic}
 use Rattle.xf_ir.specs.Lists.{Each, Once, is_among}
 use Rattle.xf_ir.specs.Places.{results_of}
 use Rattle.xf_ir.specs.Uses.{ops_operands, regions_operands, tree_operands}
@@ -26,7 +26,7 @@ use Rattle.xf_ir.specs.RuleLinalg.{has_its_maps, has_its_iterators, has_its_redu
 use Rattle.xf_ir.specs.RuleSlices.{has_its_slices}
 use Rattle.xf_ir.specs.Valid.{IsValid, IsNamedOnce, IsModule, FunctionsAlone, BlocksAlone, block_of, functions_of, FunctionsSee}
 use Rattle.xf_ir.proofs.Lists.{at_cases, each_left, each_right, each_part, once_part, texts_part, not_part, not_left, not_right, once_left, once_right, absent_before, apart_names, keep}
-use Rattle.xf_ir.proofs.Found.{first_cases, found_in, found_name, found_name_regions, found_named_regions, lost_name, lost_name_regions, find_inside, find_inside_regions, tree, OpsWhere, RegionsWhere, where_found_regions, block_where, Gives, Outside}
+use Rattle.xf_ir.proofs.Found.{first_cases, found_in, found_name, found_name_regions, found_named_regions, lost_name, lost_name_regions, find_inside, find_inside_regions, tree, RegionsWhere, where_found_regions, block_where, Gives, Outside}
 use Rattle.xf_ir_laws.proofs.Erased.{names_part, names_part_regions, blocks_kept as alone_kept, symbols_part_in, block_at, Goes}
 use Rattle.xf_ir_laws.proofs.ErasedUses.{functions_see_kept}
 use Rattle.xf_ir_laws.proofs.Obeys.{Passes, blocks_obey, each_blocks}

@@ -1,5 +1,5 @@
 -- A tree that is taken out: its names are gone from what is left, and its spot is one of it.
-use Rattle.std.proofs.Common.{◌≡◌, ◌⊎◌, ℕ, zero, suc, ◌+◌, ◌<◌, ◌≤◌, List, [], ◌∷◌, ◌++◌, Option, Some, None, true, false, eqb, inl, inr, refl, sym, ◌∙◌, subst, arith}
+use Rattle.std.proofs.Common.{◌≡◌, ◌⊎◌, ℕ, zero, suc, ◌<◌, List, [], ◌∷◌, ◌++◌, Some, None, true, false, eqb, inl, inr, refl, sym, ◌∙◌, subst, arith}
 use Rattle.std.proofs.lemmas.Bool.{cases_Bool, cases_lt, or_from, or_parts}
 use Rattle.xf_ir.specs.declared.name.OpName.{OpName}
 use Rattle.xf_ir.specs.declared.spot.Spot.{Spot}
@@ -9,7 +9,7 @@ use Rattle.xf_ir.specs.Walk.{ops_names, regions_names, tree_names, ops_find, reg
 use Rattle.xf_ir.specs.Lists.{Each, same_name, is_among, Once}
 use Rattle.xf_ir.specs.Spots.{tree_locate, ops_insert, regions_insert, ops_put, regions_put, tree_put, ops_length, regions_get, IsSpot}
 use Rattle.xf_ir.specs.Edits.{ops_at, regions_at, tail, tree_erased}
-use Rattle.xf_ir.proofs.Lists.{not_left, not_right, not_both, once_left, once_right, once_apart, absent_before, apart_names, Part, none, skip, keep, part_none, part_append, not_part, once_part}
+use Rattle.xf_ir.proofs.Lists.{not_left, not_right, not_both, once_left, once_right, once_apart, absent_before, apart_names, Part, none, skip, keep, part_none, not_part, once_part}
 use Rattle.xf_ir.proofs.Found.{tree, first_cases, some_or_none, tree_none_name, OpsWhere, RegionsWhere, where_found_regions}
 use Rattle.xf_ir_laws.proofs.Erased.{names_part, names_part_regions}
 use Rattle.xf_ir_laws.proofs.PutBack.{put_lacking_regions, erased_back, among_own, among_behind}

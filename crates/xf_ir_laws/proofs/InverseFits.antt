@@ -1,5 +1,5 @@
 -- The inverse of an edit fits the edited module.
-use Rattle.std.proofs.Common.{◌≡◌, ℕ, ◌<◌, ◌≤◌, List, [], ◌∷◌, Option, Some, None, true, false, eqb, refl, sym, ap, ◌∙◌, subst, arith}
+use Rattle.std.proofs.Common.{◌≡◌, ℕ, ◌<◌, ◌≤◌, List, [], Option, Some, true, false, eqb, sym, ap, ◌∙◌, subst, arith}
 use Rattle.std.specs.Prelude.{map}
 use Rattle.xf_type.specs.declared.attribute.AttrValue.{AttrValue}
 use Rattle.xf_ir.specs.declared.name.OpName.{OpName}
@@ -11,7 +11,7 @@ use Rattle.xf_ir.specs.declared.edit.Edit.{Edit}
 use Rattle.xf_ir.specs.declared.edit.Edit.TheVariants.{Insert, Erase, ReplaceUses, Replace, Restore, Move, SetAttr}
 use Rattle.xf_ir.specs.declared.op.Module.{Module}
 use Rattle.xf_ir.specs.Tree.{Tree}
-use Rattle.xf_ir.specs.Walk.{tree_names, regions_names, regions_find, tree_find}
+use Rattle.xf_ir.specs.Walk.{tree_names, regions_find, tree_find}
 use Rattle.xf_ir.specs.Lists.{Each, Once, is_among}
 use Rattle.xf_ir.specs.Places.{AllSeen}
 use Rattle.xf_ir.specs.Valid.{IsNamedOnce, SeesItsUses, FunctionsSee, block_of}
@@ -19,7 +19,7 @@ use Rattle.xf_ir.specs.Spots.{tree_locate, tree_at_spot, spot_at, spot_or, tree_
 use Rattle.xf_ir.specs.Changes.{tree_changed, turned, tree_attributed, FitsChanges}
 use Rattle.xf_ir.specs.Attributes.{IsSortedByName, attr_set, attr_at}
 use Rattle.xf_ir.specs.Defined.{is_defined_in}
-use Rattle.xf_ir.specs.Edits.{tree_erased, edited, inverse_of, put_back, restore, next_above, IsReplaced, FitsValues, FitsInsert, FitsErase, FitsReplaceUses, FitsReplace, FitsRestore, FitsMove, FitsSetAttr, FitsEdit}
+use Rattle.xf_ir.specs.Edits.{edited, inverse_of, put_back, restore, next_above, IsReplaced, FitsValues, FitsInsert, FitsErase, FitsReplaceUses, FitsReplace, FitsRestore, FitsMove, FitsSetAttr, FitsEdit}
 use Rattle.xf_ir.proofs.Lists.{at_cases, each_map, each_part}
 use Rattle.xf_ir.proofs.Found.{found_name_regions, found_named_regions}
 use Rattle.xf_ir.proofs.SpotLemmas.{located_tree}

@@ -27,27 +27,39 @@ ValidHasNoViolation = (m : Module) → IsValid m ↔ (first_violation m ≡ None
 
 -- what may be erased is erased by an edit that fits the module
 abbrev pub ErasingFits : Type 0
-ErasingFits = (m : Module) (target name : OpName) → IsValid m → MayErase m target name → FitsEdit m (Erase name)
+ErasingFits =
+    (m : Module) (target name : OpName) → IsValid m → MayErase m target name →
+    FitsEdit m (Erase name)
 
 -- and leaves a valid module
 abbrev pub ErasingKeepsValid : Type 0
-ErasingKeepsValid = (m : Module) (target name : OpName) → IsValid m → MayErase m target name → IsValid (edited m (Erase name))
+ErasingKeepsValid =
+    (m : Module) (target name : OpName) → IsValid m → MayErase m target name →
+    IsValid (edited m (Erase name))
 
 -- it lowers the weight of the scope
 abbrev pub ErasingLowersWeight : Type 0
-ErasingLowersWeight = (m : Module) (target name : OpName) → IsValid m → MayErase m target name → weight_at (edited m (Erase name)) target + 1 ≤ weight_at m target
+ErasingLowersWeight =
+    (m : Module) (target name : OpName) → IsValid m → MayErase m target name →
+    weight_at (edited m (Erase name)) target + 1 ≤ weight_at m target
 
 -- and the number of operations
 abbrev pub ErasingLowersCount : Type 0
-ErasingLowersCount = (m : Module) (target name : OpName) → IsValid m → MayErase m target name → tree_count (edited m (Erase name)).root < tree_count m.root
+ErasingLowersCount =
+    (m : Module) (target name : OpName) → IsValid m → MayErase m target name →
+    tree_count (edited m (Erase name)).root < tree_count m.root
 
 -- where names occur once, the inverse of an edit that fits leads back to the module's tree
 abbrev pub InverseLeadsBack : Type 0
-InverseLeadsBack = (m : Module) (e : Edit) → IsNamedOnce m → FitsEdit m e → (edited (edited m e) (inverse_of m e)).root ≡ m.root
+InverseLeadsBack =
+    (m : Module) (e : Edit) → IsNamedOnce m → FitsEdit m e →
+    (edited (edited m e) (inverse_of m e)).root ≡ m.root
 
 -- and fits the edited module, where each use was of a visible value
 abbrev pub InverseFits : Type 0
-InverseFits = (m : Module) (e : Edit) → IsNamedOnce m → SeesItsUses m → FitsEdit m e → FitsEdit (edited m e) (inverse_of m e)
+InverseFits =
+    (m : Module) (e : Edit) → IsNamedOnce m → SeesItsUses m → FitsEdit m e →
+    FitsEdit (edited m e) (inverse_of m e)
 
 -- edits are replayed by replaying some of them and then the others
 abbrev pub ReplayingComposes : Type 0
@@ -55,15 +67,21 @@ ReplayingComposes = (m : Module) (es fs : List Edit) → replayed m (es ++ fs) �
 
 -- where each edit fits what the former ones left, so does each inverse, the last edit's first
 abbrev pub InversesFit : Type 0
-InversesFit = (m : Module) (es : List Edit) → IsNamedOnce m → SeesItsUses m → FitEdits m es → FitEdits (replayed m es) (inverses_of m es)
+InversesFit =
+    (m : Module) (es : List Edit) → IsNamedOnce m → SeesItsUses m → FitEdits m es →
+    FitEdits (replayed m es) (inverses_of m es)
 
 -- and the inverses lead back to the module's tree
 abbrev pub InversesLeadBack : Type 0
-InversesLeadBack = (m : Module) (es : List Edit) → IsNamedOnce m → SeesItsUses m → FitEdits m es → (replayed (replayed m es) (inverses_of m es)).root ≡ m.root
+InversesLeadBack =
+    (m : Module) (es : List Edit) → IsNamedOnce m → SeesItsUses m → FitEdits m es →
+    (replayed (replayed m es) (inverses_of m es)).root ≡ m.root
 
 -- an attribute that is given a value or taken away leaves attributes sorted by their names
 abbrev pub SettingKeepsSorted : Type 0
-SettingKeepsSorted = (key : List ℕ) (value : Option AttrValue) (ds : List Attr) → IsSortedByName ds → IsSortedByName (attr_set key value ds)
+SettingKeepsSorted =
+    (key : List ℕ) (value : Option AttrValue) (ds : List Attr) → IsSortedByName ds →
+    IsSortedByName (attr_set key value ds)
 
 -- a valid module stays valid under other names that are below its next one
 abbrev pub RenamingKeepsValid : Type 0
