@@ -1,16 +1,19 @@
 -- The head that is spelt at a token.
-use Rattle.std.specs.Prelude.{◌≡◌, ℕ, ◌<◌, ◌≤◌, List, [], length, ◌++◌, Option, Some, None, Result, Ok, Err}
+use Rattle.std.specs.Prelude.{◌≡◌, ℕ, ◌<◌, ◌≤◌, List, [], length, ◌++◌, Option, Some, None, Result, Ok, Err, Bool, true, false, if◌then◌else◌}
 use Rattle.xf_type.specs.declared.payload_type.PayloadType.{PayloadType}
 use Rattle.xf_span.specs.declared.fault.Fault.{Fault}
 use Rattle.xf_span.specs.declared.fault.TextFault.{TextFault}
 use Rattle.xf_span.specs.declared.fault.TextFault.TheVariants as text_fault
 use Rattle.xf_lex.specs.declared.token.Token.{Token}
+use Rattle.xf_grammar.specs.Tokens.{Seen, seen, word_of}
 use Rattle.xf_read_base.specs.declared.due.Due.{Due}
 use Rattle.xf_read_base.specs.declared.due.Due.TheVariants as due
 use Rattle.xf_read_base.specs.declared.parts.Literal.{Literal}
 use Rattle.xf_read_base.specs.declared.parts.Literal.TheVariants as literal
 use Rattle.xf_read_base.specs.declared.parts.Parts.{Parts}
 use Rattle.xf_read_base.specs.declared.row.Level.TheVariants as level
+use Rattle.xf_read_base.specs.declared.row.Opening.{Opening}
+use Rattle.xf_read_base.specs.declared.row.Opening.TheVariants as opening
 use Rattle.xf_read_base.specs.declared.row.Row.{Row}
 use Rattle.xf_read_base.specs.declared.row.Row.TheVariants as row
 use Rattle.xf_read_base.specs.declared.parts.Head.{Head}
@@ -18,6 +21,7 @@ use Rattle.xf_read_base.specs.Heads.{head_at}
 use Rattle.xf_read_base.specs.Reading.{Read}
 use Rattle.xf_read_base.specs.Stops.{due_fault}
 use Rattle.xf_read_base.specs.Values.{attrs_of, kind_by}
+use Rattle.xf_read_base.specs.Words.{opening_of}
 
 -- the types that are stated, in order: of a loop those of its results go before its width, and true and false state none
 abbrev pub unless_truth : Option Literal → List PayloadType → List PayloadType
@@ -34,10 +38,20 @@ stated_by r p = p.types ++ p.results
 abbrev pub head_of : List Token → Parts → ℕ → Head
 head_of all p next = record { kind = kind_by all p.row p; attrs = attrs_of all p.entries; defines = p.defines; args = p.args; uses = p.uses; types = stated_by p.row p; next = next }
 
--- what reading says of a head: none where an operation of another reader stands there, and else the fault at the first token that
--- fits no head
+-- whether an operation of this reader begins there
+abbrev pub is_row : Opening → Bool
+is_row (opening.Row r) = true
+is_row opening.Other = false
+is_row opening.Nothing = false
+
+abbrev pub begins_row : Seen → Bool
+begins_row x = is_row (opening_of (word_of x))
+
+-- what reading says of a head: none where no operation of this reader begins, and else the fault at the first token that fits no
+-- head
 abbrev pub stopped : List Token → ℕ → Due → Result (Option Head) Fault
 stopped all at due.OtherReader = Ok None
+stopped all at due.Operation = if begins_row (seen all at) then Err (due_fault all at due.Operation) else Ok None
 stopped all at d = Err (due_fault all at d)
 
 abbrev pub head_told : List Token → Read → Result (Option Head) Fault

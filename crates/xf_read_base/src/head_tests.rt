@@ -1,5 +1,5 @@
-//! Heads by what they mean, none where another reader's operation stands, and the fault where no
-//! head is. The values are those of the table of operations, written by hand.
+//! Heads by what they mean, none where no operation of this reader begins, and the fault where one
+//! has no head. The values are those of the table of operations, written by hand.
 
 use crate::{Ref, head};
 use std::alloc::Global;
@@ -78,9 +78,15 @@ fn a_constant_has_its_bits_and_its_attributes_by_name(rt: HostRuntime) {
 }
 
 #[test]
-fn an_operation_of_another_reader_is_none(rt: HostRuntime) {
+fn where_no_operation_of_this_reader_begins_is_none(rt: HostRuntime) {
     let alloc = rt.alloc();
     let texts = [
+        "",
+        "}",
+        "^bb0:",
+        "addi %a, %b : i8",
+        "%0 = arith.divsi %a, %b : i8",
+        "%0 = \"op\"",
         "%0 = tensor.empty() : tensor<4xi8>",
         "linalg.fill ins(%a : i8) outs(%b : tensor<4xi8>)",
         "%0 = arith.constant {x} dense<1> : tensor<4xi8>",
@@ -101,9 +107,9 @@ type Refused = (&'static str, Code, u32, u32);
 fn a_text_without_a_head_has_its_fault(rt: HostRuntime) {
     let alloc = rt.alloc();
     let texts: [Refused; 5] = [
-        ("", Code::A1, 0, 1),
+        ("%0", Code::A1, 0, 3),
         ("arith.addi %a %b : i8", Code::A1, 0, 15),
-        ("%0 = arith.divsi %a, %b : i8", Code::A6, 2, 6),
+        ("%0 = func.func @f() {", Code::A6, 21, 6),
         ("func.func public @f()", Code::A6, 19, 11),
         ("arith.addi %a, %b : tensor<4xi8>", Code::A6, 18, 21),
     ];

@@ -246,10 +246,11 @@ fn assert_refused(rt: &impl Abort, alloc: Global, level: Level, wanted: &Refused
 #[test]
 fn the_first_token_that_fits_no_head_is_judged(rt: HostRuntime) {
     let alloc = rt.alloc();
-    let inside: [Refused; 39] = [
+    let inside: [Refused; 44] = [
         ("", 0, Verdict::Syntax),
         ("%0", 1, Verdict::Syntax),
         ("%0 = \"op\"", 2, Verdict::OutOfProfile(11)),
+        ("%0 = ^bb0", 2, Verdict::OutOfProfile(7)),
         ("^bb0:", 0, Verdict::OutOfProfile(7)),
         ("module", 0, Verdict::OutOfProfile(15)),
         ("builtin.module", 0, Verdict::OutOfProfile(15)),
@@ -292,7 +293,11 @@ fn the_first_token_that_fits_no_head_is_judged(rt: HostRuntime) {
         ),
         ("arith.constant {} {", 3, Verdict::OutOfProfile(14)),
         ("arith.constant \"a\"", 1, Verdict::OutOfProfile(14)),
+        ("arith.constant f32", 1, Verdict::OutOfProfile(1)),
+        ("arith.constant i32", 1, Verdict::OutOfProfile(14)),
         ("return {x = dense<1>}", 4, Verdict::OutOfProfile(14)),
+        ("return {x = ui32}", 4, Verdict::OutOfProfile(4)),
+        ("return {x = vector<4xi8>}", 4, Verdict::OutOfProfile(5)),
         ("return {x = @f}", 4, Verdict::OutOfProfile(14)),
         ("return {x = y}", 4, Verdict::Syntax),
         ("return {x = 256 : i8}", 6, Verdict::Syntax),
@@ -302,9 +307,10 @@ fn the_first_token_that_fits_no_head_is_judged(rt: HostRuntime) {
     for wanted in inside.iter() {
         assert_refused(&rt, alloc, Level::Body, wanted);
     }
-    let outside: [Refused; 13] = [
+    let outside: [Refused; 14] = [
         ("#map = affine_map<(d0) -> (d0)>", 0, Verdict::NotBuilt),
         ("builtin.module", 0, Verdict::OutOfProfile(21)),
+        ("^bb0:", 0, Verdict::OutOfProfile(7)),
         ("arith.addi", 0, Verdict::OutOfProfile(21)),
         ("%0 = func.func", 0, Verdict::Syntax),
         ("return", 0, Verdict::Syntax),
