@@ -47,13 +47,7 @@ fn entries(alloc: Global, journal: &Journal) -> Result<String, AllocError> {
 fn call(alloc: Global, case: &Case, mut files: MemFiles) -> Result<Ended, AllocError> {
     let mut out = sink(alloc, case.failing_out.as_slice())?;
     let mut err = sink(alloc, case.failing_err.as_slice())?;
-    let outcome = transform_main(
-        alloc,
-        case.words.as_slice(),
-        &mut files,
-        &mut out,
-        &mut err,
-    );
+    let outcome = transform_main(alloc, case.words.as_slice(), &mut files, &mut out, &mut err);
     Ok(Ended {
         status: outcome.status,
         out,
@@ -64,12 +58,7 @@ fn call(alloc: Global, case: &Case, mut files: MemFiles) -> Result<Ended, AllocE
 }
 
 /// Calls the program where a file holds other bytes.
-fn call_with(
-    alloc: Global,
-    case: &Case,
-    path: &str,
-    bytes: &[u8],
-) -> Result<Ended, AllocError> {
+fn call_with(alloc: Global, case: &Case, path: &str, bytes: &[u8]) -> Result<Ended, AllocError> {
     let mut files = case.files(alloc)?;
     files.add(path, bytes)?;
     call(alloc, case, files)
@@ -85,11 +74,15 @@ fn add_cut_differences(
     let bytes = case.bytes_of(cut.path.as_str()).unwrap_or(&[]);
     for end in cut.from..=cut.to {
         let prefix = bytes.get(..end).unwrap_or(bytes);
-        let ended = call_with(alloc, case, cut.path.as_str(), front)?;
+        let ended = call_with(alloc, case, cut.path.as_str(), prefix)?;
         let mut found = String::new(alloc);
         add_differences(&mut found, &ended, &case.end)?;
         if !found.is_empty() {
-            write!(into, "  with the first {end} bytes of {}\n{found}", cut.path)?;
+            write!(
+                into,
+                "  with the first {end} bytes of {}\n{found}",
+                cut.path
+            )?;
         }
     }
     Ok(())
@@ -107,11 +100,7 @@ fn second_end(alloc: Global, end: &End) -> Result<End, AllocError> {
 }
 
 /// Adds what differs in a call, and in a second one where the case has one.
-fn add_call_differences(
-    alloc: Global,
-    case: &Case,
-    into: &mut String,
-) -> Result<(), AllocError> {
+fn add_call_differences(alloc: Global, case: &Case, into: &mut String) -> Result<(), AllocError> {
     let ended = call(alloc, case, case.files(alloc)?)?;
     add_differences(into, &ended, &case.end)?;
     let Some(path) = &case.again else {

@@ -69,12 +69,7 @@ fn add_texts(
 }
 
 /// Adds a difference between two words.
-fn add_words(
-    into: &mut String,
-    name: &str,
-    found: &str,
-    expected: &str,
-) -> Result<(), AllocError> {
+fn add_words(into: &mut String, name: &str, found: &str, expected: &str) -> Result<(), AllocError> {
     if found == expected {
         return Ok(());
     }
@@ -99,5 +94,10 @@ pub fn add_differences(into: &mut String, ended: &Ended, end: &End) -> Result<()
     let told = told_prefix(ended.err.bytes(), end);
     add_texts(into, "err", told, end.err.as_slice())?;
     add_words(into, "told", ended.told, end.told.as_str())?;
-    add_words(into, "journal", ended.journal.as_str(), end.journal.as_str())
+    add_words(
+        into,
+        "journal",
+        ended.journal.as_str(),
+        end.journal.as_str(),
+    )
 }

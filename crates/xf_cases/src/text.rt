@@ -112,12 +112,7 @@ fn add_turn(alloc: Global, into: &mut Vec<u8>, spelt: &str, turn: u64) -> Result
 }
 
 /// Adds a quoted text so many times; the turns count from 0.
-pub fn add_quoted(
-    alloc: Global,
-    into: &mut Vec<u8>,
-    spelt: &str,
-    times: u64,
-) -> Result<(), Cause> {
+pub fn add_quoted(alloc: Global, into: &mut Vec<u8>, spelt: &str, times: u64) -> Result<(), Cause> {
     for turn in 0..times {
         add_turn(alloc, into, spelt, turn)?;
     }
