@@ -7,7 +7,7 @@ use Rattle.xf_ir.specs.Tree.{Ops, no_ops, op, Regions, no_regions, region, Tree}
 use Rattle.xf_ir.specs.Walk.{ops_names, regions_names, ops_find, regions_find, tree_find}
 use Rattle.xf_ir.specs.Kinds.{is_generic}
 use Rattle.xf_ir.specs.Lists.{Once, is_among}
-use Rattle.xf_ir.specs.Choices.{ops_bare, regions_bare, bare, scope_of, MayErase}
+use Rattle.xf_ir.specs.Choices.{ops_bare, regions_bare, bare, scope_of, scope_at}
 use Rattle.xf_ir.specs.Valid.{IsNamedOnce}
 use Rattle.xf_ir.proofs.Lists.{at_cases, once_left, once_right, absent_before, Part, none, keep, part_none, part_append, not_part, once_part}
 use Rattle.xf_ir.proofs.Found.{tree, first_cases, found_name, found_name_regions, lost_name, lost_name_regions, find_inside_regions}
@@ -115,6 +115,6 @@ in_scope t target name s o h =
     deeper (Some x) e g = find_inside_regions t.regions target name x s o e g
 
 -- an operation of the scope, as the module holds it
-pub found_inside : (m : Module) (target name : OpName) → IsNamedOnce m → (e : MayErase m target name) → Whole (regions_find name m.root.regions) e.tree
-found_inside m target name o e =
-    found_whole m.root.regions name e.tree o.once.1 (below_bare m.root e.tree name (in_scope (bare m.root) target name e.tree (once_bare m.root o.once.1) e.inside))
+pub found_inside : (m : Module) (target name : OpName) (t : Tree) → IsNamedOnce m → regions_find name (scope_at m target) ≡ Some t → Whole (regions_find name m.root.regions) t
+found_inside m target name t o h =
+    found_whole m.root.regions name t o.once.1 (below_bare m.root t name (in_scope (bare m.root) target name t (once_bare m.root o.once.1) h))

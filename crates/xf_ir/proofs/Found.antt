@@ -218,6 +218,14 @@ mutual
       let p = none_of (ops_find name ops) (regions_find name rest) h in
       not_both name (ops_names ops) (regions_names rest) (none_name name ops p.0) (none_name_regions name rest p.1)
 
+-- a name that stands among them is found
+pub found_in : (name : OpName) (rs : Regions) → is_among name (regions_names rs) ≡ true → (t : Tree) × (regions_find name rs ≡ Some t)
+found_in name rs i =
+    elim (some_or_none (regions_find name rs)) [
+      | inl f ↦ f
+      | inr n ↦ absurd (let a = none_name_regions name rs n in cc)
+    ]
+
 pub tree_none_name : (name : OpName) (t : Tree) → tree_find name t ≡ None → is_among name (tree_names t) ≡ false
 tree_none_name name t h =
     elim (cases_Bool (eqb t.name.0 name.0)) [

@@ -18,6 +18,7 @@ pub mod RuleAttributes
 pub mod RuleLinalg
 pub mod RuleSlices
 pub mod Valid
+pub mod Rules
 pub mod Violations
 pub mod Spelling
 pub mod PrintedWords

@@ -10,6 +10,7 @@ mod kind;
 mod name;
 mod name_set;
 mod op;
+mod rule;
 mod snippet;
 mod spelling;
 mod spot;
@@ -26,6 +27,7 @@ pub use kind::{
 pub use name::{OpName, ValueName};
 pub use name_set::NameSet;
 pub use op::{Block, BlockList, Module, Op, OpList};
+pub use rule::Rule;
 pub use snippet::Snippet;
 pub use spot::{Located, Spot};
 pub use values::ValueList;

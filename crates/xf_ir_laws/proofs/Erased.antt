@@ -9,12 +9,12 @@ use Rattle.xf_ir.specs.declared.kind.Kind.TheVariants as kind
 use Rattle.xf_ir.specs.Tree.{Ops, no_ops, op, Regions, no_regions, region, Tree}
 use Rattle.xf_ir.specs.Walk.{ops_names, regions_names}
 use Rattle.xf_ir.specs.Lists.{same_name, is_among}
-use Rattle.xf_ir.specs.Kinds.{ends, ends_for, is_endless, is_return, is_yield, is_linalg_yield}
+use Rattle.xf_ir.specs.Kinds.{symbol_of, ends, ends_for, is_endless, is_return, is_yield, is_linalg_yield}
 use Rattle.xf_ir.specs.Edits.{ops_at, regions_at, tail}
 use Rattle.xf_ir.specs.Calls.{first_args}
 use Rattle.xf_ir.specs.RuleBlocks.{block_args, is_end, block_ends, blocks_end, stands_at_end}
-use Rattle.xf_ir.specs.Valid.{OpsInner, RegionsInner, FunctionsAlone, BlocksAlone, symbols_before, symbols_of, symbols_in, block_of}
-use Rattle.xf_ir.proofs.Lists.{at_cases, not_left, not_right, Part, none, skip, keep, part_all, part_append, part_behind}
+use Rattle.xf_ir.specs.Valid.{OpsInner, RegionsInner, FunctionsAlone, BlocksAlone, symbols_of, symbols_in, block_of}
+use Rattle.xf_ir.proofs.Lists.{at_cases, not_left, not_right, Part, none, skip, keep, item_skip, item_keep, part_all, part_append, part_behind}
 use Rattle.xf_ir.proofs.Found.{OpsWhere, RegionsWhere}
 
 -- ---- names
@@ -54,20 +54,12 @@ pub blocks_kept : (name : OpName) (rs : Regions) → BlocksAlone rs → BlocksAl
 blocks_kept name no_regions h = tt
 blocks_kept name (region args ops rest) h = (functions_kept name ops h.0, blocks_kept name rest h.1)
 
-symbols_skip : (k : Kind) (xs ys : List (List ℕ)) → Part ys xs → Part ys (symbols_before k xs)
-symbols_skip (kind.Func symbol private results) xs ys p = skip p
-symbols_skip _ xs ys p = p
-
-symbols_keep : (k : Kind) (xs ys : List (List ℕ)) → Part ys xs → Part (symbols_before k ys) (symbols_before k xs)
-symbols_keep (kind.Func symbol private results) xs ys p = keep p
-symbols_keep _ xs ys p = p
-
 symbols_part : (name : OpName) (fs : Ops) → Part (symbols_of (ops_at name tail fs)) (symbols_of fs)
 symbols_part name no_ops = none
 symbols_part name (op n k ds os ts rs rest) =
     at_cases (eqb n.0 name.0) rest (op n k ds os ts (regions_at name tail rs) (ops_at name tail rest)) (λ o. Part (symbols_of o) (symbols_of (op n k ds os ts rs rest)))
-    (λ _. symbols_skip k (symbols_of rest) (symbols_of rest) (part_all (symbols_of rest)))
-    (λ _. symbols_keep k (symbols_of rest) (symbols_of (ops_at name tail rest)) (symbols_part name rest))
+    (λ _. item_skip (symbol_of k) (part_all (symbols_of rest)))
+    (λ _. item_keep (symbol_of k) (symbols_part name rest))
 
 pub symbols_part_in : (name : OpName) (rs : Regions) → Part (symbols_in (regions_at name tail rs)) (symbols_in rs)
 symbols_part_in name no_regions = none

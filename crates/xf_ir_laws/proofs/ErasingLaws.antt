@@ -16,7 +16,7 @@ use Rattle.xf_ir.specs.Lists.{Each, Once, is_among}
 use Rattle.xf_ir.specs.Places.{results_of}
 use Rattle.xf_ir.specs.Uses.{ops_operands, regions_operands, tree_operands}
 use Rattle.xf_ir.specs.Edits.{ops_at, regions_at, tail, tree_erased, edited, FitsErase}
-use Rattle.xf_ir.specs.Choices.{bare, scope_of, MayErase, weight_of, ops_weight, regions_weight, weight_at}
+use Rattle.xf_ir.specs.Choices.{bare, scope_of, scope_at, is_in_scope, MayErase, weight_of, ops_weight, regions_weight, weight_at}
 use Rattle.xf_ir.specs.Placed.{Placed, type_at, top, root_holder, Everywhere}
 use Rattle.xf_ir.specs.Calls.{signature, function_of, signatures, has_its_callee, has_short_chains}
 use Rattle.xf_ir.specs.RuleBlocks.{has_its_regions, ends_its_blocks}
@@ -26,19 +26,20 @@ use Rattle.xf_ir.specs.RuleLinalg.{has_its_maps, has_its_iterators, has_its_redu
 use Rattle.xf_ir.specs.RuleSlices.{has_its_slices}
 use Rattle.xf_ir.specs.Valid.{IsValid, IsNamedOnce, IsModule, FunctionsAlone, BlocksAlone, block_of, functions_of, FunctionsSee}
 use Rattle.xf_ir.proofs.Lists.{at_cases, each_left, each_right, each_part, once_part, texts_part, not_part, not_left, not_right, once_left, once_right, absent_before, apart_names, keep}
-use Rattle.xf_ir.proofs.Found.{first_cases, found_name, found_name_regions, found_named_regions, lost_name, lost_name_regions, find_inside, find_inside_regions, tree, OpsWhere, RegionsWhere, where_found_regions, block_where, Gives, Outside}
+use Rattle.xf_ir.proofs.Found.{first_cases, found_in, found_name, found_name_regions, found_named_regions, lost_name, lost_name_regions, find_inside, find_inside_regions, tree, OpsWhere, RegionsWhere, where_found_regions, block_where, Gives, Outside}
 use Rattle.xf_ir_laws.proofs.Erased.{names_part, names_part_regions, blocks_kept as alone_kept, symbols_part_in, block_at, Goes}
 use Rattle.xf_ir_laws.proofs.ErasedUses.{functions_see_kept}
 use Rattle.xf_ir_laws.proofs.Obeys.{Passes, blocks_obey, each_blocks}
 use Rattle.xf_ir_laws.proofs.Kept.{RegionsApart, OpsStay, BlocksStay, Step, blocks_kept}
 use Rattle.xf_ir_laws.proofs.BareErased.{found_apart, bare_erased}
 use Rattle.xf_ir_laws.proofs.KeptRules.{Inner, blocks_stay, signature_kept, regions_step, blocks_step, types_step, attributes_step, callees_step, chains_step, maps_step, iterators_step, reductions_step, extents_step, bodies_step, ranges_step, slices_step}
-use Rattle.xf_ir.proofs.Bare.{Whole, below_bare, once_bare, in_scope, found_inside}
+use Rattle.xf_ir.proofs.Bare.{below_bare, once_bare, in_scope}
 
--- the operation of the choice stands in no body of linalg.generic
-stands_apart : (m : Module) (target name : OpName) → IsNamedOnce m → MayErase m target name → RegionsApart name m.root.regions
-stands_apart m target name o e =
-    found_apart m.root.regions name e.tree o.once.1 (below_bare m.root e.tree name (in_scope (bare m.root) target name e.tree (once_bare m.root o.once.1) e.inside))
+-- an operation of a scope stands in no body of linalg.generic
+stands_apart : (m : Module) (target name : OpName) → IsNamedOnce m → is_in_scope m target name ≡ true → RegionsApart name m.root.regions
+stands_apart m target name o i =
+    let f = found_in name (scope_at m target) i in
+    found_apart m.root.regions name f.0 o.once.1 (below_bare m.root f.0 name (in_scope (bare m.root) target name f.0 (once_bare m.root o.once.1) f.1))
 
 -- ---- the module stays valid
 
@@ -67,30 +68,26 @@ module _ (m : Module) (target name : OpName) (v : IsValid m) (e : MayErase m tar
   abbrev after : Module
   after = edited m (Erase name)
 
-  whole : Whole (regions_find name m.root.regions) e.tree
-  whole = found_inside m target name v.names e
-
   -- each operation of the name has what the operation has
-  of_name : (Q : Tree → Type 0) → ((t : Tree) → e.tree ≡ bare t → Q t) → RegionsWhere name Q m.root.regions
-  of_name Q f = (let w = whole in where_found_regions name Q w.0 m.root.regions v.names.once.1 w.1 (f w.0 w.2))
+  of_name : (Q : Tree → Type 0) → Q e.tree → RegionsWhere name Q m.root.regions
+  of_name Q q = where_found_regions name Q e.tree m.root.regions v.names.once.1 e.inside q
 
   goes : RegionsWhere name Goes m.root.regions
-  goes = of_name Goes (λ t q. subst (λ (x : Tree). ends x.kind ≡ false) q e.dead.goes)
+  goes = of_name Goes e.suits.goes
 
   gives : RegionsWhere name (Gives (length e.tree.results)) m.root.regions
-  gives = of_name (Gives (length e.tree.results)) (λ t q. ap (λ (x : Tree). length x.results) (sym q))
+  gives = of_name (Gives (length e.tree.results)) refl
 
   stay : BlocksStay name m.root.regions
-  stay = blocks_stay name m.root.regions v.functions.alone (of_name Inner (λ t q. subst (λ (x : Tree). is_container x.kind ≡ false) q e.dead.inner))
+  stay = blocks_stay name m.root.regions v.functions.alone (of_name Inner e.suits.inner)
 
-  unused : Each (Outside (results_of name (length e.tree.results))) (tree_operands m.root)
-  unused =
-      let w = whole in
-      let n : e.tree.name ≡ name = ap (λ (x : Tree). x.name) w.2 ∙ found_named_regions name w.0 m.root.regions w.1 in
-      subst (λ x. Each (Outside (results_of x (length e.tree.results))) (tree_operands m.root)) n e.dead.unused
+  outside : Each (Outside (results_of name (length e.tree.results))) (tree_operands m.root)
+  outside =
+      let n : e.tree.name ≡ name = found_named_regions name e.tree m.root.regions e.inside in
+      subst (λ x. Each (Outside (results_of x (length e.tree.results))) (tree_operands m.root)) n e.suits.unused
 
   inner : Each (Outside (results_of name (length e.tree.results))) (regions_operands m.root.regions)
-  inner = each_right (Outside (results_of name (length e.tree.results))) m.root.operands (regions_operands m.root.regions) unused
+  inner = each_right (Outside (results_of name (length e.tree.results))) m.root.operands (regions_operands m.root.regions) outside
 
   sees_kept : FunctionsSee (functions_of after)
   sees_kept =
@@ -106,7 +103,7 @@ module _ (m : Module) (target name : OpName) (v : IsValid m) (e : MayErase m tar
       let root = root_holder m.root in (
         step.turn top (map (type_at []) m.root.operands) m.root no_ops root_apart goes h.0,
         each_blocks P' root (regions_at name tail m.root.regions)
-            (blocks_kept name (length e.tree.results) P P' step root m.root.regions stay v.names.once.1 gives goes (stands_apart m target name v.names e) inner (blocks_obey P root m.root.regions h.1)),
+            (blocks_kept name (length e.tree.results) P P' step root m.root.regions stay v.names.once.1 gives goes (stands_apart m target name v.names e.within) inner (blocks_obey P root m.root.regions h.1)),
       )
     where
       root_apart : is_generic m.root.kind ≡ true → is_among name (regions_names m.root.regions) ≡ false
@@ -145,8 +142,7 @@ pub valid_kept : (m : Module) (target name : OpName) → IsValid m → MayErase 
 valid_kept m target name v e = valid_after m target name v e
 
 pub fits : (m : Module) (target name : OpName) → IsValid m → MayErase m target name → FitsErase m name
-fits m target name v e = (let k = valid_kept m target name v e in let w = found_inside m target name v.names e in
-    record { tree = w.0; inside = w.1; names = k.names; uses = k.uses })
+fits m target name v e = (let k = valid_kept m target name v e in record { tree = e.tree; inside = e.inside; names = k.names; uses = k.uses })
 
 -- ---- the count falls
 
@@ -181,7 +177,7 @@ mutual
       ]
 
 pub lowers_count : (m : Module) (target name : OpName) → IsValid m → MayErase m target name → tree_count (edited m (Erase name)).root < tree_count m.root
-lowers_count m target name v e = (let w = found_inside m target name v.names e in omega (arith, count_falls_regions name w.0 m.root.regions w.1))
+lowers_count m target name v e = omega (arith, count_falls_regions name e.tree m.root.regions e.inside)
 
 -- ---- the weight of a scope falls
 
@@ -279,4 +275,5 @@ scope_falls t target name s o h =
 pub lowers_weight : (m : Module) (target name : OpName) → IsValid m → MayErase m target name → weight_at (edited m (Erase name)) target + 1 ≤ weight_at m target
 lowers_weight m target name v e =
     let q = ap (λ t. regions_weight (scope_of (tree_find target t))) (bare_erased name m.root) in
-    omega (arith, q, scope_falls (bare m.root) target name e.tree (once_bare m.root v.names.once.1) e.inside)
+    let f = found_in name (scope_at m target) e.within in
+    omega (arith, q, scope_falls (bare m.root) target name f.0 (once_bare m.root v.names.once.1) f.1)

@@ -1,9 +1,10 @@
 -- There is no violation exactly where each operation keeps each rule.
 use Rattle.std.proofs.Common.{◌≡◌, ℕ, suc, ◌+◌, ◌<◌, List, [], ◌∷◌, ◌++◌, length, Option, None, Some, Bool, true, false, not, ◌&&◌, inl, inr, refl, sym, ap, subst, ◌∙◌}
-use Rattle.std.specs.Prelude.{map, nat_lt}
+use Rattle.std.specs.Prelude.{map, nat_lt, if◌then◌else◌}
 use Rattle.std.proofs.lemmas.Bool.{cases_Bool, and_from, and_parts, or_from, or_right, ltb-true, lt-ltb}
 use Rattle.xf_ir.specs.declared.name.OpName.{OpName}
 use Rattle.xf_ir.specs.declared.op.Module.{Module}
+use Rattle.xf_ir.specs.declared.rule.Rule.{Rule}
 use Rattle.xf_ir.specs.Tree.{Ops, no_ops, op, Regions, no_regions, region}
 use Rattle.xf_ir.specs.Walk.{ops_names, regions_names, tree_names}
 use Rattle.xf_ir.specs.Kinds.{is_container, is_module, is_function}
@@ -11,47 +12,49 @@ use Rattle.xf_ir.specs.Lists.{Each, Once, same_name, is_among, is_empty, is_text
 use Rattle.xf_ir.specs.Places.{done, inside}
 use Rattle.xf_ir.specs.Placed.{Typed, type_at, Holder, holder_of, Placed, ops_placed, regions_placed, functions_placed, blocks_placed, placed, root_holder}
 use Rattle.xf_ir.specs.Valid.{OpsInner, RegionsInner, FunctionsAlone, BlocksAlone, HoldsFunctions, IsNamedOnce, symbols_in}
-use Rattle.xf_ir.specs.Violations.{Violation, is_new_name, ops_inner, regions_inner, functions_alone, blocks_alone, holds_functions, root_holds_functions, local_rules, rules_kept, first_false, broken_or, first_broken}
+use Rattle.xf_ir.specs.Violations.{Violation, Kept, is_new_name, ops_inner, regions_inner, functions_alone, blocks_alone, holds_functions, root_holds_functions, local_rules, rules_kept, first_false, broken_or, first_broken}
 use Rattle.xf_ir.proofs.Lists.{name_is, own_name, apart_names}
 
 -- ---- the rules of one operation
 
-abbrev AllTrue : List Bool → Type 0
-AllTrue bs = Each (λ b. b ≡ true) bs
+abbrev AllTrue : List Kept → Type 0
+AllTrue bs = Each (λ x. x.1 ≡ true) bs
 
-none_false : (i : ℕ) (bs : List Bool) → first_false i bs ≡ None → AllTrue bs
-none_false i [] h = tt
-none_false i (true ∷ bs) h = (refl, none_false (i + 1) bs h)
-none_false i (false ∷ bs) h = absurd (cc)
+none_one : (b : Bool) (r : Rule) (rest : Option Rule) → (if b then rest else Some r) ≡ None → (b ≡ true) × (rest ≡ None)
+none_one true r rest h = (refl, h)
+none_one false r rest h = absurd (cc)
 
-all_true : (i : ℕ) (bs : List Bool) → AllTrue bs → first_false i bs ≡ None
-all_true i [] h = refl
-all_true i (true ∷ bs) h = all_true (i + 1) bs h.1
-all_true i (false ∷ bs) h = absurd (let z = h.0 in cc)
+none_false : (bs : List Kept) → first_false bs ≡ None → AllTrue bs
+none_false [] h = tt
+none_false (x ∷ bs) h = let q = none_one x.1 x.0 (first_false bs) h in (q.0, none_false bs q.1)
+
+all_true : (bs : List Kept) → AllTrue bs → first_false bs ≡ None
+all_true [] h = refl
+all_true (x ∷ bs) h = ap (λ (b : Bool). if b then first_false bs else Some x.0) h.0 ∙ all_true bs h.1
 
 -- ---- the rules of all operations
 
 abbrev pub Local : Module → Placed → Type 0
-Local m p = Each (λ b. b ≡ true) (local_rules m p)
+Local m p = Each (λ x. x.1 ≡ true) (local_rules m p)
 
 abbrev Unbroken : Module → List OpName → List Placed → Type 0
 Unbroken m before [] = Unit {0}
 Unbroken m before (p ∷ ps) = AllTrue (rules_kept m before p) × Unbroken m (p.tree.name ∷ before) ps
 
-broken_none : (o : Option ℕ) (n : OpName) (later : Option Violation) → broken_or o n later ≡ None → (o ≡ None) × (later ≡ None)
+broken_none : (o : Option Rule) (n : OpName) (later : Option Violation) → broken_or o n later ≡ None → (o ≡ None) × (later ≡ None)
 broken_none None n later h = (refl, h)
-broken_none (Some rule) n later h = absurd (cc)
+broken_none (Some r) n later h = absurd (cc)
 
 none_broken : (m : Module) (before : List OpName) (ps : List Placed) → first_broken m before ps ≡ None → Unbroken m before ps
 none_broken m before [] h = tt
 none_broken m before (p ∷ ps) h =
-    let q = broken_none (first_false 1 (rules_kept m before p)) p.tree.name (first_broken m (p.tree.name ∷ before) ps) h in
-    (none_false 1 (rules_kept m before p) q.0, none_broken m (p.tree.name ∷ before) ps q.1)
+    let q = broken_none (first_false (rules_kept m before p)) p.tree.name (first_broken m (p.tree.name ∷ before) ps) h in
+    (none_false (rules_kept m before p) q.0, none_broken m (p.tree.name ∷ before) ps q.1)
 
 unbroken_none : (m : Module) (before : List OpName) (ps : List Placed) → Unbroken m before ps → first_broken m before ps ≡ None
 unbroken_none m before [] u = refl
 unbroken_none m before (p ∷ ps) u =
-    ap (λ o. broken_or o p.tree.name (first_broken m (p.tree.name ∷ before) ps)) (all_true 1 (rules_kept m before p) u.0) ∙ unbroken_none m (p.tree.name ∷ before) ps u.1
+    ap (λ o. broken_or o p.tree.name (first_broken m (p.tree.name ∷ before) ps)) (all_true (rules_kept m before p) u.0) ∙ unbroken_none m (p.tree.name ∷ before) ps u.1
 
 -- ---- names
 

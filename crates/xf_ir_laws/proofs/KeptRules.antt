@@ -1,22 +1,22 @@
 -- Each rule stays where an operation is taken out that may be erased.
 use Rattle.std.proofs.Common.{◌≡◌, ℕ, zero, suc, List, [], ◌∷◌, ◌++◌, Option, None, Some, Bool, true, false, eqb, refl, sym, ap, subst, ◌∙◌, is_none, inl, inr}
-use Rattle.std.proofs.lemmas.Bool.{cases_Bool, and_from, and_parts}
+use Rattle.std.proofs.lemmas.Bool.{cases_Bool, and_from, and_parts, or_parts}
 use Rattle.xf_type.specs.declared.payload_type.PayloadType.{PayloadType}
 use Rattle.xf_ir.specs.declared.name.OpName.{OpName}
 use Rattle.xf_ir.specs.declared.kind.Kind.{Kind}
 use Rattle.xf_ir.specs.declared.kind.Kind.TheVariants as kind
 use Rattle.xf_ir.specs.Tree.{Ops, no_ops, op, Regions, no_regions, region, Tree}
-use Rattle.xf_ir.specs.Kinds.{is_container, is_function, is_generic, returned_types}
-use Rattle.xf_ir.specs.Lists.{every}
+use Rattle.xf_ir.specs.Kinds.{callee_of, is_container, is_module, is_function, is_generic, returned_types}
+use Rattle.xf_ir.specs.Lists.{every, option_passes}
 use Rattle.xf_ir.specs.Edits.{ops_at, regions_at, tail, tree_erased}
-use Rattle.xf_ir.specs.Calls.{Signatures, Signature, signature, function_of, has_symbol, callee_before, ops_callees, regions_callees, callees_of, chains_end, chain_ends, has_its_callee, callee_agrees, has_short_chains}
+use Rattle.xf_ir.specs.Calls.{Signatures, Signature, signature, function_of, has_symbol, ops_callees, regions_callees, callees_of, chains_end, has_its_callee, callee_agrees, has_short_chains}
 use Rattle.xf_ir.specs.RuleBlocks.{blocks_fit, has_its_regions, blocks_end, stands_at_end, ends_its_blocks}
 use Rattle.xf_ir.specs.RuleTypes.{row_of, has_its_types}
 use Rattle.xf_ir.specs.RuleAttributes.{has_its_attributes, has_types_in_range}
 use Rattle.xf_ir.specs.RuleLinalg.{reduces, has_its_maps, has_its_iterators, has_its_reduction, has_its_extents, fits_its_body}
 use Rattle.xf_ir.specs.RuleSlices.{has_its_slices}
 use Rattle.xf_ir.specs.Valid.{FunctionsAlone, BlocksAlone}
-use Rattle.xf_ir.proofs.Lists.{at_cases, Part, none, skip, keep, part_append, part_behind}
+use Rattle.xf_ir.proofs.Lists.{at_cases, Part, none, skip, keep, item_skip, item_keep, part_append, part_behind}
 use Rattle.xf_ir.proofs.Found.{OpsWhere, RegionsWhere}
 use Rattle.xf_ir_laws.proofs.Erased.{args_at, first_args_at, at_absent_regions, ends_kept, end_kept}
 use Rattle.xf_ir_laws.proofs.Kept.{OpsStay, BlocksStay, Step}
@@ -27,14 +27,10 @@ use Rattle.xf_ir_laws.proofs.Obeys.{Passes}
 abbrev pub Inner : Tree → Type 0
 Inner t = is_container t.kind ≡ false
 
-holds_others : (k : Kind) → is_function k ≡ true → is_container k ≡ true
-holds_others (kind.Func symbol private results) h = refl
-holds_others _ h = absurd (cc)
-
 pub functions_stay : (name : OpName) (fs : Ops) → FunctionsAlone fs → OpsWhere name Inner fs → OpsStay name fs
 functions_stay name no_ops a w = tt
 functions_stay name (op n k ds os ts rs rest) a w = (
-  elim (cases_Bool (eqb n.0 name.0)) [ inl e ↦ absurd (let y = holds_others k a.0 in let z = w.0 e in cc) | inr e ↦ e ],
+  elim (cases_Bool (eqb n.0 name.0)) [ inl e ↦ absurd (let y = (or_parts (is_module k) (is_function k) (w.0 e)).1 in let z = a.0 in cc) | inr e ↦ e ],
   functions_stay name rest a.1.1 w.1.1,
 )
 
@@ -59,7 +55,7 @@ function_kept name s (op n k ds os ts rs rest) t =
 
 signature_erased : (name : OpName) (o : Option Tree) → signature (erased_or name o) ≡ signature o
 signature_erased name None = refl
-signature_erased name (Some t) = ap (λ args. Some (let x : Signature = record { takes = args; gives = returned_types t.kind } in x)) (first_args_at name t.regions)
+signature_erased name (Some t) = ap (λ args. Some (let x : Signature = record { inputs = args; results = returned_types t.kind } in x)) (first_args_at name t.regions)
 
 pub signature_kept : (name : OpName) (s : List ℕ) (fs : Ops) → OpsStay name fs → signature (function_of s (ops_at name tail fs)) ≡ signature (function_of s fs)
 signature_kept name s fs t = ap signature (function_kept name s fs t) ∙ signature_erased name (function_of s fs)
@@ -75,21 +71,13 @@ every_map : {A : Type 0} (p q : A → Bool) (xs : List A) → ((x : A) → p x �
 every_map p q [] f h = refl
 every_map p q (x ∷ xs) f h = (let r = and_parts (p x) (every p xs) h in and_from _ _ (f x r.0) (every_map p q xs f r.1))
 
-callee_skip : (k : Kind) (xs ys : List (List ℕ)) → Part ys xs → Part ys (callee_before k xs)
-callee_skip (kind.Call callee) xs ys p = skip p
-callee_skip _ xs ys p = p
-
-callee_keep : (k : Kind) (xs ys : List (List ℕ)) → Part ys xs → Part (callee_before k ys) (callee_before k xs)
-callee_keep (kind.Call callee) xs ys p = keep p
-callee_keep _ xs ys p = p
-
 mutual
   callees_part : (name : OpName) (ops : Ops) → Part (ops_callees (ops_at name tail ops)) (ops_callees ops)
   callees_part name no_ops = none
   callees_part name (op n k ds os ts rs rest) =
       at_cases (eqb n.0 name.0) rest (op n k ds os ts (regions_at name tail rs) (ops_at name tail rest)) (λ o. Part (ops_callees o) (ops_callees (op n k ds os ts rs rest)))
-      (λ _. callee_skip k (regions_callees rs ++ ops_callees rest) (ops_callees rest) (part_behind (regions_callees rs) (ops_callees rest)))
-      (λ _. callee_keep k (regions_callees rs ++ ops_callees rest) (regions_callees (regions_at name tail rs) ++ ops_callees (ops_at name tail rest)) (part_append (callees_part_regions name rs) (callees_part name rest)))
+      (λ _. item_skip (callee_of k) (part_behind (regions_callees rs) (ops_callees rest)))
+      (λ _. item_keep (callee_of k) (part_append (callees_part_regions name rs) (callees_part name rest)))
 
   callees_part_regions : (name : OpName) (rs : Regions) → Part (regions_callees (regions_at name tail rs)) (regions_callees rs)
   callees_part_regions name no_regions = none
@@ -110,9 +98,9 @@ chains_kept name fs t (suc k) s h =
     let e = every_map (chains_end fs k) (chains_end (ops_at name tail fs) k) (callees_of (function_of s fs)) (λ c. chains_kept name fs t k c) h in
     subst (λ o. every (chains_end (ops_at name tail fs) k) (callees_of o) ≡ true) (sym (function_kept name s fs t)) (every_part (chains_end (ops_at name tail fs) k) p e)
 
-chain_kept : (name : OpName) (fs : Ops) → OpsStay name fs → (k : Kind) → chain_ends fs k ≡ true → chain_ends (ops_at name tail fs) k ≡ true
-chain_kept name fs t (kind.Call callee) h = chains_kept name fs t 31 callee h
-chain_kept name fs t _ h = h
+chain_kept : (name : OpName) (fs : Ops) → OpsStay name fs → (o : Option (List ℕ)) → option_passes (chains_end fs 31) o ≡ true → option_passes (chains_end (ops_at name tail fs) 31) o ≡ true
+chain_kept name fs t None h = h
+chain_kept name fs t (Some callee) h = chains_kept name fs t 31 callee h
 
 -- ---- the rules
 
@@ -137,15 +125,15 @@ module _ (name : OpName) where
   pub attributes_step : Step name (Passes has_its_attributes) (Passes has_its_attributes)
   attributes_step = record { turn = λ h types t after a g e. e }
 
-  agrees_kept : (sigs sigs' : Signatures) → ((s : List ℕ) → sigs' s ≡ sigs s) → (k : Kind) (os : List (Option PayloadType)) (ts : List PayloadType) → callee_agrees sigs k os ts ≡ true → callee_agrees sigs' k os ts ≡ true
-  agrees_kept sigs sigs' q (kind.Call callee) os ts e = (let z = q callee in rw z e)
-  agrees_kept sigs sigs' q _ os ts e = e
+  agrees_kept : (sigs sigs' : Signatures) → ((s : List ℕ) → sigs' s ≡ sigs s) → (k : Kind) (ts : List PayloadType) → callee_agrees sigs k ts ≡ true → callee_agrees sigs' k ts ≡ true
+  agrees_kept sigs sigs' q (kind.Call callee) ts e = (let z = q callee in rw z e)
+  agrees_kept sigs sigs' q _ ts e = e
 
   pub callees_step : (sigs sigs' : Signatures) → ((s : List ℕ) → sigs' s ≡ sigs s) → Step name (Passes (has_its_callee sigs)) (Passes (has_its_callee sigs'))
-  callees_step sigs sigs' q = record { turn = λ h types t after a g e. agrees_kept sigs sigs' q t.kind types t.results e }
+  callees_step sigs sigs' q = record { turn = λ h types t after a g e. agrees_kept sigs sigs' q t.kind t.results e }
 
   pub chains_step : (fs : Ops) → OpsStay name fs → Step name (Passes (has_short_chains fs)) (Passes (has_short_chains (ops_at name tail fs)))
-  chains_step fs s = record { turn = λ h types t after a g e. chain_kept name fs s t.kind e }
+  chains_step fs s = record { turn = λ h types t after a g e. chain_kept name fs s (callee_of t.kind) e }
 
   pub maps_step : Step name (Passes has_its_maps) (Passes has_its_maps)
   maps_step = record { turn = λ h types t after a g e. e }

@@ -6,8 +6,8 @@ use Rattle.xf_ir.specs.declared.kind.Kind.{Kind}
 use Rattle.xf_ir.specs.declared.kind.Kind.TheVariants as kind
 use Rattle.xf_ir.specs.declared.name.OpName.{OpName}
 use Rattle.xf_ir.specs.Calls.{Signature, signature, first_args, function_of, has_symbol, callee_before, ops_callees, regions_callees, callees_of, chains_end, chain_ends, has_short_chains}
-use Rattle.xf_ir.specs.Kinds.{ends, ends_for, is_endless, returned_types}
-use Rattle.xf_ir.specs.Lists.{every}
+use Rattle.xf_ir.specs.Kinds.{callee_of, ends, ends_for, is_endless, returned_types}
+use Rattle.xf_ir.specs.Lists.{every, option_passes}
 use Rattle.xf_ir.specs.Placed.{Placed}
 use Rattle.xf_ir.specs.RuleAttributes.{type_fits, has_types_in_range}
 use Rattle.xf_ir.specs.RuleBlocks.{block_args, blocks_fit, has_its_regions, is_end, block_ends, blocks_end, ends_its_blocks}
@@ -103,7 +103,7 @@ module _ (f : OpName → OpName) where
 
   signature_or_same : (o : Option Tree) → signature (renamed_or o) ≡ signature o
   signature_or_same None = refl
-  signature_or_same (Some t) = ap (λ args. Some (let x : Signature = record { takes = args; gives = returned_types t.kind } in x)) (first_args_same t.regions)
+  signature_or_same (Some t) = ap (λ args. Some (let x : Signature = record { inputs = args; results = returned_types t.kind } in x)) (first_args_same t.regions)
 
   pub signature_same : (fs : Ops) (s : List ℕ) → signature (function_of s (ops_renamed f fs)) ≡ signature (function_of s fs)
   signature_same fs s = ap signature (function_same s fs) ∙ signature_or_same (function_of s fs)
@@ -145,8 +145,7 @@ module _ (f : OpName → OpName) where
       λ i. every (λ c. a c i) (b i)
 
   chain_same : (fs : Ops) (k : Kind) → chain_ends (ops_renamed f fs) k ≡ chain_ends fs k
-  chain_same fs (kind.Call callee) = chains_same fs 31 callee
-  chain_same fs _ = refl
+  chain_same fs k = let a : (c : List ℕ) → chains_end (ops_renamed f fs) 31 c ≡ chains_end fs 31 c = chains_same fs 31 in λ i. option_passes (λ c. a c i) (callee_of k)
 
   pub short_same : (fs : Ops) (p : Placed) → has_short_chains (ops_renamed f fs) (placed_renamed f p) ≡ has_short_chains fs p
   short_same fs p = chain_same fs p.tree.kind

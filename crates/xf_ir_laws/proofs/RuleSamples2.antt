@@ -16,6 +16,7 @@ use Rattle.xf_ir.specs.declared.kind.IteratorKind.TheVariants.{Parallel, Reducti
 use Rattle.xf_ir.specs.declared.kind.SliceIndex.{SliceIndex}
 use Rattle.xf_ir.specs.declared.kind.SliceIndex.TheVariants as index
 use Rattle.xf_ir.specs.declared.op.Module.{Module}
+use Rattle.xf_ir.specs.declared.rule.Rule.TheVariants as rule
 use Rattle.xf_ir.specs.Tree.{Ops, no_ops}
 use Rattle.xf_ir.specs.RuleLinalg.{to_dims}
 use Rattle.xf_ir_laws.proofs.RuleSamples.{res, arg, leaf, holder, of_body, ret, i32, shape, Keeps, Breaks}
@@ -45,20 +46,20 @@ filled value = of_body (value ∷ (matrix 2 3 ∷ [])) [] (leaf 2 (kind.Named Fi
 fill_fits : Keeps (filled (Scalar I32))
 fill_fits = refl
 
-fill_of_other_width : Breaks 6 2 (filled (Scalar I64))
+fill_of_other_width : Breaks rule.Types 2 (filled (Scalar I64))
 fill_of_other_width = refl
 
-fill_of_tensor : Breaks 6 2 (filled (tensor []))
+fill_of_tensor : Breaks rule.Types 2 (filled (tensor []))
 fill_of_tensor = refl
 
 -- ---- V10
 
-product_of_other_rank : Breaks 10 2 (product (tensor (Fixed 2 ∷ [])) (matrix 3 4) (matrix 2 4))
+product_of_other_rank : Breaks rule.Maps 2 (product (tensor (Fixed 2 ∷ [])) (matrix 3 4) (matrix 2 4))
 product_of_other_rank = refl
 
 -- ---- V13
 
-product_of_other_extents : Breaks 13 2 (product (matrix 2 3) (matrix 5 4) (matrix 2 4))
+product_of_other_extents : Breaks rule.Extents 2 (product (matrix 2 3) (matrix 5 4) (matrix 2 4))
 product_of_other_extents = refl
 
 -- ---- generic operations: the sum of the rows of a matrix
@@ -83,38 +84,38 @@ args = Scalar I32 ∷ (Scalar I32 ∷ [])
 generic_fits : Keeps (generic to_rows rows args summed)
 generic_fits = refl
 
-argument_missing : Breaks 3 2 (generic to_rows rows (Scalar I32 ∷ []) summed)
+argument_missing : Breaks rule.Regions 2 (generic to_rows rows (Scalar I32 ∷ []) summed)
 argument_missing = refl
 
-map_missing : Breaks 10 2 (generic (to_dims 2 (0 ∷ (1 ∷ [])) ∷ []) rows args summed)
+map_missing : Breaks rule.Maps 2 (generic (to_dims 2 (0 ∷ (1 ∷ [])) ∷ []) rows args summed)
 map_missing = refl
 
-dimension_twice : Breaks 10 2 (generic (to_dims 2 (0 ∷ (0 ∷ [])) ∷ (to_dims 2 (0 ∷ []) ∷ [])) rows args summed)
+dimension_twice : Breaks rule.Maps 2 (generic (to_dims 2 (0 ∷ (0 ∷ [])) ∷ (to_dims 2 (0 ∷ []) ∷ [])) rows args summed)
 dimension_twice = refl
 
-dimension_in_no_map : Breaks 10 2 (generic (to_dims 3 (0 ∷ (1 ∷ [])) ∷ (to_dims 3 (0 ∷ []) ∷ [])) (Parallel ∷ (Reduction ∷ (Reduction ∷ []))) args summed)
+dimension_in_no_map : Breaks rule.Maps 2 (generic (to_dims 3 (0 ∷ (1 ∷ [])) ∷ (to_dims 3 (0 ∷ []) ∷ [])) (Parallel ∷ (Reduction ∷ (Reduction ∷ []))) args summed)
 dimension_in_no_map = refl
 
 -- ---- V11
 
-parallel_outside_the_out : Breaks 11 2 (generic to_rows (Parallel ∷ (Parallel ∷ [])) args summed)
+parallel_outside_the_out : Breaks rule.Iterators 2 (generic to_rows (Parallel ∷ (Parallel ∷ [])) args summed)
 parallel_outside_the_out = refl
 
-reduction_in_the_out : Breaks 11 2 (generic to_rows (Reduction ∷ (Reduction ∷ [])) args summed)
+reduction_in_the_out : Breaks rule.Iterators 2 (generic to_rows (Reduction ∷ (Reduction ∷ [])) args summed)
 reduction_in_the_out = refl
 
 -- ---- V12
 
-out_unused : Breaks 12 2 (generic to_rows rows args (leaf 4 kind.LinalgYield (arg 2 0 ∷ []) [] no_ops))
+out_unused : Breaks rule.Reductions 2 (generic to_rows rows args (leaf 4 kind.LinalgYield (arg 2 0 ∷ []) [] no_ops))
 out_unused = refl
 
-no_combiner : Breaks 12 2 (generic to_rows rows args (leaf 3 (kind.Binary Subi I32) (arg 2 1 ∷ (arg 2 0 ∷ [])) i32 (leaf 4 kind.LinalgYield (res 3 ∷ []) [] no_ops)))
+no_combiner : Breaks rule.Reductions 2 (generic to_rows rows args (leaf 3 (kind.Binary Subi I32) (arg 2 1 ∷ (arg 2 0 ∷ [])) i32 (leaf 4 kind.LinalgYield (res 3 ∷ []) [] no_ops)))
 no_combiner = refl
 
-out_twice : Breaks 12 2 (generic to_rows rows args (leaf 3 (kind.Binary Addi I32) (arg 2 1 ∷ (arg 2 1 ∷ [])) i32 (leaf 4 kind.LinalgYield (res 3 ∷ []) [] no_ops)))
+out_twice : Breaks rule.Reductions 2 (generic to_rows rows args (leaf 3 (kind.Binary Addi I32) (arg 2 1 ∷ (arg 2 1 ∷ [])) i32 (leaf 4 kind.LinalgYield (res 3 ∷ []) [] no_ops)))
 out_twice = refl
 
-out_used_elsewhere : Breaks 12 2 (generic to_rows rows args
+out_used_elsewhere : Breaks rule.Reductions 2 (generic to_rows rows args
     (leaf 5 (kind.Binary Muli I32) (arg 2 0 ∷ (arg 2 1 ∷ [])) i32 (leaf 3 (kind.Binary Addi I32) (res 5 ∷ (arg 2 1 ∷ [])) i32 (leaf 4 kind.LinalgYield (res 3 ∷ []) [] no_ops))))
 out_used_elsewhere = refl
 
@@ -124,7 +125,7 @@ value_of_its_own = refl
 
 -- ---- V14
 
-tensor_in_a_body : Breaks 14 5 (generic to_rows rows args (leaf 5 kind.Empty [] (tensor [] ∷ []) summed))
+tensor_in_a_body : Breaks rule.Bodies 5 (generic to_rows rows args (leaf 5 kind.Empty [] (tensor [] ∷ []) summed))
 tensor_in_a_body = refl
 
 -- ---- V15
@@ -135,13 +136,13 @@ taken t = of_body (t ∷ []) [] ret
 ranks_up_to_8 : Keeps (taken (tensor (Fixed 1 ∷ (Fixed 1 ∷ (Fixed 1 ∷ (Fixed 1 ∷ (Fixed 1 ∷ (Fixed 1 ∷ (Fixed 1 ∷ (Dynamic ∷ []))))))))))
 ranks_up_to_8 = refl
 
-rank_of_9 : Breaks 15 1 (taken (tensor (Fixed 1 ∷ (Fixed 1 ∷ (Fixed 1 ∷ (Fixed 1 ∷ (Fixed 1 ∷ (Fixed 1 ∷ (Fixed 1 ∷ (Fixed 1 ∷ (Dynamic ∷ [])))))))))))
+rank_of_9 : Breaks rule.Ranges 1 (taken (tensor (Fixed 1 ∷ (Fixed 1 ∷ (Fixed 1 ∷ (Fixed 1 ∷ (Fixed 1 ∷ (Fixed 1 ∷ (Fixed 1 ∷ (Fixed 1 ∷ (Dynamic ∷ [])))))))))))
 rank_of_9 = refl
 
 largest_extent : Keeps (taken (tensor (Fixed 2147483647 ∷ [])))
 largest_extent = refl
 
-extent_too_large : Breaks 15 1 (taken (tensor (Fixed 2147483648 ∷ [])))
+extent_too_large : Breaks rule.Ranges 1 (taken (tensor (Fixed 2147483648 ∷ [])))
 extent_too_large = refl
 
 -- ---- V16
@@ -156,14 +157,14 @@ sliced offsets t = of_body (matrix 4 5 ∷ (Scalar Index ∷ [])) [] (leaf 2 (ki
 slice_fits : Keeps (sliced at (tensor (Fixed 2 ∷ (Dynamic ∷ []))))
 slice_fits = refl
 
-offset_missing : Breaks 6 2 (sliced (index.Fixed (pos 0) ∷ []) (tensor (Fixed 2 ∷ (Dynamic ∷ []))))
+offset_missing : Breaks rule.Types 2 (sliced (index.Fixed (pos 0) ∷ []) (tensor (Fixed 2 ∷ (Dynamic ∷ []))))
 offset_missing = refl
 
-slice_of_lower_rank : Breaks 16 2 (sliced at (tensor (Fixed 2 ∷ [])))
+slice_of_lower_rank : Breaks rule.Slices 2 (sliced at (tensor (Fixed 2 ∷ [])))
 slice_of_lower_rank = refl
 
-slice_of_other_size : Breaks 16 2 (sliced at (matrix 2 5))
+slice_of_other_size : Breaks rule.Slices 2 (sliced at (matrix 2 5))
 slice_of_other_size = refl
 
-offset_below_zero : Breaks 16 2 (sliced (index.Fixed (negsuc 0) ∷ (index.Fixed (pos 1) ∷ [])) (tensor (Fixed 2 ∷ (Dynamic ∷ []))))
+offset_below_zero : Breaks rule.Slices 2 (sliced (index.Fixed (negsuc 0) ∷ (index.Fixed (pos 1) ∷ [])) (tensor (Fixed 2 ∷ (Dynamic ∷ []))))
 offset_below_zero = refl

@@ -1,7 +1,7 @@
 -- What the printed form of a module that is valid says is right, and means the module again, with names in preorder.
 use Rattle.std.proofs.Common.{◌≡◌, ◌⊎◌, inl, inr, ℕ, suc, ◌+◌, ◌^◌, ◌<◌, Bool, true, false, cond, List, [], ◌∷◌, length, Option, Some, None, refl, sym, ap, subst, ◌∙◌, arith, slice_get}
 use Rattle.std.specs.Prelude.{◌&&◌, ◌||◌, ◌==◌, map, is_some, nat_lt, option_and_then}
-use Rattle.std.proofs.lemmas.Bool.{cases_Bool, and_parts, eqb-true, lt-ltb}
+use Rattle.std.proofs.lemmas.Bool.{cases_Bool, and_parts, or_parts, eqb-true, lt-ltb}
 use Rattle.xf_type.specs.declared.payload_type.PayloadType.{PayloadType}
 use Rattle.xf_type.specs.declared.payload_type.PayloadType.TheVariants.{Scalar}
 use Rattle.xf_ir.specs.declared.kind.Attr.{Attr}
@@ -11,7 +11,7 @@ use Rattle.xf_ir.specs.declared.name.OpName.{OpName}
 use Rattle.xf_ir.specs.declared.name.ValueName.{ValueName}
 use Rattle.xf_ir.specs.declared.name.ValueName.TheVariants.{Result, Arg, Free}
 use Rattle.xf_ir.specs.Calls.{Signatures}
-use Rattle.xf_ir.specs.Kinds.{is_container, is_module}
+use Rattle.xf_ir.specs.Kinds.{is_container, is_module, is_function}
 use Rattle.xf_ir.specs.Lists.{is_empty}
 use Rattle.xf_ir.specs.Places.{done, inside, place_of, below, sees, AllSeen}
 use Rattle.xf_ir.specs.Placed.{Typed, type_or, type_at, Holder, holder_of}
@@ -152,8 +152,7 @@ blocks_are sigs gives kind.Yield ds types ts rs m w = no_block kind.Yield rs w.r
 blocks_are sigs gives k ds types ts rs m w = absurd (let r = w.row in cc)
 
 pub inner_module : (k : Kind) → is_container k ≡ false → is_module k ≡ false
-inner_module (kind.Module symbol) e = absurd cc
-inner_module k e = refl
+inner_module k e = (or_parts (is_module k) (is_function k) e).0
 
 inner_symbol : (k : Kind) → is_container k ≡ false → symbol_named k ≡ None
 inner_symbol (kind.Func symbol private results) e = absurd cc
