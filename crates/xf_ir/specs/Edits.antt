@@ -1,12 +1,12 @@
 -- Edits of a module, as changes of its tree.
-use Rattle.std.specs.Prelude.{◌≡◌, ℕ, ◌+◌, ◌-◌, ◌^◌, List, [], ◌∷◌, length, map, slice_get, Option, None, Some, Bool, true, false, min, nat_lt, ◌==◌, if◌then◌else◌}
+use Rattle.std.specs.Prelude.{◌≡◌, ℕ, ◌+◌, ◌-◌, ◌^◌, List, [], ◌∷◌, ◌++◌, length, map, slice_get, Option, None, Some, Bool, true, false, min, nat_lt, ◌==◌, if◌then◌else◌}
 use Rattle.xf_ir.specs.declared.name.OpName.{OpName}
 use Rattle.xf_ir.specs.declared.edit.Edit.{Edit}
 use Rattle.xf_ir.specs.declared.edit.Edit.TheVariants.{Insert, Erase, ReplaceUses, Replace, Restore, Move, SetAttr}
 use Rattle.xf_ir.specs.declared.op.Module.{Module}
 use Rattle.xf_ir.specs.Tree.{Ops, no_ops, op, Regions, no_regions, region, Tree}
 use Rattle.xf_ir.specs.declared.name.ValueName.{ValueName}
-use Rattle.xf_ir.specs.declared.name.ValueName.TheVariants.{Result, Arg, Free}
+use Rattle.xf_ir.specs.declared.name.ValueName.TheVariants.{Result}
 use Rattle.xf_ir.specs.declared.change.Change.{Change}
 use Rattle.xf_ir.specs.declared.spot.Spot.{Spot}
 use Rattle.xf_ir.specs.declared.spot.Located.{Located}
@@ -16,6 +16,7 @@ use Rattle.xf_ir.specs.Spots.{tree_locate, spot_at, spot_or, tree_put, IsSpot}
 use Rattle.xf_ir.specs.Changes.{tree_changed, turned, FitsChanges, tree_attributed}
 use Rattle.xf_ir.specs.Attributes.{IsSortedByName, attr_set, attr_at}
 use Rattle.xf_type.specs.declared.attribute.AttrValue.{AttrValue}
+use Rattle.xf_ir.specs.Defined.{is_defined_in}
 use Rattle.xf_ir.specs.Valid.{IsNamedOnce, SeesItsUses}
 
 -- where the operation of this name begins the rest of its block, that rest is changed by f
@@ -88,6 +89,11 @@ abbrev pub replayed : Module → List Edit → Module
 replayed m [] = m
 replayed m (e ∷ es) = replayed (edited m e) es
 
+-- the edits that lead back from the module after edits, in their order: the inverse of the last one first
+abbrev pub inverses_of : Module → List Edit → List Edit
+inverses_of m [] = []
+inverses_of m (e ∷ es) = inverses_of (edited m e) es ++ inverse_of m e ∷ []
+
 -- whether an edit takes memory
 abbrev pub wants_memory : Edit → Bool
 wants_memory (Insert tree at) = true
@@ -118,28 +124,23 @@ pub record FitsReplaceUses (m : Module) (changes : List Change) : Type 0 where
   pub names : IsNamedOnce (edited m (ReplaceUses changes))
   pub uses : SeesItsUses (edited m (ReplaceUses changes))
 
--- whether a value is defined in a tree
-abbrev pub is_defined_in : Tree → ValueName → Bool
-is_defined_in t (Result o num) = is_among o (tree_names t)
-is_defined_in t (Arg o r num) = is_among o (tree_names t)
-is_defined_in t (Free num) = false
-
 -- a result of the operation, and the value of its number among these
 pub record IsReplaced (name : OpName) (by : List ValueName) (result value : ValueName) : Type 0 where
   pub num : ℕ
   pub result_is : result ≡ Result name num
   pub value_is : slice_get by num ≡ Some value
 
--- values in the place of results: as many, and none defined in the tree itself
-pub record FitsValues (tree : Tree) (by : List ValueName) : Type 0 where
+-- values in the place of results: as many, each defined under the root, and none in the tree itself
+pub record FitsValues (root tree : Tree) (by : List ValueName) : Type 0 where
   pub count : length by ≡ length tree.results
+  pub defined : Each (λ v. is_defined_in root v ≡ true) by
   pub outside : Each (λ v. is_defined_in tree v ≡ false) by
 
 -- the operation is in the module below the root, its values and the changes fit, and after it names occur once and each use is of a visible value
 pub record FitsReplace (m : Module) (name : OpName) (by : List ValueName) (changes : List Change) : Type 0 where
   pub tree : Tree
   pub inside : regions_find name m.root.regions ≡ Some tree
-  pub values : FitsValues tree by
+  pub values : FitsValues m.root tree by
   pub places : FitsChanges m.root changes
   pub replaced : Each (λ c. IsReplaced name by c.old c.«new») changes
   pub names : IsNamedOnce (edited m (Replace name by changes))
@@ -149,7 +150,7 @@ pub record FitsReplace (m : Module) (name : OpName) (by : List ValueName) (chang
 pub record FitsRestore (m : Module) (tree : Tree) (at : Spot) (by : List ValueName) (changes : List Change) : Type 0 where
   pub fresh : Each (λ n. is_among n (tree_names m.root) ≡ false) (tree_names tree)
   pub spot : IsSpot at m.root
-  pub values : FitsValues tree by
+  pub values : FitsValues m.root tree by
   pub places : FitsChanges (tree_put at tree m.root) changes
   pub restored : Each (λ c. IsReplaced tree.name by c.«new» c.old) changes
   pub names : IsNamedOnce (edited m (Restore tree at by changes))
@@ -180,3 +181,8 @@ FitsEdit m (Replace name by changes) = FitsReplace m name by changes
 FitsEdit m (Restore tree at by changes) = FitsRestore m tree at by changes
 FitsEdit m (Move name to) = FitsMove m name to
 FitsEdit m (SetAttr name key value) = FitsSetAttr m name key value
+
+-- each of the edits may be made in what the former ones left
+abbrev pub FitEdits : Module → List Edit → Type 0
+FitEdits m [] = Unit {0}
+FitEdits m (e ∷ es) = FitsEdit m e × FitEdits (edited m e) es

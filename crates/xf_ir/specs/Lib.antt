@@ -31,6 +31,7 @@ pub mod PrintedForm
 pub mod Spots
 pub mod Bounds
 pub mod Changes
+pub mod Defined
 pub mod Edits
 pub mod Replaced
 pub mod Renamed

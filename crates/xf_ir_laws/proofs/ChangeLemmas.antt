@@ -6,7 +6,7 @@ use Rattle.xf_ir.specs.declared.name.OpName.{OpName}
 use Rattle.xf_ir.specs.declared.name.ValueName.{ValueName}
 use Rattle.xf_ir.specs.declared.change.Change.{Change}
 use Rattle.xf_ir.specs.Tree.{Ops, no_ops, op, Regions, no_regions, region, Tree, cons}
-use Rattle.xf_ir.specs.Walk.{ops_names, regions_names, tree_names, tree_find, ops_find}
+use Rattle.xf_ir.specs.Walk.{first_of, ops_names, regions_names, tree_names, tree_find, ops_find}
 use Rattle.xf_ir.specs.Lists.{Each, same_name, Once}
 use Rattle.xf_ir.specs.Changes.{is_place, value_changed, operands_changed, ops_changed, regions_changed, tree_changed, turned, operand_of}
 use Rattle.xf_ir.proofs.Lists.{name_is, own_name, each_map}
@@ -25,6 +25,16 @@ mutual
 
 pub tree_names_changed : (cs : List Change) (t : Tree) → tree_names (tree_changed cs t) ≡ tree_names t
 tree_names_changed cs t = ap (λ (ns : List OpName). t.name ∷ ns) (names_changed_regions cs t.regions)
+
+-- ---- what is found in a tree that is changed
+
+abbrev pub on_found : (Tree → Tree) → Option Tree → Option Tree
+on_found f None = None
+on_found f (Some t) = Some (f t)
+
+pub on_first : (f : Tree → Tree) (a b : Option Tree) → on_found f (first_of a b) ≡ first_of (on_found f a) (on_found f b)
+on_first f None b = refl
+on_first f (Some t) b = refl
 
 -- ---- the changes back
 
@@ -52,7 +62,7 @@ operands_back cs n i (v ∷ vs) h = (let a = value_back cs n i v h.0 in let b = 
 abbrev Stands : OpName → ℕ → List ValueName → Change → Type 0
 Stands n i vs c = same_name c.op n ≡ true → (j : ℕ) → c.operand ≡ i + j → slice_get vs j ≡ Some c.old
 
-place_parts : (n : OpName) (i : ℕ) (c : Change) → is_place n i c ≡ true → (same_name c.op n ≡ true) × (c.operand ≡ i)
+pub place_parts : (n : OpName) (i : ℕ) (c : Change) → is_place n i c ≡ true → (same_name c.op n ≡ true) × (c.operand ≡ i)
 place_parts n i c h =
     elim (cases_Bool (same_name c.op n)) [
       | inl e ↦ (e, eqb-true c.operand i (rw e at h))
@@ -109,7 +119,7 @@ mutual
 abbrev pub alone : Tree → Ops
 alone t = cons t no_ops
 
-operand_found : (o : Option Tree) (c : Change) → operand_of o c.operand ≡ Some c.old → (t : Tree) × ((o ≡ Some t) × HasOld c t)
+pub operand_found : (o : Option Tree) (c : Change) → operand_of o c.operand ≡ Some c.old → (t : Tree) × ((o ≡ Some t) × HasOld c t)
 operand_found None c h = absurd (cc)
 operand_found (Some t) c h = (t, (refl, h))
 

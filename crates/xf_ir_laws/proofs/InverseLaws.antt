@@ -35,7 +35,7 @@ leads_back m (Restore tree at by changes) v f =
     ap (tree_erased tree.name) (tree_changed_back changes put once f.places.old) ∙ put_erased at tree m.root f.fresh.0
 leads_back m (Move name to) v f =
     let x = regions_located m.root.regions name m.root.name 0 (found_name_regions name f.tree m.root.regions f.inside) in
-    rw x.1 (moved_back name to m.root f.tree x.0 v.once f.inside x.1 f.spot)
+    rw x.1 (moved_back name to m.root f.tree v.once f.inside f.spot x.0 x.1)
 leads_back m (SetAttr name key value) v f =
     let back = tree_attributed_back name (attr_set key value) (attr_set key (attr_of key f.tree.attrs)) m.root f.tree v.once f.found (set_back key value f.tree.attrs f.sorted) in
     subst (λ o. tree_attributed name (attr_set key (attr_at key o)) (tree_attributed name (attr_set key value) m.root) ≡ m.root) (sym f.found) back

@@ -17,6 +17,12 @@ pub mod MovedBack
 pub mod ChangeLemmas
 pub mod AttributedTrees
 pub mod InverseLaws
+pub mod DefinedLemmas
+pub mod ChangedPlaces
+pub mod GoneTrees
+pub mod NextAbove
+pub mod InverseFits
+pub mod Replays
 pub mod RenamedPlaces
 pub mod RenamedRules
 pub mod RenamedReductions

@@ -120,16 +120,38 @@ put_found_tree s t root i h =
 
 -- ---- moved and moved back
 
-pub moved_back : (name : OpName) (to : Spot) (root t : Tree) (x : Located) → Once (tree_names root) → regions_find name root.regions ≡ Some t → tree_locate name root ≡ Some x → IsSpot to (tree_erased name root) → tree_moved name x.spot (tree_moved name to root) ≡ root
-moved_back name to root t x o h l i =
-    let left = tree_erased name root in
-    let put = tree_put to t left in
-    let named : t.name ≡ name = found_named_regions name t root.regions h in
-    let lacks : is_among t.name (tree_names left) ≡ false = subst (λ q. is_among q (tree_names left) ≡ false) (sym named) (gone_tree name root o (found_name_regions name t root.regions h)) in
-    let again : regions_find name put.regions ≡ Some t = subst (λ q. regions_find q put.regions ≡ Some t) named (put_found_tree to t left i lacks) in
-    let out : tree_erased name put ≡ left = subst (λ q. tree_erased q put ≡ left) named (put_erased to t left lacks) in
-    let tree : Some x.tree ≡ Some t = ap tree_at_spot (sym l) ∙ located_tree name root.name 0 root.regions ∙ h in
-    let same : x.tree ≡ t = cc in
-    let there : tree_moved name to root ≡ put = ap (λ o. moved name to o root) h in
-    let back : tree_moved name x.spot put ≡ tree_put x.spot t left = ap (λ o. moved name x.spot o put) again ∙ ap (tree_put x.spot t) out in
-    ap (tree_moved name x.spot) there ∙ back ∙ ap (λ u. tree_put x.spot u left) (sym same) ∙ erased_back root name x o l
+module _ (name : OpName) (to : Spot) (root t : Tree) (o : Once (tree_names root)) (h : regions_find name root.regions ≡ Some t) (i : IsSpot to (tree_erased name root)) where
+  abbrev left : Tree
+  left = tree_erased name root
+
+  abbrev put : Tree
+  put = tree_put to t left
+
+  named : t.name ≡ name
+  named = found_named_regions name t root.regions h
+
+  lacks : is_among t.name (tree_names left) ≡ false
+  lacks = subst (λ q. is_among q (tree_names left) ≡ false) (sym named) (gone_tree name root o (found_name_regions name t root.regions h))
+
+  again : regions_find name put.regions ≡ Some t
+  again = subst (λ q. regions_find q put.regions ≡ Some t) named (put_found_tree to t left i lacks)
+
+  out : tree_erased name put ≡ left
+  out = subst (λ q. tree_erased q put ≡ left) named (put_erased to t left lacks)
+
+  there : tree_moved name to root ≡ put
+  there = ap (λ o. moved name to o root) h
+
+  -- what is moved is found, and without it the same is left as before
+  pub moved_found : regions_find name (tree_moved name to root).regions ≡ Some t
+  moved_found = ap (λ (u : Tree). regions_find name u.regions) there ∙ again
+
+  pub moved_left : tree_erased name (tree_moved name to root) ≡ tree_erased name root
+  moved_left = ap (tree_erased name) there ∙ out
+
+  pub moved_back : (x : Located) → tree_locate name root ≡ Some x → tree_moved name x.spot (tree_moved name to root) ≡ root
+  moved_back x l =
+      let tree : Some x.tree ≡ Some t = ap tree_at_spot (sym l) ∙ located_tree name root.name 0 root.regions ∙ h in
+      let same : x.tree ≡ t = cc in
+      let back : tree_moved name x.spot put ≡ tree_put x.spot t left = ap (λ o. moved name x.spot o put) again ∙ ap (tree_put x.spot t) out in
+      ap (tree_moved name x.spot) there ∙ back ∙ ap (λ u. tree_put x.spot u left) (sym same) ∙ erased_back root name x o l

@@ -121,10 +121,10 @@ record RegionsDeeper (n : OpName) (x : Located) (rs : Regions) : Type 0 where
   back : regions_put x.spot x.tree (regions_at n tail rs) ≡ rs
   has : is_among n (regions_names rs) ≡ true
 
-among_own : (m : OpName) (xs : List OpName) → is_among m (m ∷ xs) ≡ true
+pub among_own : (m : OpName) (xs : List OpName) → is_among m (m ∷ xs) ≡ true
 among_own m xs = (let o = own_name m in rw o refl)
 
-among_behind : (n m : OpName) (xs : List OpName) → is_among n xs ≡ true → is_among n (m ∷ xs) ≡ true
+pub among_behind : (n m : OpName) (xs : List OpName) → is_among n xs ≡ true → is_among n (m ∷ xs) ≡ true
 among_behind n m xs h = elim (cases_Bool (same_name m n)) [ inl t ↦ rw t refl | inr f ↦ rw (f, h) refl ]
 
 mutual

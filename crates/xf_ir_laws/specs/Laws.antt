@@ -1,5 +1,5 @@
--- Laws of valid modules and of erasing what may be erased.
-use Rattle.std.specs.Prelude.{◌≡◌, ℕ, ◌+◌, ◌<◌, ◌≤◌, ◌↔◌, List, Option, None}
+-- Laws of valid modules, of edits and of erasing what may be erased.
+use Rattle.std.specs.Prelude.{◌≡◌, ℕ, ◌+◌, ◌++◌, ◌<◌, ◌≤◌, ◌↔◌, List, Option, None}
 use Rattle.xf_type.specs.declared.attribute.AttrValue.{AttrValue}
 use Rattle.xf_ir.specs.declared.kind.Attr.{Attr}
 use Rattle.xf_ir.specs.declared.name.OpName.{OpName}
@@ -8,9 +8,9 @@ use Rattle.xf_ir.specs.declared.edit.Edit.TheVariants.{Erase}
 use Rattle.xf_ir.specs.declared.op.Module.{Module}
 use Rattle.xf_ir.specs.Count.{tree_count}
 use Rattle.xf_ir.specs.Places.{FunctionsScoped}
-use Rattle.xf_ir.specs.Valid.{IsNamedOnce, IsValid, functions_of}
+use Rattle.xf_ir.specs.Valid.{IsNamedOnce, SeesItsUses, IsValid, functions_of}
 use Rattle.xf_ir.specs.Attributes.{IsSortedByName, attr_set}
-use Rattle.xf_ir.specs.Edits.{edited, inverse_of, FitsEdit}
+use Rattle.xf_ir.specs.Edits.{edited, inverse_of, replayed, inverses_of, FitsEdit, FitEdits}
 use Rattle.xf_ir.specs.Violations.{first_violation}
 use Rattle.xf_ir.specs.Choices.{MayErase, weight_at}
 use Rattle.xf_ir.specs.Lists.{Each}
@@ -44,6 +44,22 @@ ErasingLowersCount = (m : Module) (target name : OpName) → IsValid m → MayEr
 -- where names occur once, the inverse of an edit that fits leads back to the module's tree
 abbrev pub InverseLeadsBack : Type 0
 InverseLeadsBack = (m : Module) (e : Edit) → IsNamedOnce m → FitsEdit m e → (edited (edited m e) (inverse_of m e)).root ≡ m.root
+
+-- and fits the edited module, where each use was of a visible value
+abbrev pub InverseFits : Type 0
+InverseFits = (m : Module) (e : Edit) → IsNamedOnce m → SeesItsUses m → FitsEdit m e → FitsEdit (edited m e) (inverse_of m e)
+
+-- edits are replayed by replaying some of them and then the others
+abbrev pub ReplayingComposes : Type 0
+ReplayingComposes = (m : Module) (es fs : List Edit) → replayed m (es ++ fs) ≡ replayed (replayed m es) fs
+
+-- where each edit fits what the former ones left, so does each inverse, the last edit's first
+abbrev pub InversesFit : Type 0
+InversesFit = (m : Module) (es : List Edit) → IsNamedOnce m → SeesItsUses m → FitEdits m es → FitEdits (replayed m es) (inverses_of m es)
+
+-- and the inverses lead back to the module's tree
+abbrev pub InversesLeadBack : Type 0
+InversesLeadBack = (m : Module) (es : List Edit) → IsNamedOnce m → SeesItsUses m → FitEdits m es → (replayed (replayed m es) (inverses_of m es)).root ≡ m.root
 
 -- an attribute that is given a value or taken away leaves attributes sorted by their names
 abbrev pub SettingKeepsSorted : Type 0

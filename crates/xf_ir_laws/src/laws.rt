@@ -1,5 +1,5 @@
-//! Laws of valid modules, each as the contract of a function that does nothing.
-ghost use Rattle.xf_ir_laws.specs.Laws.{ValidIsScoped, ValidHasNoViolation, ErasingFits, ErasingKeepsValid, ErasingLowersWeight, ErasingLowersCount, InverseLeadsBack, SettingKeepsSorted, RenamingKeepsValid};
+//! Laws of valid modules and of edits, each as the contract of a function that does nothing.
+ghost use Rattle.xf_ir_laws.specs.Laws.{ValidIsScoped, ValidHasNoViolation, ErasingFits, ErasingKeepsValid, ErasingLowersWeight, ErasingLowersCount, InverseLeadsBack, InverseFits, ReplayingComposes, InversesFit, InversesLeadBack, SettingKeepsSorted, RenamingKeepsValid};
 
 /// In a valid module each operand is visible where it stands, and each value is defined once among those that are visible.
 pub fn valid_is_scoped()
@@ -34,6 +34,22 @@ pub fn erasing_lowers_count()
 /// Where names occur once, the inverse of an edit that fits leads back to the module's tree.
 pub fn inverse_leads_back()
     ensures { InverseLeadsBack }
+{}
+
+/// Where names occur once and each use is of a visible value, the inverse of an edit that fits the module fits the edited one.
+pub fn inverse_fits()
+    ensures { InverseFits }
+{}
+
+/// Edits are replayed by replaying some of them and then the others.
+pub fn replaying_composes()
+    ensures { ReplayingComposes }
+{}
+
+/// Where edits fit one after another, their inverses do, the last edit's first, and lead back to the module's tree.
+pub fn inverses_lead_back()
+    ensures fit { InversesFit }
+    ensures root { InversesLeadBack }
 {}
 
 /// An attribute that is given a value or taken away leaves the attributes sorted by the bytes of their names.
