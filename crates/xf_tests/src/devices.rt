@@ -1,12 +1,12 @@
-//! What no clause says: that calls succeed with ample memory, and what the real adapters do.
-use crate::files::{FileFail, Files};
-use crate::memory::{MemFiles, MemSink};
-use crate::real::{RealFiles, RealSink};
-use crate::sink::{Sink, SinkFail};
+//! What no clause says of files and streams of the system: their bytes, and where they fail.
+
 use std::alloc::Global;
 use std::io::{ErrorKind, Write};
 use std::test::Fail;
 use std::{fs, io};
+use xf_host::files::{FileFail, Files};
+use xf_host::real::{RealFiles, RealSink};
+use xf_host::sink::{Sink, SinkFail};
 
 /// What a read of at most `max` bytes appends to the byte `>`.
 fn read_after_mark<F: Files>(
@@ -27,43 +27,8 @@ fn write_two<S: Sink>(sink: &mut S, first: &[u8], second: &[u8]) -> Result<(), S
 }
 
 #[test]
-fn memory_files_fail_at_absent_paths_and_planned_reads(rt: HostRuntime) -> Result<(), Fail> {
-    let alloc = rt.alloc();
-    let mut files = MemFiles::new(alloc);
-    files.add("p", b"old")?;
-    files.add("p", b"abcdef")?;
-    files.add("empty", b"")?;
-    files.fail_at(2)?;
-    let front = read_after_mark(alloc, &mut files, "p", 4)?;
-    assert_eq!(rt; front.as_slice(), b">abcd".as_slice());
-    let absent = read_after_mark(alloc, &mut files, "q", 4);
-    assert!(rt; matches!(absent, Err(FileFail::Failed)));
-    let planned = read_after_mark(alloc, &mut files, "p", 4);
-    assert!(rt; matches!(planned, Err(FileFail::Failed)));
-    let whole = read_after_mark(alloc, &mut files, "p", 100)?;
-    assert_eq!(rt; whole.as_slice(), b">abcdef".as_slice());
-    let empty = read_after_mark(alloc, &mut files, "empty", 100)?;
-    assert_eq!(rt; empty.as_slice(), b">".as_slice());
-    Ok(())
-}
-
-#[test]
-fn memory_sink_takes_the_planned_bytes_and_fails(rt: HostRuntime) -> Result<(), Fail> {
-    let mut sink = MemSink::new(rt.alloc());
-    sink.fail_at(1, 2)?;
-    sink.fail_at(2, 9)?;
-    let second = write_two(&mut sink, b"one,", b"two,");
-    assert!(rt; matches!(second, Err(SinkFail::Failed)));
-    let third = sink.write(b"three,");
-    assert!(rt; matches!(third, Err(SinkFail::Failed)));
-    sink.write(b"four")?;
-    assert_eq!(rt; sink.bytes(), b"one,twthree,four".as_slice());
-    Ok(())
-}
-
-#[test]
 fn real_files_are_read_to_the_limit(rt: HostRuntime) -> Result<(), Fail> {
-    let path = "xf_host_real_file";
+    let path = "xf_tests_real_file";
     let mut bytes = vec![in rt.alloc(); b'a'; 10_000]?;
     bytes.push(b'z')?;
     fs::write(&rt, path, &bytes)?;

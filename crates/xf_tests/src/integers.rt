@@ -1,8 +1,13 @@
 //! The arithmetic of integers against Python's: `reference/integers.py` prints the tables below.
 ghost use Rattle.xf_type.specs.Integers.{FitsWidth};
 
-use super::*;
+use std::process::Abort;
+use xf_type::{
+    BinKind, CmpKind, ConvKind, Elem, Width, apply_binary, apply_cmp, apply_conv, apply_select,
+    bits, signed, wrap,
+};
 
+/// Numbers of 128 bits, which are read modulo 2^bits.
 const WIDE: [i128; 7] = [
     i128::MIN,
     -0x8000_0000_0000_0001,
@@ -13,7 +18,7 @@ const WIDE: [i128; 7] = [
     i128::MAX,
 ];
 
-// 0, 1, -1, the least and the greatest signed number, and the numbers of places about the bits, all modulo 2^bits.
+/// 0, 1, -1, the least and the greatest signed number, and the numbers of places about the bits, all modulo 2^bits.
 const EDGES: [(Width, [u64; 8]); 6] = [
     (Width::I1, [0x0, 0x1, 0x1, 0x1, 0x0, 0x0, 0x1, 0x0]),
     (Width::I8, [0x0, 0x1, 0xff, 0x80, 0x7f, 0x7, 0x8, 0x9]),
@@ -55,7 +60,7 @@ const EDGES: [(Width, [u64; 8]); 6] = [
     ),
 ];
 
-// The edges read in two's complement.
+/// The edges read in two's complement.
 const SIGNED: [(Width, [i64; 8]); 6] = [
     (Width::I1, [0, -1, -1, -1, 0, 0, -1, 0]),
     (Width::I8, [0, 1, -1, -128, 127, 7, 8, 9]),
@@ -89,7 +94,7 @@ const SIGNED: [(Width, [i64; 8]); 6] = [
     ),
 ];
 
-// The integers of `WIDE` modulo 2^bits.
+/// The integers of `WIDE` modulo 2^bits.
 const WRAPPED: [(Width, [u64; 7]); 6] = [
     (Width::I1, [0x0, 0x1, 0x1, 0x1, 0x1, 0x1, 0x1]),
     (Width::I8, [0x0, 0xff, 0x7f, 0xff, 0xff, 0x1, 0xff]),
@@ -126,7 +131,7 @@ const WRAPPED: [(Width, [u64; 7]); 6] = [
     ),
 ];
 
-// The digest of each operation over all pairs of edges, by width.
+/// The digest of each operation over all pairs of edges, by width.
 const BINARY: [(BinKind, [u64; 6]); 13] = [
     (
         BinKind::Addi,
@@ -208,7 +213,7 @@ const BINARY: [(BinKind, [u64; 6]); 13] = [
     ),
 ];
 
-// The same of each comparison.
+/// The same of each comparison.
 const COMPARED: [(CmpKind, [u64; 6]); 10] = [
     (
         CmpKind::Eq,
@@ -272,7 +277,7 @@ const COMPARED: [(CmpKind, [u64; 6]); 10] = [
     ),
 ];
 
-// The digest of each conversion over all widths to go to and all edges, by the width to come from.
+/// The digest of each conversion over all widths to go to and all edges, by the width to come from.
 const CONVERTED: [(ConvKind, [u64; 6]); 5] = [
     (
         ConvKind::Extsi,
@@ -306,26 +311,17 @@ const CONVERTED: [(ConvKind, [u64; 6]); 5] = [
     ),
 ];
 
-const COMBINERS: [(Combiner, BinKind); 9] = [
-    (Combiner::Addi, BinKind::Addi),
-    (Combiner::Muli, BinKind::Muli),
-    (Combiner::Andi, BinKind::Andi),
-    (Combiner::Ori, BinKind::Ori),
-    (Combiner::Xori, BinKind::Xori),
-    (Combiner::Minsi, BinKind::Minsi),
-    (Combiner::Maxsi, BinKind::Maxsi),
-    (Combiner::Minui, BinKind::Minui),
-    (Combiner::Maxui, BinKind::Maxui),
-];
-
-// An element of a width.
-fn element(w: Width, n: u64) -> Elem
+/// A number modulo 2^bits, or no number.
+fn fitting(w: Width, e: Elem) -> Elem
     ensures { FitsWidth w result }
 {
-    Elem::Num(low_bits(w, n))
+    match e {
+        Elem::Num(n) => Elem::Num(wrap(w, i128::from(n))),
+        Elem::NoNumber => Elem::NoNumber,
+    }
 }
 
-// The digest with one more result.
+/// The digest with one more result.
 fn digest(total: u64, e: Elem) -> u64 {
     let result = match e {
         Elem::Num(n) => n,
@@ -334,13 +330,48 @@ fn digest(total: u64, e: Elem) -> u64 {
     total.wrapping_mul(31).wrapping_add(result)
 }
 
-#[test]
-fn readings_are_pythons(rt: HostRuntime) {
+fn element(w: Width, n: u64) -> Elem
+    ensures { FitsWidth w result }
+{
+    fitting(w, Elem::Num(n))
+}
+
+fn binary_digest(k: BinKind, w: Width, edges: &[u64]) -> u64 {
+    let mut total = 0;
+    for a in edges {
+        for b in edges {
+            total = digest(total, apply_binary(k, w, element(w, *a), element(w, *b)));
+        }
+    }
+    total >> 32
+}
+
+fn compared_digest(k: CmpKind, w: Width, edges: &[u64]) -> u64 {
+    let mut total = 0;
+    for a in edges {
+        for b in edges {
+            total = digest(total, apply_cmp(k, w, element(w, *a), element(w, *b)));
+        }
+    }
+    total >> 32
+}
+
+fn converted_digest(k: ConvKind, from: Width, edges: &[u64]) -> u64 {
+    let mut total = 0;
+    for (to, _) in EDGES {
+        for a in edges {
+            total = digest(total, apply_conv(k, from, to, element(from, *a)));
+        }
+    }
+    total >> 32
+}
+
+fn assert_readings(rt: &impl Abort) {
     for i in 0..6 {
         let (w, edges) = EDGES[i];
         assert_eq!(rt; bits(w), [1, 8, 16, 32, 64, 64][i], "bits of {w:?}");
         for j in 0..8 {
-            let n = low_bits(w, edges[j]);
+            let n = wrap(w, i128::from(edges[j]));
             assert_eq!(rt; n, edges[j], "edge {j} of {w:?}");
             assert_eq!(rt; signed(w, n), SIGNED[i].1[j], "edge {j} of {w:?}");
         }
@@ -351,146 +382,77 @@ fn readings_are_pythons(rt: HostRuntime) {
 }
 
 #[test]
-fn operations_are_pythons(rt: HostRuntime) {
-    for (k, wanted) in BINARY {
-        for i in 0..6 {
-            let (w, edges) = EDGES[i];
-            let mut total = 0;
-            for a in edges {
-                for b in edges {
-                    total = digest(total, apply_binary(k, w, element(w, a), element(w, b)));
-                }
-            }
-            assert_eq!(rt; total >> 32, wanted[i], "{k:?} at {w:?}");
+fn integers_are_pythons(rt: HostRuntime) {
+    assert_readings(&rt);
+    for i in 0..6 {
+        let (w, edges) = EDGES[i];
+        for (k, wanted) in BINARY {
+            assert_eq!(rt; binary_digest(k, w, &edges), wanted[i], "{k:?} at {w:?}");
+        }
+        for (k, wanted) in COMPARED {
+            assert_eq!(rt; compared_digest(k, w, &edges), wanted[i], "{k:?} at {w:?}");
+        }
+        for (k, wanted) in CONVERTED {
+            assert_eq!(rt;
+                converted_digest(k, w, &edges),
+                wanted[i],
+                "{k:?} from {w:?}"
+            );
         }
     }
 }
 
-#[test]
-fn comparisons_are_pythons(rt: HostRuntime) {
-    for (k, wanted) in COMPARED {
-        for i in 0..6 {
-            let (w, edges) = EDGES[i];
-            let mut total = 0;
-            for a in edges {
-                for b in edges {
-                    total = digest(total, apply_cmp(k, w, element(w, a), element(w, b)));
-                }
-            }
-            assert_eq!(rt; total >> 32, wanted[i], "{k:?} at {w:?}");
-        }
-    }
-}
+const NONE: Elem = Elem::NoNumber;
+
+/// Rows that a reader can follow, at eight bits.
+const ROWS: [(BinKind, Elem, Elem, Elem); 17] = [
+    (BinKind::Addi, Elem::Num(127), Elem::Num(1), Elem::Num(128)),
+    (BinKind::Addi, Elem::Num(255), Elem::Num(1), Elem::Num(0)),
+    (BinKind::Subi, Elem::Num(0), Elem::Num(1), Elem::Num(255)),
+    (BinKind::Muli, Elem::Num(128), Elem::Num(2), Elem::Num(0)),
+    (BinKind::Muli, Elem::Num(255), Elem::Num(255), Elem::Num(1)),
+    (BinKind::Shli, Elem::Num(3), Elem::Num(7), Elem::Num(128)),
+    (BinKind::Shli, Elem::Num(3), Elem::Num(8), NONE),
+    (BinKind::Shrui, Elem::Num(128), Elem::Num(7), Elem::Num(1)),
+    (BinKind::Shrui, Elem::Num(0), Elem::Num(255), NONE),
+    (BinKind::Shrsi, Elem::Num(128), Elem::Num(7), Elem::Num(255)),
+    (BinKind::Shrsi, Elem::Num(255), Elem::Num(8), NONE),
+    (
+        BinKind::Minsi,
+        Elem::Num(128),
+        Elem::Num(127),
+        Elem::Num(128),
+    ),
+    (
+        BinKind::Maxsi,
+        Elem::Num(128),
+        Elem::Num(127),
+        Elem::Num(127),
+    ),
+    (
+        BinKind::Minui,
+        Elem::Num(128),
+        Elem::Num(127),
+        Elem::Num(127),
+    ),
+    (
+        BinKind::Maxui,
+        Elem::Num(128),
+        Elem::Num(127),
+        Elem::Num(128),
+    ),
+    (BinKind::Addi, Elem::Num(1), NONE, NONE),
+    (BinKind::Muli, NONE, Elem::Num(0), NONE),
+];
 
 #[test]
-fn conversions_are_pythons(rt: HostRuntime) {
-    for (k, wanted) in CONVERTED {
-        for i in 0..6 {
-            let (from, edges) = EDGES[i];
-            let mut total = 0;
-            for (to, _) in EDGES {
-                for a in edges {
-                    total = digest(total, apply_conv(k, from, to, element(from, a)));
-                }
-            }
-            assert_eq!(rt; total >> 32, wanted[i], "{k:?} from {from:?}");
-        }
+fn edges_of_eight_bits_are_as_one_reckons(rt: HostRuntime) {
+    for (k, a, b, wanted) in ROWS {
+        let found = apply_binary(k, Width::I8, fitting(Width::I8, a), fitting(Width::I8, b));
+        assert_eq!(rt; found, wanted, "{k:?} of {a:?} and {b:?}");
     }
-}
-
-#[test]
-fn combiners_are_their_operations(rt: HostRuntime) {
-    for (c, k) in COMBINERS {
-        for (w, edges) in EDGES {
-            for a in edges {
-                for b in edges {
-                    let (a, b) = (element(w, a), element(w, b));
-                    assert_eq!(rt;
-                        combine(c, w, a, b),
-                        apply_binary(k, w, a, b),
-                        "{c:?} at {w:?}"
-                    );
-                }
-            }
-        }
-    }
-}
-
-// Rows that a reader can follow, at eight bits.
-#[test]
-fn edges_of_eight_bits(rt: HostRuntime) {
-    let rows = [
-        (BinKind::Addi, 127, 1, Elem::Num(128)),
-        (BinKind::Addi, 255, 1, Elem::Num(0)),
-        (BinKind::Subi, 0, 1, Elem::Num(255)),
-        (BinKind::Muli, 128, 2, Elem::Num(0)),
-        (BinKind::Muli, 255, 255, Elem::Num(1)),
-        (BinKind::Shli, 3, 7, Elem::Num(128)),
-        (BinKind::Shli, 3, 8, Elem::NoNumber),
-        (BinKind::Shrui, 128, 7, Elem::Num(1)),
-        (BinKind::Shrui, 0, 255, Elem::NoNumber),
-        (BinKind::Shrsi, 128, 7, Elem::Num(255)),
-        (BinKind::Shrsi, 255, 8, Elem::NoNumber),
-        (BinKind::Minsi, 128, 127, Elem::Num(128)),
-        (BinKind::Maxsi, 128, 127, Elem::Num(127)),
-        (BinKind::Minui, 128, 127, Elem::Num(127)),
-        (BinKind::Maxui, 128, 127, Elem::Num(128)),
-    ];
-    for (k, a, b, wanted) in rows {
-        let found = apply_binary(k, Width::I8, element(Width::I8, a), element(Width::I8, b));
-        assert_eq!(rt; found, wanted, "{k:?} of {a} and {b}");
-    }
-}
-
-#[test]
-fn no_number_gives_no_number(rt: HostRuntime) {
-    let one = Elem::Num(1);
-    for (k, _) in BINARY {
-        assert_eq!(rt;
-            apply_binary(k, Width::I8, one, Elem::NoNumber),
-            Elem::NoNumber,
-            "{k:?}"
-        );
-        assert_eq!(rt;
-            apply_binary(k, Width::I8, Elem::NoNumber, one),
-            Elem::NoNumber,
-            "{k:?}"
-        );
-    }
-    for (k, _) in COMPARED {
-        assert_eq!(rt;
-            apply_cmp(k, Width::I8, one, Elem::NoNumber),
-            Elem::NoNumber,
-            "{k:?}"
-        );
-        assert_eq!(rt;
-            apply_cmp(k, Width::I8, Elem::NoNumber, one),
-            Elem::NoNumber,
-            "{k:?}"
-        );
-    }
-    for (k, _) in CONVERTED {
-        assert_eq!(rt;
-            apply_conv(k, Width::I8, Width::I16, Elem::NoNumber),
-            Elem::NoNumber,
-            "{k:?}"
-        );
-    }
-    for (c, _) in COMBINERS {
-        assert_eq!(rt;
-            combine(c, Width::I8, Elem::NoNumber, one),
-            Elem::NoNumber,
-            "{c:?}"
-        );
-    }
-}
-
-#[test]
-fn select_looks_at_what_it_chooses(rt: HostRuntime) {
-    let (seven, none) = (Elem::Num(7), Elem::NoNumber);
-    assert_eq!(rt; apply_select(Elem::Num(1), seven, none), seven);
-    assert_eq!(rt; apply_select(Elem::Num(0), seven, none), none);
-    assert_eq!(rt; apply_select(Elem::Num(0), none, seven), seven);
-    assert_eq!(rt; apply_select(Elem::Num(1), none, seven), none);
-    assert_eq!(rt; apply_select(none, seven, seven), none);
+    let seven = Elem::Num(7);
+    assert_eq!(rt; apply_select(Elem::Num(1), seven, NONE), seven);
+    assert_eq!(rt; apply_select(Elem::Num(0), seven, NONE), NONE);
+    assert_eq!(rt; apply_select(NONE, seven, seven), NONE);
 }

@@ -3,12 +3,10 @@
 ghost use Rattle.std.specs.Prelude.{◌≡◌};
 
 use crate::bounds::count_few;
+use crate::trees::{function, holder, one_type, operation};
 use std::alloc::Global;
 use std::test::Fail;
-use xf_ir::{
-    Block, Edit, Kind, Module, NumberList, Op, OpList, OpName, Spot, ValueList, ValueName,
-    apply_edit,
-};
+use xf_ir::{Edit, Kind, Module, NumberList, Op, OpList, OpName, Spot, apply_edit};
 use xf_type::{AttrValue, Dim, ListOf, NoMemory, PayloadType, Shape, TypeList, Width};
 
 /// How many operations the block of a function has.
@@ -20,72 +18,22 @@ const LEVELS: u64 = 32;
 /// How many numbers a dense constant has.
 const NUMBERS: u64 = 1_000_000;
 
-fn one_type(alloc: Global) -> Result<TypeList, NoMemory> {
-    let mut types = ListOf::new(alloc);
-    types.push(PayloadType::Scalar(Width::I32))?;
-    Ok(types)
-}
-
-/// An operation that holds nothing and has one result.
-fn leaf(alloc: Global, name: u64, kind: Kind) -> Result<Op, NoMemory> {
-    Ok(Op {
-        name: OpName(name),
-        kind,
-        attrs: ListOf::new(alloc),
-        operands: ValueList::new(alloc),
-        results: one_type(alloc)?,
-        regions: Vec::new(alloc),
-    })
-}
-
-/// An operation that holds one block.
-fn holder(alloc: Global, name: u64, kind: Kind, ops: OpList) -> Result<Op, NoMemory> {
-    let mut regions = Vec::new(alloc);
-    regions.push(Block {
-        args: ListOf::new(alloc),
-        ops,
-    })?;
-    Ok(Op {
-        name: OpName(name),
-        kind,
-        attrs: ListOf::new(alloc),
-        operands: ValueList::new(alloc),
-        results: ListOf::new(alloc),
-        regions,
-    })
-}
-
-/// One operation as a list.
-fn one(alloc: Global, op: Op) -> Result<OpList, NoMemory> {
-    let mut ops = Vec::new(alloc);
-    ops.push(op)?;
-    Ok(ops)
-}
-
-/// The module of a function of these operations; the module has the name 0, the function the name 1.
-fn module(alloc: Global, ops: OpList, next: u64) -> Result<Module, NoMemory> {
-    let kind = Kind::Func {
-        symbol: ListOf::from_slice(alloc, b"f")?,
-        private: false,
-        results: ListOf::new(alloc),
-    };
-    let functions = one(alloc, holder(alloc, 1, kind, ops)?)?;
-    Ok(Module {
-        root: holder(alloc, 0, Kind::Module { symbol: None }, functions)?,
-        next,
-    })
+/// A module of a function of these operations.
+fn module(alloc: Global, ops: OpList) -> Result<Module, NoMemory> {
+    function(alloc, ListOf::new(alloc), ListOf::new(alloc), ops)
 }
 
 /// A constant.
 fn constant(alloc: Global, name: u64) -> Result<Op, NoMemory> {
-    leaf(
-        alloc,
-        name,
-        Kind::Constant {
-            width: Width::I32,
-            bits: 7,
-        },
-    )
+    let kind = Kind::Constant {
+        width: Width::I32,
+        bits: 7,
+    };
+    operation(alloc, name, kind, &[], i32_type(alloc)?)
+}
+
+fn i32_type(alloc: Global) -> Result<TypeList, NoMemory> {
+    one_type(alloc, PayloadType::Scalar(Width::I32))
 }
 
 /// A module of a function of that many constants, with the names from 2 on.
@@ -94,7 +42,7 @@ fn flat(alloc: Global) -> Result<Module, NoMemory> {
     for name in 2..OPERATIONS + 2 {
         ops.push(constant(alloc, name)?)?;
     }
-    module(alloc, ops, OPERATIONS + 2)
+    module(alloc, ops)
 }
 
 /// A loop or a branch, by turns, that holds these operations.
@@ -106,16 +54,19 @@ fn level(alloc: Global, name: u64, ops: OpList) -> Result<Op, NoMemory> {
     } else {
         Kind::If
     };
-    holder(alloc, name, kind, ops)
+    holder(alloc, name, kind, ListOf::new(alloc), ops)
 }
 
 /// A module of a function of nested regions, with the names from 2 on, and a constant in the innermost.
 fn nested(alloc: Global) -> Result<Module, NoMemory> {
-    let mut ops = one(alloc, constant(alloc, LEVELS + 2)?)?;
+    let mut ops = Vec::new(alloc);
+    ops.push(constant(alloc, LEVELS + 2)?)?;
     for name in (2..LEVELS + 2).rev() {
-        ops = one(alloc, level(alloc, name, ops)?)?;
+        let held = level(alloc, name, ops)?;
+        ops = Vec::new(alloc);
+        ops.push(held)?;
     }
-    module(alloc, ops, LEVELS + 3)
+    module(alloc, ops)
 }
 
 /// Whether the module has so many operations, and one of the last name.
@@ -232,7 +183,7 @@ fn dense(alloc: Global) -> Result<Op, NoMemory> {
         },
         numbers: numbers(alloc)?,
     };
-    leaf(alloc, 0, kind)
+    operation(alloc, 0, kind, &[], i32_type(alloc)?)
 }
 
 /// The numbers of a dense constant, or none.

@@ -1,4 +1,4 @@
-"""The expected values of src/integer/tests.rt, from Python's integers. Prints the tables that stand there."""
+"""The expected values of src/integers.rt, from Python's integers. Prints the tables that stand there."""
 
 WIDTHS = [("I1", 1), ("I8", 8), ("I16", 16), ("I32", 32), ("I64", 64), ("Index", 64)]
 NONE = None

@@ -2,12 +2,12 @@
 
 use crate::bounds::is_short;
 use crate::outline::add_module;
+use crate::trees::{one_type, operation};
 use std::alloc::Global;
 use std::process::Abort;
 use std::test::Fail;
 use xf_ir::{
-    Change, ChangeList, Edit, Kind, Module, Op, OpName, Spot, ValueList, ValueName, apply_edit,
-    inverse,
+    Change, ChangeList, Edit, Kind, Module, OpName, Spot, ValueList, ValueName, apply_edit, inverse,
 };
 use xf_read::read_module;
 use xf_type::{AttrValue, ListOf, NoMemory, PayloadType, Width};
@@ -28,6 +28,80 @@ const PAYLOAD: &str = "func.func @f(%a: i32, %b: i1) -> i32 {
 const FIRST: &str = "2 arith.constant 2 -> 1
 3 arith.addi %1/0.0 %2.0 -> 1
 5 arith.addi %3.0 %3.0 -> 1 {note=7}
+6 scf.yield -> 0
+4 scf.if %1/0.1 -> 0 (0 2)
+7 func.return %3.0 -> 0
+1 func.func f -> 0 (2 4)
+0 builtin.module -> 0 (0 1)
+";
+
+/// Its outline with the constant.
+const INSERTED: &str = "2 arith.constant 2 -> 1
+3 arith.addi %1/0.0 %2.0 -> 1
+5 arith.addi %3.0 %3.0 -> 1 {note=7}
+6 scf.yield -> 0
+4 scf.if %1/0.1 -> 0 (0 2)
+20 arith.constant 9 -> 1
+7 func.return %3.0 -> 0
+1 func.func f -> 0 (2 5)
+0 builtin.module -> 0 (0 1)
+";
+
+/// Its outline without the branch.
+const ERASED: &str = "2 arith.constant 2 -> 1
+3 arith.addi %1/0.0 %2.0 -> 1
+7 func.return %3.0 -> 0
+1 func.func f -> 0 (2 3)
+0 builtin.module -> 0 (0 1)
+";
+
+/// Its outline with other uses.
+const CHANGED: &str = "2 arith.constant 2 -> 1
+3 arith.addi %1/0.0 %1/0.0 -> 1
+5 arith.addi %2.0 %3.0 -> 1 {note=7}
+6 scf.yield -> 0
+4 scf.if %1/0.1 -> 0 (0 2)
+7 func.return %3.0 -> 0
+1 func.func f -> 0 (2 4)
+0 builtin.module -> 0 (0 1)
+";
+
+/// Its outline without the sum.
+const REPLACED: &str = "2 arith.constant 2 -> 1
+5 arith.addi %1/0.0 %1/0.0 -> 1 {note=7}
+6 scf.yield -> 0
+4 scf.if %1/0.1 -> 0 (0 2)
+7 func.return %1/0.0 -> 0
+1 func.func f -> 0 (2 3)
+0 builtin.module -> 0 (0 1)
+";
+
+/// Its outline with a sum moved out of the branch.
+const MOVED: &str = "2 arith.constant 2 -> 1
+3 arith.addi %1/0.0 %2.0 -> 1
+5 arith.addi %3.0 %3.0 -> 1 {note=7}
+6 scf.yield -> 0
+4 scf.if %1/0.1 -> 0 (0 1)
+7 func.return %3.0 -> 0
+1 func.func f -> 0 (2 5)
+0 builtin.module -> 0 (0 1)
+";
+
+/// Its outline with an attribute.
+const NOTED: &str = "2 arith.constant 2 -> 1 {note:new}
+3 arith.addi %1/0.0 %2.0 -> 1
+5 arith.addi %3.0 %3.0 -> 1 {note=7}
+6 scf.yield -> 0
+4 scf.if %1/0.1 -> 0 (0 2)
+7 func.return %3.0 -> 0
+1 func.func f -> 0 (2 4)
+0 builtin.module -> 0 (0 1)
+";
+
+/// Its outline without an attribute.
+const NOT_NOTED: &str = "2 arith.constant 2 -> 1
+3 arith.addi %1/0.0 %2.0 -> 1
+5 arith.addi %3.0 %3.0 -> 1
 6 scf.yield -> 0
 4 scf.if %1/0.1 -> 0 (0 2)
 7 func.return %3.0 -> 0
@@ -151,51 +225,15 @@ fn assert_turns(
 
 /// Puts a constant before the return.
 fn insertion(alloc: Global) -> Result<Edit, NoMemory> {
-    let mut results = ListOf::new(alloc);
-    results.push(PayloadType::Scalar(Width::I32))?;
     let kind = Kind::Constant {
         width: Width::I32,
         bits: 9,
     };
+    let results = one_type(alloc, PayloadType::Scalar(Width::I32))?;
     Ok(Edit::Insert {
-        tree: Op {
-            name: OpName(20),
-            kind,
-            attrs: ListOf::new(alloc),
-            operands: ValueList::new(alloc),
-            results,
-            regions: Vec::new(alloc),
-        },
+        tree: operation(alloc, 20, kind, &[], results)?,
         at: before(3),
     })
-}
-
-#[test]
-fn inserting_is_undone_by_erasing(rt: HostRuntime) -> Result<(), Fail> {
-    let edited = "2 arith.constant 2 -> 1
-3 arith.addi %1/0.0 %2.0 -> 1
-5 arith.addi %3.0 %3.0 -> 1 {note=7}
-6 scf.yield -> 0
-4 scf.if %1/0.1 -> 0 (0 2)
-20 arith.constant 9 -> 1
-7 func.return %3.0 -> 0
-1 func.func f -> 0 (2 5)
-0 builtin.module -> 0 (0 1)
-";
-    let e = insertion(rt.alloc())?;
-    assert_turns(&rt, rt.alloc(), &e, edited, "Erase")
-}
-
-#[test]
-fn erasing_is_undone_by_inserting(rt: HostRuntime) -> Result<(), Fail> {
-    let edited = "2 arith.constant 2 -> 1
-3 arith.addi %1/0.0 %2.0 -> 1
-7 func.return %3.0 -> 0
-1 func.func f -> 0 (2 3)
-0 builtin.module -> 0 (0 1)
-";
-    let e = Edit::Erase { op: OpName(4) };
-    assert_turns(&rt, rt.alloc(), &e, edited, "Insert")
 }
 
 /// The change of an operand from one value to another.
@@ -208,24 +246,6 @@ fn change(op: u64, operand: u32, old: ValueName, new: ValueName) -> Change {
     }
 }
 
-#[test]
-fn changed_uses_are_changed_back(rt: HostRuntime) -> Result<(), Fail> {
-    let edited = "2 arith.constant 2 -> 1
-3 arith.addi %1/0.0 %1/0.0 -> 1
-5 arith.addi %2.0 %3.0 -> 1 {note=7}
-6 scf.yield -> 0
-4 scf.if %1/0.1 -> 0 (0 2)
-7 func.return %3.0 -> 0
-1 func.func f -> 0 (2 4)
-0 builtin.module -> 0 (0 1)
-";
-    let changes = [change(3, 1, C, A), change(5, 0, D, C)];
-    let e = Edit::ReplaceUses {
-        changes: ChangeList::from_slice(rt.alloc(), &changes)?,
-    };
-    assert_turns(&rt, rt.alloc(), &e, edited, "ReplaceUses")
-}
-
 /// Puts the argument in the place of the sum.
 fn replacement(alloc: Global) -> Result<Edit, NoMemory> {
     let changes = [change(5, 0, D, A), change(5, 1, D, A), change(7, 0, D, A)];
@@ -234,38 +254,6 @@ fn replacement(alloc: Global) -> Result<Edit, NoMemory> {
         by: ValueList::from_slice(alloc, &[A])?,
         changes: ChangeList::from_slice(alloc, &changes)?,
     })
-}
-
-#[test]
-fn replacing_is_undone_by_restoring(rt: HostRuntime) -> Result<(), Fail> {
-    let edited = "2 arith.constant 2 -> 1
-5 arith.addi %1/0.0 %1/0.0 -> 1 {note=7}
-6 scf.yield -> 0
-4 scf.if %1/0.1 -> 0 (0 2)
-7 func.return %1/0.0 -> 0
-1 func.func f -> 0 (2 3)
-0 builtin.module -> 0 (0 1)
-";
-    let e = replacement(rt.alloc())?;
-    assert_turns(&rt, rt.alloc(), &e, edited, "Restore")
-}
-
-#[test]
-fn moving_is_undone_by_moving_back(rt: HostRuntime) -> Result<(), Fail> {
-    let edited = "2 arith.constant 2 -> 1
-3 arith.addi %1/0.0 %2.0 -> 1
-5 arith.addi %3.0 %3.0 -> 1 {note=7}
-6 scf.yield -> 0
-4 scf.if %1/0.1 -> 0 (0 1)
-7 func.return %3.0 -> 0
-1 func.func f -> 0 (2 5)
-0 builtin.module -> 0 (0 1)
-";
-    let e = Edit::Move {
-        op: OpName(5),
-        to: before(2),
-    };
-    assert_turns(&rt, rt.alloc(), &e, edited, "Move")
 }
 
 /// Gives an operation's attribute `note` a value, or takes it away.
@@ -277,33 +265,32 @@ fn noted(alloc: Global, op: u64, value: Option<AttrValue>) -> Result<Edit, NoMem
     })
 }
 
-#[test]
-fn a_new_attribute_is_taken_away_again(rt: HostRuntime) -> Result<(), Fail> {
-    let edited = "2 arith.constant 2 -> 1 {note:new}
-3 arith.addi %1/0.0 %2.0 -> 1
-5 arith.addi %3.0 %3.0 -> 1 {note=7}
-6 scf.yield -> 0
-4 scf.if %1/0.1 -> 0 (0 2)
-7 func.return %3.0 -> 0
-1 func.func f -> 0 (2 4)
-0 builtin.module -> 0 (0 1)
-";
-    let text = ListOf::from_slice(rt.alloc(), b"new")?;
-    let e = noted(rt.alloc(), 2, Some(AttrValue::Text(text)))?;
-    assert_turns(&rt, rt.alloc(), &e, edited, "SetAttr")
+/// Lets the sum in the branch take the constant, and the first sum the argument twice.
+fn other_uses(alloc: Global) -> Result<Edit, NoMemory> {
+    let changes = [change(3, 1, C, A), change(5, 0, D, C)];
+    Ok(Edit::ReplaceUses {
+        changes: ChangeList::from_slice(alloc, &changes)?,
+    })
+}
+
+/// Moves the sum in the branch before it.
+fn moved() -> Edit {
+    Edit::Move {
+        op: OpName(5),
+        to: before(2),
+    }
 }
 
 #[test]
-fn a_lost_attribute_gets_its_value_again(rt: HostRuntime) -> Result<(), Fail> {
-    let edited = "2 arith.constant 2 -> 1
-3 arith.addi %1/0.0 %2.0 -> 1
-5 arith.addi %3.0 %3.0 -> 1
-6 scf.yield -> 0
-4 scf.if %1/0.1 -> 0 (0 2)
-7 func.return %3.0 -> 0
-1 func.func f -> 0 (2 4)
-0 builtin.module -> 0 (0 1)
-";
-    let e = noted(rt.alloc(), 5, None)?;
-    assert_turns(&rt, rt.alloc(), &e, edited, "SetAttr")
+fn each_edit_is_undone_by_its_inverse(rt: HostRuntime) -> Result<(), Fail> {
+    let alloc = rt.alloc();
+    let erasure = Edit::Erase { op: OpName(4) };
+    let note = Some(AttrValue::Text(ListOf::from_slice(alloc, b"new")?));
+    assert_turns(&rt, alloc, &insertion(alloc)?, INSERTED, "Erase")?;
+    assert_turns(&rt, alloc, &erasure, ERASED, "Insert")?;
+    assert_turns(&rt, alloc, &other_uses(alloc)?, CHANGED, "ReplaceUses")?;
+    assert_turns(&rt, alloc, &replacement(alloc)?, REPLACED, "Restore")?;
+    assert_turns(&rt, alloc, &moved(), MOVED, "Move")?;
+    assert_turns(&rt, alloc, &noted(alloc, 2, note)?, NOTED, "SetAttr")?;
+    assert_turns(&rt, alloc, &noted(alloc, 5, None)?, NOT_NOTED, "SetAttr")
 }

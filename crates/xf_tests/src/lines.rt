@@ -1,15 +1,12 @@
-//! What no clause says: that a line is written where the sink does not fail.
+//! The line of each fault, written to a sink that fails nowhere, and to ones that fail at each write.
 ghost use Rattle.xf_span.specs.Line.{HasLine};
 
-use crate::code::Code;
-use crate::fault::Fault;
-use crate::line::write_fault;
-use crate::place::Place;
 use std::alloc::Global;
 use std::process::Abort;
 use std::test::Fail;
 use xf_host::memory::MemSink;
 use xf_host::sink::SinkFail;
+use xf_span::{Code, Fault, Place, write_fault};
 
 /// The line of each code, for the file `p` and the fault of [`whole_fault`].
 const LINES: [(Code, &str); 81] = [
@@ -118,30 +115,21 @@ fn assert_line(rt: &impl Abort, alloc: Global, fault: &Fault, line: &str) -> Res
     Ok(())
 }
 
-#[test]
-fn every_code_has_its_line(rt: HostRuntime) -> Result<(), Fail> {
-    let alloc = rt.alloc();
-    for (code, line) in LINES {
-        assert_line(&rt, alloc, &whole_fault(code), line)?;
-    }
-    Ok(())
-}
-
-#[test]
-fn a_sink_that_fails_holds_a_prefix_of_the_line(rt: HostRuntime) -> Result<(), Fail> {
-    for (code, line) in LINES {
-        let mut held = 0;
-        for call in 0..17 {
-            let mut sink = MemSink::new(rt.alloc());
-            sink.fail_at(call, 1)?;
-            match write_fault(&mut sink, "p", &whole_fault(code)) {
-                Ok(()) => assert_eq!(rt; sink.bytes(), line.as_bytes()),
-                Err(fail) => {
-                    assert!(rt; matches!(fail, SinkFail::Failed));
-                    assert!(rt; line.as_bytes().starts_with(sink.bytes()));
-                    assert!(rt; held < sink.bytes().len(), "each call comes further");
-                    held = sink.bytes().len();
-                }
+/// Asserts that sinks that fail at one write after the other hold more and more of the line.
+fn assert_prefixes(rt: &impl Abort, alloc: Global, fault: &Fault, line: &str) -> Result<(), Fail>
+    requires { HasLine fault.now }
+{
+    let mut held = 0;
+    for call in 0..17 {
+        let mut sink = MemSink::new(alloc);
+        sink.fail_at(call, 1)?;
+        match write_fault(&mut sink, "p", fault) {
+            Ok(()) => assert_eq!(rt; sink.bytes(), line.as_bytes()),
+            Err(fail) => {
+                assert!(rt; matches!(fail, SinkFail::Failed));
+                assert!(rt; line.as_bytes().starts_with(sink.bytes()));
+                assert!(rt; held < sink.bytes().len(), "each call comes further");
+                held = sink.bytes().len();
             }
         }
     }
@@ -149,26 +137,27 @@ fn a_sink_that_fails_holds_a_prefix_of_the_line(rt: HostRuntime) -> Result<(), F
 }
 
 #[test]
-fn faults_that_tell_less_have_their_lines(rt: HostRuntime) -> Result<(), Fail> {
+fn every_code_has_its_line_or_a_prefix_of_it(rt: HostRuntime) -> Result<(), Fail> {
     let alloc = rt.alloc();
-    let absent = Fault::plain(Code::ReadFailed);
-    assert_line(&rt, alloc, &absent, "p: read failed\n")?;
-    let not_built = Fault::plain(Code::N1);
-    assert_line(&rt, alloc, &not_built, "p: N1 NotBuilt\n")?;
+    for (code, line) in LINES {
+        assert_line(&rt, alloc, &whole_fault(code), line)?;
+        assert_prefixes(&rt, alloc, &whole_fault(code), line)?;
+    }
+    Ok(())
+}
+
+#[test]
+fn faults_have_the_lines_of_what_they_tell(rt: HostRuntime) -> Result<(), Fail> {
+    let alloc = rt.alloc();
+    let used = Place { line: 8, col: 5 };
+    let consumed = Place { line: 6, col: 15 };
+    assert_line(&rt, alloc, &Fault::plain(Code::N1), "p: N1 NotBuilt\n")?;
     let end = Place {
         line: u32::MAX,
         col: u32::MAX,
     };
     let cycle = Fault::at(Code::V9, end);
     assert_line(&rt, alloc, &cycle, "p:4294967295:4294967295: V9\n")?;
-    Ok(())
-}
-
-#[test]
-fn faults_that_tell_more_have_their_lines(rt: HostRuntime) -> Result<(), Fail> {
-    let alloc = rt.alloc();
-    let used = Place { line: 8, col: 5 };
-    let consumed = Place { line: 6, col: 15 };
     let overflow = Fault::out_of_profile(used, 3);
     assert_line(&rt, alloc, &overflow, "p:8:5: A6 OutOfProfile 3\n")?;
     let invalid = Fault::invalid_handle(used, consumed);
