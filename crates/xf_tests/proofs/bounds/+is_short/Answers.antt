@@ -5,8 +5,8 @@ use Rattle.xf_ir.specs.View.{ops_of}
 use Rattle.xf_ir.specs.Spots.{ops_length}
 use Rattle.xf_ir.specs.Bounds.{regions_length, OpsShort}
 use Rattle.xf_ir.proofs.ShortLists.{long_regions, long_ops}
-use Rattle.xf_rows.proofs.ShortTrees.{short_from, short_end}
-use Rattle.xf_rows.proofs.bounds.+is_short.Goals as goal
+use Rattle.xf_tests.proofs.ShortTrees.{short_from, short_end}
+use Rattle.xf_tests.proofs.bounds.+is_short.Goals as goal
 
 pub loop-inner-init : goal.loop-inner-init
 loop-inner-init t c = λ ops rest.

@@ -1,7 +1,7 @@
 use Rattle.std.proofs.Common.{◌+◌, drop}
 use Rattle.xf_ir.specs.Bounds.{OpsShort, RegionsShort}
 use Rattle.xf_ir.specs.View.{ops_of, regions_of, tree_size}
-use Rattle.xf_rows.proofs.bounds.+is_short.Given as goal
+use Rattle.xf_tests.proofs.bounds.+is_short.Given as goal
 
 abbrev pub decreases-is_short : goal.decreases-is_short
 decreases-is_short l = tree_size l.op.now

@@ -1,7 +1,7 @@
 use Rattle.std.proofs.Common.{◌≡◌, ◌+◌, drop}
 use Rattle.xf_ir.specs.Count.{tree_count, ops_count, regions_count}
 use Rattle.xf_ir.specs.View.{ops_of, regions_of, tree_size}
-use Rattle.xf_rows.proofs.bounds.+number.Given as goal
+use Rattle.xf_tests.proofs.bounds.+number.Given as goal
 
 abbrev pub decreases-number : goal.decreases-number
 decreases-number l = tree_size l.op.now
