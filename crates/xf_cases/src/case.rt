@@ -4,21 +4,21 @@ use std::alloc::{AllocError, Global};
 use xf_host::memory::{MemFiles, MemSink};
 
 /// A file in memory.
-#[derive(Clone, Debug, Drop)]
+#[derive(Clone, Drop)]
 pub struct File {
     pub path: String,
     pub bytes: Vec<u8>,
 }
 
 /// A write that fails, by its number from 0 on, and how many bytes of it are taken.
-#[derive(Clone, Copy, Debug)]
+#[derive(Clone, Copy)]
 pub struct FailingWrite {
     pub call: u64,
     pub kept: usize,
 }
 
 /// Calls with each of the first bytes of a file, from one number of bytes to another.
-#[derive(Clone, Debug, Drop)]
+#[derive(Clone, Drop)]
 pub struct Cut {
     pub path: String,
     pub from: usize,
@@ -26,7 +26,7 @@ pub struct Cut {
 }
 
 /// How a call ends.
-#[derive(Clone, Debug, Drop)]
+#[derive(Clone, Drop)]
 pub struct End {
     pub status: u8,
     pub out: Vec<u8>,
@@ -40,7 +40,7 @@ pub struct End {
 }
 
 /// A call and its end.
-#[derive(Clone, Debug, Drop)]
+#[derive(Clone, Drop)]
 pub struct Case {
     pub name: String,
     pub words: Vec<String>,

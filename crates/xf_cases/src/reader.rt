@@ -6,7 +6,7 @@ use crate::text::{Text, add_quoted, unquoted};
 use std::alloc::Global;
 
 /// The text that `and` and lines go on with.
-#[derive(Clone, Copy, Debug)]
+#[derive(Clone, Copy)]
 enum Section {
     /// None so far.
     Nothing,

@@ -4,7 +4,7 @@ use crate::fault::Cause;
 use std::alloc::Global;
 
 /// A text of a heading.
-#[derive(Clone, Copy, Debug)]
+#[derive(Clone, Copy)]
 pub enum Text<'a> {
     /// `"TEXT"`, or `N times "TEXT"`.
     Quoted { times: u64, spelt: &'a str },
@@ -37,7 +37,7 @@ fn quoted(word: &str) -> Option<&str> {
 }
 
 /// Where a byte of a quoted text stands.
-#[derive(Clone, Copy, Debug)]
+#[derive(Clone, Copy)]
 enum State {
     Plain,
     /// Behind a backslash.
