@@ -7,8 +7,6 @@ pub mod files;
 pub mod memory;
 pub mod real;
 pub mod sink;
-#[cfg(test)]
-mod tests;
 
 use std::alloc::AllocError;
 

@@ -128,11 +128,11 @@ module _ (f : OpName → OpName) (all : List OpName) (stay : StayApart f all) wh
   In n = is_among n all ≡ true
 
   value_same : (v w : ValueName) → IsOf all v → IsOf all w → same_value (value_renamed f v) (value_renamed f w) ≡ same_value v w
-  value_same (Result o num) (Result o' num') h k = ap (λ b. b && (num == num')) (same_test f all o o' once h k)
+  value_same (Result o num) (Result o' num') h k = ap (λ b. b && (num == num')) (same_test f all o o' stay h k)
   value_same (Result o num) (Arg o' r' num') h k = refl
   value_same (Result o num) (Free num') h k = refl
   value_same (Arg o r num) (Result o' num') h k = refl
-  value_same (Arg o r num) (Arg o' r' num') h k = ap (λ b. b && ((r == r') && (num == num'))) (same_test f all o o' once h k)
+  value_same (Arg o r num) (Arg o' r' num') h k = ap (λ b. b && ((r == r') && (num == num'))) (same_test f all o o' stay h k)
   value_same (Arg o r num) (Free num') h k = refl
   value_same (Free num) (Result o' num') h k = refl
   value_same (Free num) (Arg o' r' num') h k = refl

@@ -1,5 +1,5 @@
 -- A valid module stays valid under other names of operations.
-use Rattle.std.proofs.Common.{◌≡◌, ℕ, Bool, true, List, [], ◌∷◌, ◌++◌, refl, sym, ap, subst, ◌∙◌}
+use Rattle.std.proofs.Common.{◌≡◌, ◌<◌, ℕ, Bool, true, List, [], ◌∷◌, ◌++◌, refl, sym, ap, subst, ◌∙◌}
 use Rattle.std.specs.Prelude.{map}
 use Rattle.xf_ir.specs.declared.name.OpName.{OpName}
 use Rattle.xf_ir.specs.declared.op.Module.{Module}
@@ -12,6 +12,7 @@ use Rattle.xf_ir.specs.RuleLinalg.{has_its_maps, has_its_iterators, has_its_redu
 use Rattle.xf_ir.specs.RuleSlices.{has_its_slices}
 use Rattle.xf_ir.specs.RuleTypes.{has_its_types}
 use Rattle.xf_ir.specs.Tree.{Ops, no_ops, no_regions, region}
+use Rattle.xf_ir.specs.Valid.{IsValid, FunctionsSee}
 use Rattle.xf_ir.specs.Walk.{ops_names, regions_names, tree_names}
 use Rattle.xf_ir_laws.proofs.Kept.{placed_at}
 use Rattle.xf_ir.proofs.Lists.{each_left}

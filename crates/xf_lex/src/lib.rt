@@ -6,8 +6,6 @@ mod front;
 mod law;
 mod lex;
 mod quoted;
-#[cfg(test)]
-mod tests;
 mod token;
 
 pub use law::{laid_again, one_answer};

@@ -8,8 +8,6 @@ mod outcome;
 mod run;
 mod schedule;
 mod telling;
-#[cfg(test)]
-mod tests;
 mod top;
 mod words;
 

@@ -12,5 +12,3 @@ mod tensor_rows;
 
 pub use printer::print;
 
-#[cfg(test)]
-mod tests;

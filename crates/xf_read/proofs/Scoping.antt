@@ -11,7 +11,7 @@ use Rattle.std.proofs.lemmas.Map.Text.{btree_map_updates_str}
 use Rattle.xf_read.specs.declared.scope.Change.{Change}
 use Rattle.xf_read.specs.declared.scope.Named.{Named}
 use Rattle.xf_read.specs.declared.scope.Scope.{Scope as Visible}
-use Rattle.xf_read.specs.Scopes.{Scope, with_name}
+use Rattle.xf_read.specs.Scopes.{Scope, beside, with_name}
 use Rattle.xf_read.specs.Visible.{names_in, put_back, before, Grows}
 use Rattle.xf_read.specs.Walks.{Same}
 
@@ -32,7 +32,7 @@ before_append [] ds scope = refl
 before_append (d ∷ cs) ds scope = ap (put_back d) (before_append cs ds scope)
 
 -- a change of a name is taken back
-undone_at : (name q : List ℕ) (x : Named) (scope : Scope) (b : Bool) → bytes_eq name q ≡ b → (if b then scope name else (if b then Some x else scope q)) ≡ scope q
+undone_at : (name q : List ℕ) (x : Named) (scope : Scope) (b : Bool) → bytes_eq name q ≡ b → (if b then scope name else (if b then Some (beside (scope name) x) else scope q)) ≡ scope q
 undone_at name q x scope true e = ap scope ((bytes_eq-Decides name q).0 e)
 undone_at name q x scope false e = refl
 

@@ -10,9 +10,9 @@ use Rattle.xf_read_base.specs.Attributes.{entries_twice}
 use Rattle.xf_read_base.specs.Values.{text}
 use Rattle.xf_ir.specs.declared.name.OpName.{OpName}
 use Rattle.xf_read.specs.declared.faults.Faults.{Faults}
-use Rattle.xf_read.specs.declared.scope.Definer.TheVariants.{Results, Argument}
+use Rattle.xf_read.specs.declared.scope.Definer.TheVariants.{Results, Argument, Symbol}
 use Rattle.xf_read.specs.declared.scope.Named.{Named}
-use Rattle.xf_read.specs.Scopes.{Scope, with_name, means, type_used}
+use Rattle.xf_read.specs.Scopes.{Scope, named, has_values, with_name, means, type_used}
 use Rattle.xf_read.specs.Syntax.{lacks_yield}
 use Rattle.xf_read.specs.Tree.{Nodes, no_nodes, node, Bodies, no_bodies, body, Tree}
 use Rattle.xf_read.specs.Types.{one_type, results_by, args_by, operands_by, stated_by, fits}
@@ -64,36 +64,40 @@ argument_number j = min j 4294967295
 
 -- what the name of argument j of operation n stands for
 abbrev pub argument_named : ℕ → ℕ → Option PayloadType → Named
-argument_named n j t = record { count = 1; definer = Argument (op_name n) (argument_number j); types = one_type t }
+argument_named n j t = named 1 (Argument (op_name n) (argument_number j)) (one_type t)
 
 -- with the names of the arguments of operation n, from argument j on
 abbrev pub with_args : List Token → ℕ → ℕ → List PayloadType → List Ref → Scope → Scope
 with_args all n j ts [] scope = scope
 with_args all n j ts (r ∷ rs) scope = with_args all n (j + 1) ts rs (with_name (text all r.token) (argument_named n j (slice_get ts j)) scope)
 
--- the name %n:k of results stands for k values, whatever their types are
+-- what the name %n:k of results stands for: k values, whatever their types are
 abbrev pub results_named : ℕ → ℕ → List PayloadType → Named
-results_named n k ts = record { count = k; definer = Results (op_name n); types = ts }
+results_named n k ts = named k (Results (op_name n)) ts
 
 abbrev pub with_results : List Token → ℕ → List PayloadType → List Ref → Scope → Scope
 with_results all n ts [] scope = scope
-with_results all n ts (r ∷ rs) scope = with_name (text all r.token) (results_named n r.count ts) scope
+with_results all n ts (r ∷ rs) scope = if has_values r.count then with_name (text all r.token) (results_named n r.count ts) scope else scope
+
+-- a symbol stands for a function, and for no value
+abbrev pub symbol_named : Named
+symbol_named = named 0 Symbol []
 
 -- the symbol that stands for a function from then on
 abbrev pub function_symbol : Row → Option ℕ → Option ℕ
 function_symbol row.Function at = at
 function_symbol r at = None
 
-abbrev pub with_symbol : List Token → ℕ → Option ℕ → Scope → Scope
-with_symbol all n None scope = scope
-with_symbol all n (Some at) scope = with_name (text all at) (results_named n 0 []) scope
+abbrev pub with_symbol : List Token → Option ℕ → Scope → Scope
+with_symbol all None scope = scope
+with_symbol all (Some at) scope = with_name (text all at) symbol_named scope
 
 -- what is visible in the bodies of operation n, and behind it
 abbrev pub inside : List Token → ℕ → Parts → Scope → Scope
 inside all n p scope = with_args all n 0 (args_by p.row p) p.args scope
 
 abbrev pub behind : List Token → ℕ → Parts → Scope → Scope
-behind all n p scope = with_results all n (results_by p.row p) p.defines (with_symbol all n (function_symbol p.row p.symbol) scope)
+behind all n p scope = with_results all n (results_by p.row p) p.defines (with_symbol all (function_symbol p.row p.symbol) scope)
 
 -- ---- undefined names
 
@@ -112,9 +116,10 @@ abbrev pub symbol_twice : List Token → Scope → Option ℕ → Option ℕ
 symbol_twice all scope None = None
 symbol_twice all scope (Some at) = visible_at all scope at
 
+-- a name of no values stands twice with none
 abbrev pub results_twice : List Token → Scope → List Ref → Option ℕ
 results_twice all scope [] = None
-results_twice all scope (r ∷ rs) = visible_at all scope r.token
+results_twice all scope (r ∷ rs) = if has_values r.count then visible_at all scope r.token else None
 
 -- the arguments from argument j on, each with the names of those before
 abbrev pub args_twice : List Token → ℕ → ℕ → List PayloadType → List Ref → Scope → Option ℕ

@@ -1,5 +1,5 @@
 -- What the names of values stand for where an operation stands.
-use Rattle.std.specs.Prelude.{ℕ, ◌+◌, List, Option, Some, None, Bool, true, false, ◌==◌, if◌then◌else◌, nat_lt, slice_get}
+use Rattle.std.specs.Prelude.{ℕ, zero, suc, ◌+◌, max, List, [], Option, Some, None, Bool, true, false, ◌||◌, ◌==◌, if◌then◌else◌, nat_lt, slice_get}
 use Rattle.std.specs.Str.{bytes_eq}
 use Rattle.xf_type.specs.declared.payload_type.PayloadType.{PayloadType}
 use Rattle.xf_lex.specs.declared.token.Token.{Token}
@@ -9,10 +9,29 @@ use Rattle.xf_read_base.specs.Values.{text}
 use Rattle.xf_ir.specs.declared.name.ValueName.{ValueName}
 use Rattle.xf_ir.specs.declared.name.ValueName.TheVariants.{Result, Arg, Free}
 use Rattle.xf_read.specs.declared.scope.Definer.{Definer}
-use Rattle.xf_read.specs.declared.scope.Definer.TheVariants.{Results, Argument}
+use Rattle.xf_read.specs.declared.scope.Definer.TheVariants.{Results, Argument, Symbol}
 use Rattle.xf_read.specs.declared.scope.Named.{Named}
 
--- what each name stands for; a name that is not visible stands for nothing
+-- ---- names of one text
+
+-- a name of so many values, which have these types where they are known
+abbrev pub named : ℕ → Definer → List PayloadType → Named
+named k d ts = record { most = k; single = k == 1; definer = d; types = ts }
+
+-- a name of no values is no value: it stands for nothing, and beside any other
+abbrev pub has_values : ℕ → Bool
+has_values zero = false
+has_values (suc k) = true
+
+-- a name beside those of its text that are visible already; what defines the values, and their types, the last one tells. It
+-- stands twice, so that the text means no module; but a use of a value that any of them has is defined.
+abbrev pub beside : Option Named → Named → Named
+beside None x = x
+beside (Some y) x = record x { most = max y.most x.most; single = y.single || x.single }
+
+-- ---- names that are visible
+
+-- what the names of each text stand for; a text that is not visible as a name stands for nothing
 abbrev pub Scope : Type 0
 Scope = List ℕ → Option Named
 
@@ -20,20 +39,20 @@ abbrev pub no_names : Scope
 no_names name = None
 
 abbrev pub with_name : List ℕ → Named → Scope → Scope
-with_name name x scope other = if bytes_eq name other then Some x else scope other
+with_name name x scope other = if bytes_eq name other then Some (beside (scope name) x) else scope other
 
 -- ---- uses
 
--- %n stands for the one value of its name, and %n#i for value i of so many
-abbrev pub has_value : Bool → ℕ → ℕ → Bool
-has_value true i count = nat_lt i count
-has_value false i count = count == 1
+-- %n is the one value of some name of that text, and %n#i value i of some name of it
+abbrev pub has_value : Bool → ℕ → Named → Bool
+has_value true i x = nat_lt i x.most
+has_value false i x = x.single
 
 abbrev pub has_use : Bool → ℕ → Option Named → Bool
 has_use indexed i None = false
-has_use indexed i (Some x) = has_value indexed i x.count
+has_use indexed i (Some x) = has_value indexed i x
 
--- what the name of a use stands for
+-- what the text of a use stands for
 abbrev pub named_by : List Token → Scope → Ref → Option Named
 named_by all scope r = scope (text all r.token)
 
@@ -46,8 +65,9 @@ means all scope r = has_use (is_index_at all (r.token + 1)) r.count (named_by al
 abbrev pub value_of : Definer → ℕ → ValueName
 value_of (Results o) i = Result o i
 value_of (Argument o j) i = Arg o 0 j
+value_of Symbol i = Free 0
 
--- value i of a name; of one that stands for nothing any
+-- value i of a name; any of one that stands for nothing, or for a function
 abbrev pub value_in : Option Named → ℕ → ValueName
 value_in None i = Free 0
 value_in (Some x) i = value_of x.definer i

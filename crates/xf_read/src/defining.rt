@@ -1,11 +1,11 @@
 //! What an operation lets names stand for.
 ghost use Rattle.std.specs.Prelude.{◌≡◌, IfOk, OnOk, min};
-ghost use Rattle.xf_read.specs.Names.{earlier, argument_number, argument_named, results_named, args_twice, with_args, with_results, with_symbol, behind};
+ghost use Rattle.xf_read.specs.Names.{earlier, argument_number, argument_named, results_named, symbol_named, args_twice, with_args, with_results, with_symbol, behind};
 ghost use Rattle.std.specs.Option.{option_copied};
 ghost use Rattle.xf_read.specs.Types.{results_by};
 ghost use Rattle.xf_read.specs.Visible.{names_in, Grows};
 
-use crate::faults::{earlier, function_symbol, token_if};
+use crate::faults::{earlier, function_symbol, has_values, token_if};
 use crate::scope::{Definer, Named, Scope};
 use crate::types::one_type;
 use std::alloc::Global;
@@ -30,11 +30,9 @@ fn argument_named(
 ) -> Result<Named, NoMemory>
     ensures { IfOk result (λ named. named ≡ argument_named number at (option_copied ty.entry)) }
 {
-    Ok(Named {
-        count: 1,
-        definer: Definer::Argument(OpName(number), argument_number(at)),
-        types: one_type(alloc, ty)?,
-    })
+    let types = one_type(alloc, ty)?;
+    let definer = Definer::Argument(OpName(number), argument_number(at));
+    Ok(Named::new(1, definer, types))
 }
 
 /// Lets the arguments of an operation stand for their names, and answers the first whose name was
@@ -60,7 +58,7 @@ pub fn enter_args<'a>(
     Ok(twice)
 }
 
-/// Lets the results of an operation stand for their name, where they have one.
+/// Lets the name of an operation's results stand for them, where they have one and are not none.
 fn enter_results<'a>(
     alloc: Global,
     tokens: &'a [Token],
@@ -74,15 +72,13 @@ fn enter_results<'a>(
 {
     match defines {
         [] => Ok(()),
-        [name, ..] => {
-            let named = Named {
-                count: name.count,
-                definer: Definer::Results(OpName(number)),
-                types: types.duplicate(alloc)?,
-            };
+        [name, ..] if has_values(name.count) => {
+            let definer = Definer::Results(OpName(number));
+            let named = Named::new(name.count, definer, types.duplicate(alloc)?);
             scope.enter(text(tokens, name.token), named)?;
             Ok(())
         }
+        [_, ..] => Ok(()),
     }
 }
 
@@ -91,20 +87,15 @@ fn enter_symbol<'a>(
     alloc: Global,
     tokens: &'a [Token],
     scope: &mut Scope<'a>,
-    number: u64,
     symbol: Option<usize>,
 ) -> Result<(), NoMemory>
-    ensures names { OnOk result (names_in scope.new ≡ with_symbol tokens.now number symbol (names_in scope.old)) }
+    ensures names { OnOk result (names_in scope.new ≡ with_symbol tokens.now symbol (names_in scope.old)) }
     ensures grows { OnOk result (Grows scope.old scope.new) }
 {
     match symbol {
         None => Ok(()),
         Some(at) => {
-            let named = Named {
-                count: 0,
-                definer: Definer::Results(OpName(number)),
-                types: TypeList::new(alloc),
-            };
+            let named = Named::new(0, Definer::Symbol, TypeList::new(alloc));
             scope.enter(text(tokens, at), named)?;
             Ok(())
         }
@@ -125,7 +116,7 @@ pub fn enter_names<'a>(
     ensures names { OnOk result (names_in scope.new ≡ behind tokens.now number parts.now (names_in scope.old)) }
     ensures grows { OnOk result (Grows scope.old scope.new) }
 {
-    enter_symbol(alloc, tokens, scope, number, function_symbol(parts))?;
+    enter_symbol(alloc, tokens, scope, function_symbol(parts))?;
     enter_results(
         alloc,
         tokens,

@@ -1,6 +1,7 @@
 //! The faults of names and types.
 ghost use Rattle.std.specs.Prelude.{◌≡◌, if◌then◌else◌, None, Some, Option, min, is_some};
 ghost use Rattle.xf_read.specs.Names.{earlier, with_faults, twice_fault, no_faults, function_symbol, visible_at, symbol_twice, results_twice, names_twice};
+ghost use Rattle.xf_read.specs.Scopes.{has_values};
 ghost use Rattle.xf_read.specs.Visible.{names_in};
 
 use crate::scope::Scope;
@@ -98,12 +99,21 @@ fn symbol_twice(tokens: &[Token], scope: &Scope, symbol: Option<usize>) -> Optio
     }
 }
 
+/// Whether a name of so many values stands for any: one of none is no value, and stands beside
+/// any other.
+pub fn has_values(count: u32) -> bool
+    ensures { result ≡ has_values count }
+{
+    count > 0
+}
+
 fn results_twice(tokens: &[Token], scope: &Scope, defines: &[Ref]) -> Option<usize>
     ensures { result ≡ results_twice tokens.now (names_in scope.now) defines.now }
 {
     match defines {
         [] => None,
-        [name, ..] => visible_at(tokens, scope, name.token),
+        [name, ..] if has_values(name.count) => visible_at(tokens, scope, name.token),
+        [_, ..] => None,
     }
 }
 

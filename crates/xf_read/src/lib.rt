@@ -7,14 +7,10 @@ mod fault;
 mod faults;
 mod head;
 mod law;
-#[cfg(test)]
-mod meaning_tests;
 mod read;
 mod reader;
 mod scope;
 mod stop;
-#[cfg(test)]
-mod tests;
 mod tree;
 mod types;
 mod uses;

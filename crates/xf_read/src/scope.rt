@@ -1,7 +1,7 @@
 //! The names that are visible where an operation stands.
-ghost use Rattle.std.specs.Prelude.{◌≡◌, ◌≤◌, ◌∷◌, ◌++◌, [], is_some, length, take, drop, IfOk, OnOk};
+ghost use Rattle.std.specs.Prelude.{◌≡◌, ◌≤◌, ◌∷◌, ◌++◌, [], is_some, length, take, drop, IfOk, OnOk, max, ◌==◌, ◌||◌};
 ghost use Rattle.std.specs.Option.{option_copied};
-ghost use Rattle.xf_read.specs.Scopes.{no_names, with_name};
+ghost use Rattle.xf_read.specs.Scopes.{named, beside, no_names, with_name};
 ghost use Rattle.xf_read.specs.Visible.{names_in, put_back, before, Grows};
 
 use std::alloc::Global;
@@ -16,15 +16,49 @@ pub enum Definer {
     Results(OpName),
     /// A block of an operation: its argument of that number.
     Argument(OpName, u32),
+    /// Nothing: a function's symbol is the name of no value.
+    Symbol,
 }
 
-/// What a name stands for: so many values, and the types of those that there are. A symbol stands
-/// for no value.
+/// What the visible names of one text stand for.
 #[derive(Debug, Drop)]
 pub struct Named {
-    pub count: u32,
+    /// The most values that one of the names has.
+    pub most: u32,
+    /// Whether one of the names has one value.
+    pub single: bool,
+    /// What defines the values of the last of the names.
     pub definer: Definer,
+    /// The types of those values, where they are known.
     pub types: TypeList,
+}
+
+impl Named {
+    /// What one name of so many values stands for.
+    pub fn new(count: u32, definer: Definer, types: TypeList) -> Named
+        ensures { result ≡ named count definer types }
+    {
+        Named {
+            most: count,
+            single: count == 1,
+            definer,
+            types,
+        }
+    }
+
+    /// What a name stands for beside those of the same text that are visible already.
+    fn beside(self, visible: Option<&Named>) -> Named
+        ensures { result ≡ beside (option_copied visible.entry) self }
+    {
+        match visible {
+            None => self,
+            Some(visible) => Named {
+                most: visible.most.max(self.most),
+                single: visible.single || self.single,
+                ..self
+            },
+        }
+    }
 }
 
 /// A name that stands for something else than before.
@@ -35,7 +69,7 @@ pub struct Change<'a> {
     pub before: Option<Named>,
 }
 
-/// The names that are visible, each with what it stands for, and the changes that led there.
+/// The texts that are visible as names, each with what it stands for, and the changes that led there.
 #[derive(Drop)]
 pub struct Scope<'a> {
     pub visible: BTreeMap<&'a [u8], Named>,
@@ -60,7 +94,8 @@ impl<'a> Scope<'a> {
         self.visible.get(name)
     }
 
-    /// Lets a name stand for something, and tells whether it stood for something before.
+    /// Lets a name stand for something, beside those of the same text, and tells whether that text
+    /// was visible as a name before.
     ///
     /// Refuses for want of memory alone.
     pub fn enter(&mut self, name: &'a [u8], named: Named) -> Result<bool, NoMemory>
@@ -68,7 +103,8 @@ impl<'a> Scope<'a> {
         ensures names { OnOk result (names_in self.new ≡ with_name name.entry.now named (names_in self.old)) }
         ensures grows { OnOk result (Grows self.old self.new) }
     {
-        let before = self.visible.insert(name, named)?;
+        let together = named.beside(self.look(name));
+        let before = self.visible.insert(name, together)?;
         let seen = before.is_some();
         self.changes.push(Change { name, before })?;
         Ok(seen)

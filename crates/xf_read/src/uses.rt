@@ -30,8 +30,8 @@ fn means(tokens: &[Token], scope: &Scope, name: Ref) -> bool
     let indexed = is_indexed(tokens, name.token);
     match scope.look(text(tokens, name.token)) {
         None => false,
-        Some(named) if indexed => name.count < named.count,
-        Some(named) => named.count == 1,
+        Some(named) if indexed => name.count < named.most,
+        Some(named) => named.single,
     }
 }
 
@@ -59,6 +59,7 @@ fn value_used(tokens: &[Token], scope: &Scope, name: Ref) -> ValueName
                 num: name.count,
             },
             Definer::Argument(op, num) => ValueName::Arg { op, region: 0, num },
+            Definer::Symbol => ValueName::Free(0),
         },
     }
 }

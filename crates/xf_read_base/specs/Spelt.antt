@@ -1,16 +1,19 @@
 -- The head that is spelt at a token.
-use Rattle.std.specs.Prelude.{◌≡◌, ℕ, ◌<◌, ◌≤◌, List, [], length, ◌++◌, Option, Some, None, Result, Ok, Err}
+use Rattle.std.specs.Prelude.{◌≡◌, ℕ, ◌<◌, ◌≤◌, List, [], length, ◌++◌, Option, Some, None, Result, Ok, Err, Bool, true, false, if◌then◌else◌}
 use Rattle.xf_type.specs.declared.payload_type.PayloadType.{PayloadType}
 use Rattle.xf_span.specs.declared.fault.Fault.{Fault}
 use Rattle.xf_span.specs.declared.fault.TextFault.{TextFault}
 use Rattle.xf_span.specs.declared.fault.TextFault.TheVariants as text_fault
 use Rattle.xf_lex.specs.declared.token.Token.{Token}
+use Rattle.xf_grammar.specs.Tokens.{Seen, seen, word_of}
 use Rattle.xf_read_base.specs.declared.due.Due.{Due}
 use Rattle.xf_read_base.specs.declared.due.Due.TheVariants as due
 use Rattle.xf_read_base.specs.declared.parts.Literal.{Literal}
 use Rattle.xf_read_base.specs.declared.parts.Literal.TheVariants as literal
 use Rattle.xf_read_base.specs.declared.parts.Parts.{Parts}
 use Rattle.xf_read_base.specs.declared.row.Level.TheVariants as level
+use Rattle.xf_read_base.specs.declared.row.Opening.{Opening}
+use Rattle.xf_read_base.specs.declared.row.Opening.TheVariants as opening
 use Rattle.xf_read_base.specs.declared.row.Row.{Row}
 use Rattle.xf_read_base.specs.declared.row.Row.TheVariants as row
 use Rattle.xf_read_base.specs.declared.parts.Head.{Head}
@@ -18,6 +21,7 @@ use Rattle.xf_read_base.specs.Heads.{head_at}
 use Rattle.xf_read_base.specs.Reading.{Read}
 use Rattle.xf_read_base.specs.Stops.{due_fault}
 use Rattle.xf_read_base.specs.Values.{attrs_of, kind_by}
+use Rattle.xf_read_base.specs.Words.{opening_of}
 
 -- the types that are stated, in order: of a loop those of its results go before its width, and true and false state none
 abbrev pub unless_truth : Option Literal → List PayloadType → List PayloadType
@@ -34,15 +38,29 @@ stated_by r p = p.types ++ p.results
 abbrev pub head_of : List Token → Parts → ℕ → Head
 head_of all p next = record { kind = kind_by all p.row p; attrs = attrs_of all p.entries; defines = p.defines; args = p.args; uses = p.uses; types = stated_by p.row p; next = next }
 
--- what reading says of a head: none where an operation of another reader stands there, and else the fault at the first token that
--- fits no head
-abbrev pub stopped : List Token → ℕ → Due → Result (Option Head) Fault
-stopped all at due.OtherReader = Ok None
-stopped all at d = Err (due_fault all at d)
+-- whether an operation of this reader begins there
+abbrev pub is_row : Opening → Bool
+is_row (opening.Row r) = true
+is_row opening.Other = false
+is_row opening.Nothing = false
 
+abbrev pub begins_row : Seen → Bool
+begins_row x = is_row (opening_of (word_of x))
+
+-- the fault at the first token that fits no head; none where no operation of this reader begins
+abbrev pub stopped : List Token → ℕ → Due → Option Fault
+stopped all at due.OtherReader = None
+stopped all at due.Operation = if begins_row (seen all at) then Some (due_fault all at due.Operation) else None
+stopped all at d = Some (due_fault all at d)
+
+abbrev pub none_or : Option Fault → Result (Option Head) Fault
+none_or None = Ok None
+none_or (Some f) = Err f
+
+-- what reading says of a head
 abbrev pub head_told : List Token → Read → Result (Option Head) Fault
 head_told all (Ok x) = Ok (Some (head_of all x.0 x.1))
-head_told all (Err e) = stopped all e.0 e.1
+head_told all (Err e) = none_or (stopped all e.0 e.1)
 
 -- the head of the operation at a token, wherever it may stand
 abbrev pub head_spelt : List Token → ℕ → Result (Option Head) Fault

@@ -2,6 +2,7 @@
 -- was due there, the token and the one behind it.
 use Rattle.std.specs.Prelude.{ℕ, List, [], ◌∷◌, length, drop, Option, Some, None, Bool, true, false, not, ◌&&◌, ◌||◌, ◌==◌, if◌then◌else◌, is_some, codes}
 use Rattle.std.specs.List.{starts_with, list_any}
+use Rattle.std.specs.Option.{option_or}
 use Rattle.std.specs.Str.{bytes_eq}
 use Rattle.xf_lex.specs.declared.token.TokenKind.TheVariants as kind
 use Rattle.xf_lex.specs.Bytes.{is_digit}
@@ -64,10 +65,14 @@ all_digits (b ∷ bs) = is_digit b && all_digits bs
 abbrev pub digits_behind : List ℕ → List ℕ → Bool
 digits_behind p w = begins p w && (not (bytes_eq w p) && all_digits (drop (length p) w))
 
+-- an integer type that is no width
+abbrev pub is_other_integer : List ℕ → Bool
+is_other_integer w = not (is_some (lookup widths w)) && (digits_behind (codes "i") w || (digits_behind (codes "si") w || digits_behind (codes "ui") w))
+
 abbrev pub type_number : List ℕ → Option ℕ
 type_number w =
     if one_of floats w || begins (codes "f8E") w then Some 1
-    else (if digits_behind (codes "i") w || (digits_behind (codes "si") w || digits_behind (codes "ui") w) then Some 4
+    else (if is_other_integer w then Some 4
     else (if one_of (codes "memref" ∷ codes "vector" ∷ []) w then Some 5 else None))
 
 -- ---- the value of an attribute
@@ -83,6 +88,10 @@ begins_attribute x =
     || ((is_kind kind.Symbol x || (is_kind kind.Hash x || is_kind kind.DialectType x))
     || (one_of attribute_words (word_of x) || is_some (lookup widths (word_of x))))
 
+-- what begins another constant
+abbrev pub begins_constant : Seen → Bool
+begins_constant x = (is_kind kind.Text x || is_word (codes "unit") x) || begins_attribute x
+
 -- ---- all places
 
 -- what is listed wherever it stands: overflow<, <{, loc(
@@ -96,26 +105,31 @@ abbrev pub number_if : Bool → ℕ → Option ℕ
 number_if true n = Some n
 number_if false n = None
 
--- where an operation or a function is due: a string, a block name before an operation, or a word
-abbrev pub operation_number : Seen → Option ℕ
-operation_number x = if is_kind kind.Text x then Some 11 else (if is_kind kind.BlockName x then Some 7 else word_number (word_of x))
+-- a string, or the name of a block
+abbrev pub unnamed_number : Seen → Option ℕ
+unnamed_number x = if is_kind kind.Text x then Some 11 else (if is_kind kind.BlockName x then Some 7 else None)
 
-abbrev pub function_number : Seen → Option ℕ
-function_number x = if is_kind kind.Text x then Some 11 else word_number (word_of x)
+-- where an operation or a function is due
+abbrev pub operation_number : Seen → Option ℕ
+operation_number x = option_or (unnamed_number x) (word_number (word_of x))
 
 abbrev pub file_number : Seen → Option ℕ
-file_number x = if is_kind kind.Text x then Some 11 else dotted_number (word_of x)
+file_number x = option_or (unnamed_number x) (dotted_number (word_of x))
+
+-- where the value of an attribute or a constant is due: a type by its own number, and whatever else begins a value
+abbrev pub value_number : Bool → Seen → Option ℕ
+value_number is_value x = option_or (type_number (word_of x)) (number_if is_value 14)
 
 abbrev pub listed_number : Due → Seen → Option ℕ
 listed_number due.File x = file_number x
-listed_number due.Function x = function_number x
+listed_number due.Function x = operation_number x
 listed_number due.Operation x = operation_number x
 listed_number due.OtherReader x = None
 listed_number due.Type x = type_number (word_of x)
 listed_number due.Width x = type_number (word_of x)
 listed_number due.ArithWidth x = if is_word (codes "tensor") x then Some 18 else type_number (word_of x)
-listed_number due.AttributeValue x = number_if (begins_attribute x) 14
-listed_number due.ConstantValue x = number_if ((is_kind kind.Text x || is_word (codes "unit") x) || begins_attribute x) 14
+listed_number due.AttributeValue x = value_number (begins_attribute x) x
+listed_number due.ConstantValue x = value_number (begins_constant x) x
 listed_number due.FunctionName x = number_if (one_of (codes "public" ∷ codes "nested" ∷ []) (word_of x)) 19
 listed_number due.AfterArgument x = number_if (is_kind open_brace x) 13
 listed_number due.AfterResult x = number_if (is_kind open_brace x) 13

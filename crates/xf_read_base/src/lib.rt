@@ -6,8 +6,6 @@
 mod dictionary;
 mod due;
 mod entries;
-#[cfg(test)]
-mod head_tests;
 mod heads;
 mod kinds;
 mod law;
@@ -20,8 +18,6 @@ mod single;
 mod slot;
 mod spelt;
 mod stop;
-#[cfg(test)]
-mod tests;
 mod texts;
 mod verdict;
 mod word;

@@ -1,15 +1,18 @@
 //! The head of an operation by what it means.
 ghost use Rattle.std.specs.Prelude.{◌≡◌, ◌++◌, IfOk};
-ghost use Rattle.xf_read_base.specs.Spelt.{Answers, EndsWithin, head_of, head_spelt, stated_by, stopped};
+ghost use Rattle.xf_grammar.specs.Tokens.{seen};
+ghost use Rattle.xf_read_base.specs.Spelt.{Answers, begins_row, EndsWithin, head_of, head_spelt, stated_by, stopped};
 
 use crate::due::{Due, HeadFault};
 use crate::entries::attributes;
 use crate::heads::head_at;
 use crate::kinds::kind_of;
 use crate::parts::{Head, Literal, Parts};
-use crate::row::{Level, Row};
+use crate::row::{Level, Opening, Row};
 use crate::stop::due_fault;
+use crate::word::opening_of;
 use std::alloc::Global;
+use xf_grammar::word_at;
 use xf_lex::{Token, TokenList};
 use xf_span::{Fault, ReadFault};
 use xf_type::{Duplicate, NoMemory, TypeList};
@@ -61,19 +64,28 @@ fn head_of(alloc: Global, tokens: &[Token], parts: Parts, next: usize) -> Result
     })
 }
 
-/// Why no head is read: another reader's operation stands there, or the fault at a token.
-fn stopped(tokens: &[Token], at: usize, due: Due) -> Result<Option<Head>, Fault>
+/// Whether an operation of this reader begins there.
+fn begins_row(tokens: &[Token], at: usize) -> bool
+    ensures { result ≡ begins_row (seen tokens.now at) }
+{
+    matches!(opening_of(word_at(tokens, at)), Opening::Row(_))
+}
+
+/// The fault at a token that fits no head; none where no operation of this reader begins.
+fn stopped(tokens: &[Token], at: usize, due: Due) -> Option<Fault>
     ensures { result ≡ stopped tokens.now at due }
 {
     match due {
-        Due::OtherReader => Ok(None),
-        due => Err(due_fault(tokens, at, due)),
+        Due::OtherReader => None,
+        Due::Operation if !begins_row(tokens, at) => None,
+        due => Some(due_fault(tokens, at, due)),
     }
 }
 
 /// The head of the operation at a token, wherever in a payload it may stand: of the module, func,
-/// arith and scf dialects. None where an operation of another reader stands there, which an
-/// `arith.constant` with a dense body is too.
+/// arith and scf dialects. None where no operation of these begins, neither at the token nor behind
+/// the names of results: where one of another reader stands, which an `arith.constant` with a dense
+/// body is too, or none at all.
 ///
 /// It refuses with the fault at the first token that fits no head: out of profile where that token is
 /// listed as a form of MLIR that is not supported, too many at the item, name or string with which
@@ -88,8 +100,8 @@ pub fn head(alloc: Global, tokens: &TokenList, at: usize) -> Result<Option<Head>
         Ok((parts, next)) => Ok(Some(head_of(alloc, tokens, parts, next)?)),
         Err(HeadFault::NoMemory) => Err(ReadFault::NoMemory),
         Err(HeadFault::At(stop, due)) => match stopped(tokens, stop, due) {
-            Ok(none) => Ok(none),
-            Err(fault) => Err(ReadFault::At(fault)),
+            None => Ok(None),
+            Some(fault) => Err(ReadFault::At(fault)),
         },
     }
 }

@@ -1,7 +1,7 @@
 //! The code of the fault at the token that fits no head.
 ghost use Rattle.std.specs.Prelude.{◌≡◌, ◌+◌, length, drop};
 ghost use Rattle.xf_grammar.specs.Tokens.{seen};
-ghost use Rattle.xf_read_base.specs.Verdicts.{number_if, one_of, divisions, loops, structured, floats, attribute_words, begins, has_dot, dotted_number, word_number, all_digits, digits_behind, type_number, begins_attribute, anywhere, operation_number, function_number, file_number, listed_number, is_not_built, listed, verdict};
+ghost use Rattle.xf_read_base.specs.Verdicts.{number_if, one_of, divisions, loops, structured, floats, is_other_integer, attribute_words, begins, has_dot, dotted_number, word_number, all_digits, digits_behind, type_number, begins_attribute, begins_constant, anywhere, unnamed_number, operation_number, file_number, value_number, listed_number, is_not_built, listed, verdict};
 
 use crate::due::Due;
 use crate::word::width_of;
@@ -150,16 +150,21 @@ fn digits_behind(letters: &[u8], word: &[u8]) -> bool
     word.starts_with(letters) && word != letters && all_digits(&word[letters.len()..])
 }
 
-/// The number of a word in the place of a type.
+/// Whether a word is an integer type that is no width.
+fn is_other_integer(word: &[u8]) -> bool
+    ensures { result ≡ is_other_integer word.now }
+{
+    width_of(word).is_none()
+        && (digits_behind(b"i", word) || digits_behind(b"si", word) || digits_behind(b"ui", word))
+}
+
+/// The number of a word that is a type.
 fn type_number(word: &[u8]) -> Option<u32>
     ensures { result ≡ type_number word.now }
 {
     if is_float(word) || begins(b"f8E", word) {
         Some(1)
-    } else if digits_behind(b"i", word)
-        || digits_behind(b"si", word)
-        || digits_behind(b"ui", word)
-    {
+    } else if is_other_integer(word) {
         Some(4)
     } else if word == b"memref".as_slice() || word == b"vector".as_slice() {
         Some(5)
@@ -183,6 +188,13 @@ fn begins_attribute(tokens: &[Token], at: usize) -> bool
         || width_of(word).is_some()
 }
 
+/// Whether a token begins a constant that is not supported.
+fn begins_constant(tokens: &[Token], at: usize) -> bool
+    ensures { result ≡ begins_constant (seen tokens.now at) }
+{
+    looks(tokens, at, TokenKind::Text) || says(tokens, at, b"unit") || begins_attribute(tokens, at)
+}
+
 /// The number of what is not supported wherever it stands.
 fn anywhere(tokens: &[Token], at: usize, next: usize) -> Option<u32>
     ensures { result ≡ anywhere (seen tokens.now at) (seen tokens.now next) }
@@ -200,45 +212,44 @@ fn anywhere(tokens: &[Token], at: usize, next: usize) -> Option<u32>
     }
 }
 
-/// The number of a token in the place of an operation.
-fn operation_number(tokens: &[Token], at: usize) -> Option<u32>
-    ensures { result ≡ operation_number (seen tokens.now at) }
+/// The number of a string or of the name of a block.
+fn unnamed_number(tokens: &[Token], at: usize) -> Option<u32>
+    ensures { result ≡ unnamed_number (seen tokens.now at) }
 {
     if looks(tokens, at, TokenKind::Text) {
         Some(11)
     } else if looks(tokens, at, TokenKind::BlockName) {
         Some(7)
     } else {
-        word_number(word_at(tokens, at))
+        None
     }
 }
 
-/// The number of a token in the place of a function.
-fn function_number(tokens: &[Token], at: usize) -> Option<u32>
-    ensures { result ≡ function_number (seen tokens.now at) }
+/// The number of a token in the place of an operation or a function.
+fn operation_number(tokens: &[Token], at: usize) -> Option<u32>
+    ensures { result ≡ operation_number (seen tokens.now at) }
 {
-    if looks(tokens, at, TokenKind::Text) {
-        Some(11)
-    } else {
-        word_number(word_at(tokens, at))
-    }
+    unnamed_number(tokens, at).or(word_number(word_at(tokens, at)))
 }
 
 /// The number of a token where a file begins.
 fn file_number(tokens: &[Token], at: usize) -> Option<u32>
     ensures { result ≡ file_number (seen tokens.now at) }
 {
-    if looks(tokens, at, TokenKind::Text) {
-        Some(11)
-    } else {
-        dotted_number(word_at(tokens, at))
-    }
+    unnamed_number(tokens, at).or(dotted_number(word_at(tokens, at)))
 }
 
 fn number_if(is_listed: bool, number: u32) -> Option<u32>
     ensures { result ≡ number_if is_listed number }
 {
     if is_listed { Some(number) } else { None }
+}
+
+/// The number of a token in the place of a value: of a type its own, else that of other attributes.
+fn value_number(tokens: &[Token], at: usize, is_value: bool) -> Option<u32>
+    ensures { result ≡ value_number is_value (seen tokens.now at) }
+{
+    type_number(word_at(tokens, at)).or(number_if(is_value, 14))
 }
 
 /// The number of what is not supported in the place of what was due.
@@ -248,17 +259,11 @@ fn listed_number(tokens: &[Token], at: usize, due: Due) -> Option<u32>
     let word = word_at(tokens, at);
     match due {
         Due::File => file_number(tokens, at),
-        Due::Function => function_number(tokens, at),
-        Due::Operation => operation_number(tokens, at),
+        Due::Function | Due::Operation => operation_number(tokens, at),
         Due::ArithWidth if says(tokens, at, b"tensor") => Some(18),
         Due::Type | Due::Width | Due::ArithWidth => type_number(word),
-        Due::AttributeValue => number_if(begins_attribute(tokens, at), 14),
-        Due::ConstantValue => number_if(
-            looks(tokens, at, TokenKind::Text)
-                || says(tokens, at, b"unit")
-                || begins_attribute(tokens, at),
-            14,
-        ),
+        Due::AttributeValue => value_number(tokens, at, begins_attribute(tokens, at)),
+        Due::ConstantValue => value_number(tokens, at, begins_constant(tokens, at)),
         Due::FunctionName => number_if(
             word == b"public".as_slice() || word == b"nested".as_slice(),
             19,

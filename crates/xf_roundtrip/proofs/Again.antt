@@ -313,7 +313,7 @@ mutual
         let e_in : inside_said n t scope ≡ scope_in = ap (λ xs. with_arguments n 0 xs (arguments_printed a first) scope) says.arguments in
         let xs = says.results in
         let fs = says.symbol in
-        let e_behind : behind_said n t scope ≡ scope_behind = λ i. with_defines n (xs i) (defines_printed k ts) (with_function n (fs i) scope) in
+        let e_behind : behind_said n t scope ≡ scope_behind = λ i. with_defines n (xs i) (defines_printed k ts) (with_function (fs i) scope) in
         let head = head_is_well names renamed n k a kd ds os ts first None ss scope says s.0.number s.0.room refl h.0 w c in
         let more = number_more k ts in
         let c_in = clear_more k a' k' a' scope_in more (omega arith) (clear_arguments n 0 k a first first scope s.0.room c) in

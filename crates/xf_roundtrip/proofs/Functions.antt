@@ -17,7 +17,7 @@ use Rattle.xf_ir.specs.Places.{inside, AllSeen}
 use Rattle.xf_ir.specs.Tree.{Ops, no_ops, op, Regions, no_regions, region, cons}
 use Rattle.xf_ir.specs.Valid.{block_of, FunctionsSee, symbols_of, symbols_before}
 use Rattle.xf_read.specs.Meant.{joined, yield_tree}
-use Rattle.xf_read.specs.Names.{op_name, results_named}
+use Rattle.xf_read.specs.Names.{op_name, symbol_named}
 use Rattle.xf_read.specs.Scopes.{Scope, no_names, with_name}
 use Rattle.xf_read.specs.Syntax.{ends_open}
 use Rattle.xf_read.specs.Written.{SaidNodes, no_nodes_said, node_said, SaidBodies, no_bodies_said, body_said, says_yield_last, operations, operations_inside}
@@ -71,25 +71,25 @@ texts_differ true s t e n = absurd (let p = (bytes_eq-Decides (64 ∷ s) (64 ∷
     same_self [] = refl
     same_self (x ∷ t) = let e = eq-eqb x x refl in rw e (same_self t)
 
-symbols_still_free : (scope : Scope) (s : List ℕ) (n : ℕ) (ss : List (List ℕ)) → is_text_among s ss ≡ false → SymbolsFree scope ss → SymbolsFree (with_name (64 ∷ s) (results_named n 0 []) scope) ss
-symbols_still_free scope s n [] a f = tt
-symbols_still_free scope s n (t ∷ ss) a f =
+symbols_still_free : (scope : Scope) (s : List ℕ) (ss : List (List ℕ)) → is_text_among s ss ≡ false → SymbolsFree scope ss → SymbolsFree (with_name (64 ∷ s) symbol_named scope) ss
+symbols_still_free scope s [] a f = tt
+symbols_still_free scope s (t ∷ ss) a f =
     let p = or_parts (same_bytes t s) (is_text_among s ss) a in
     let e = texts_differ (bytes_eq (64 ∷ s) (64 ∷ t)) s t refl p.0 in
-    (rw e f.0, symbols_still_free scope s n ss p.1 f.1)
+    (rw e f.0, symbols_still_free scope s ss p.1 f.1)
 
-symbol_clear : (s : List ℕ) (n : ℕ) (scope : Scope) → Clear 0 0 scope → Clear 0 0 (with_name (64 ∷ s) (results_named n 0 []) scope)
-symbol_clear s n scope c = record { numbers = λ j le lt. c.numbers j le lt; arguments = λ j le lt. c.arguments j le lt }
+symbol_clear : (s : List ℕ) (scope : Scope) → Clear 0 0 scope → Clear 0 0 (with_name (64 ∷ s) symbol_named scope)
+symbol_clear s scope c = record { numbers = λ j le lt. c.numbers j le lt; arguments = λ j le lt. c.arguments j le lt }
 
 knows_nothing : (names : Names) (renamed : OpName → OpName) (scope : Scope) → Knows [] names renamed scope
 knows_nothing names renamed scope = record { by = λ v s. absurd (let z : false ≡ true = s in cc) }
 
 -- ---- functions
 
-behind_is : (n : ℕ) (t : Said) (ts : List PayloadType) (scope : Scope) (symbol : List ℕ) → t.defines ≡ defines_printed 0 ts → ts ≡ [] → function_named t.row t.symbol ≡ Some (64 ∷ symbol) → behind_said n t scope ≡ with_name (64 ∷ symbol) (results_named n 0 []) scope
+behind_is : (n : ℕ) (t : Said) (ts : List PayloadType) (scope : Scope) (symbol : List ℕ) → t.defines ≡ defines_printed 0 ts → ts ≡ [] → function_named t.row t.symbol ≡ Some (64 ∷ symbol) → behind_said n t scope ≡ with_name (64 ∷ symbol) symbol_named scope
 behind_is n t ts scope symbol d e f =
     let x = d ∙ ap (defines_printed 0) e in
-    λ i. with_defines n (result_types t) (x i) (with_function n (f i) scope)
+    λ i. with_defines n (result_types t) (x i) (with_function (f i) scope)
 
 values_none : (names : Names) (renamed : OpName → OpName) (os : List ValueName) (scope : Scope) → os ≡ [] → map (use_value scope) (map (use_printed names) os) ≡ map (value_renamed renamed) os
 values_none names renamed os scope e = subst (λ xs. map (use_value scope) (map (use_printed names) xs) ≡ map (value_renamed renamed) xs) (sym e) refl
@@ -131,7 +131,7 @@ functions_again renamed (op m k ds os ts rs rest) n scope so h c o f =
     let new : symbol_new scope (Some (64 ∷ symbol)) ≡ true = ap (λ x. not (is_some x)) free.0 in
     let w : Knows [] names renamed scope = knows_nothing names renamed scope in
     let scope_in : Scope = with_arguments n 0 first (arguments_printed 0 first) scope in
-    let scope_behind : Scope = with_name (64 ∷ symbol) (results_named n 0 []) scope in
+    let scope_behind : Scope = with_name (64 ∷ symbol) symbol_named scope in
     let e_in : inside_said n t scope ≡ scope_in = ap (λ xs. with_arguments n 0 xs (arguments_printed 0 first) scope) says.arguments in
     let e_behind : behind_said n t scope ≡ scope_behind = behind_is n t ts scope symbol refl s.results says.symbol in
     let head = head_is_well names renamed n 0 0 k ds os ts first (Some (64 ∷ symbol)) [] scope says zero_small room new h.0 w c in
@@ -139,7 +139,7 @@ functions_again renamed (op m k ds os ts rs rest) n scope so h c o f =
     let c_in = clear_more 0 (0 + length first) 0 (length first) scope_in (omega arith) (omega arith) (clear_arguments n 0 0 0 first first scope room c) in
     let inner = regions_again names renamed rs [] m (n + 1) 0 (length first) 0 scope_in t first says.arguments so.1.1.1.1.0 h.1.0 w_in c_in in
     let count = regions_counted names renamed rs (n + 1) 0 (length first) 0 t first so.1.1.1.1.0 in
-    let later = functions_again renamed rest (n + (1 + regions_count rs)) scope_behind so.1.1.1.1.1 h.1.1 (symbol_clear symbol n scope c) once.1 (symbols_still_free scope symbol n (symbols_of rest) once.0 free.1) in
+    let later = functions_again renamed rest (n + (1 + regions_count rs)) scope_behind so.1.1.1.1.1 h.1.1 (symbol_clear symbol scope c) once.1 (symbols_still_free scope symbol (symbols_of rest) once.0 free.1) in
     let p = function_printed_is m k ds os ts rs rest s.entry in
     let well_in : bodies_well (n + 1) t (inside_said n t scope) bs ≡ true = ap (λ names. bodies_well (n + 1) t names bs) e_in ∙ inner.well in
     let well_behind : nodes_well (n + (1 + operations_inside t bs)) (behind_said n t scope) ns ≡ true = (λ i. nodes_well (n + (1 + count i)) (e_behind i) ns) ∙ later.well in

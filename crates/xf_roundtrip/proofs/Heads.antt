@@ -27,7 +27,7 @@ use Rattle.xf_read.specs.Meant.{operands_of}
 use Rattle.xf_read.specs.Names.{argument_named, with_args, results_named, with_results, function_symbol, with_symbol}
 use Rattle.xf_read.specs.Names.{inside as inside_tokens, behind as behind_tokens}
 use Rattle.xf_read_base.specs.Values.{bytes_of, text}
-use Rattle.xf_read.specs.Scopes.{Scope, with_name, has_use, means, value_in, type_in, value_used, type_used}
+use Rattle.xf_read.specs.Scopes.{Scope, has_values, with_name, has_use, means, value_in, type_in, value_used, type_used}
 use Rattle.xf_read.specs.Types.{results_by, args_by, operands_by, stated_by}
 use Rattle.xf_read_base.specs.Strings.{decoded}
 use Rattle.xf_read_base.specs.Values.{signed, integer_bits, literal_bits, value_of_entry, attr_of, with_attr, with_entries, attrs_of, symbol_of, symbol_or, width_at, kind_by}
@@ -228,7 +228,7 @@ with_args_are all n j ts (r ∷ rs) scope w =
 
 with_results_are : (all : List Token) (n : ℕ) (ts : List PayloadType) (rs : List Ref) (scope : Scope) → All (NameOf all) rs → with_results all n ts rs scope ≡ with_defines n ts (map (define_said all) rs) scope
 with_results_are all n ts [] scope w = refl
-with_results_are all n ts (r ∷ rs) scope w = ap (λ name. with_name name (results_named n r.count ts) scope) (name_is all r.token (All-head (NameOf all) r rs w))
+with_results_are all n ts (r ∷ rs) scope w = ap (λ name. cond (has_values r.count) (with_name name (results_named n r.count ts) scope) scope) (name_is all r.token (All-head (NameOf all) r rs w))
 
 -- the symbol that stands for a function
 abbrev pub SymbolNamed : List Token → Option ℕ → Option (List ℕ) → Type 0
@@ -250,9 +250,9 @@ function_is row.For all s w = refl
 function_is row.If all s w = refl
 function_is row.Yield all s w = refl
 
-with_symbol_is : (all : List Token) (n : ℕ) (at : Option ℕ) (s : Option (List ℕ)) (scope : Scope) → SymbolNamed all at s → with_symbol all n at scope ≡ with_function n s scope
-with_symbol_is all n None s scope e = ap (λ x. with_function n x scope) (sym e)
-with_symbol_is all n (Some at) s scope e = ap (λ x. with_function n x scope) (sym e)
+with_symbol_is : (all : List Token) (at : Option ℕ) (s : Option (List ℕ)) (scope : Scope) → SymbolNamed all at s → with_symbol all at scope ≡ with_function s scope
+with_symbol_is all None s scope e = ap (λ x. with_function x scope) (sym e)
+with_symbol_is all (Some at) s scope e = ap (λ x. with_function x scope) (sym e)
 
 pub inside_is : (all : List Token) (n : ℕ) (p : Parts) (scope : Scope) → Inside all p → inside_tokens all n p scope ≡ inside n (said all p) scope
 inside_is all n p scope w =
@@ -260,7 +260,7 @@ inside_is all n p scope w =
 
 pub behind_is : (all : List Token) (n : ℕ) (p : Parts) (scope : Scope) → Inside all p → behind_tokens all n p scope ≡ behind n (said all p) scope
 behind_is all n p scope w =
-    let a = with_results_are all n (results_by p.row p) p.defines (with_symbol all n (function_symbol p.row p.symbol) scope) w.1.1.1.0 in
+    let a = with_results_are all n (results_by p.row p) p.defines (with_symbol all (function_symbol p.row p.symbol) scope) w.1.1.1.0 in
     let b = results_are p.row all p in
-    let c = with_symbol_is all n (function_symbol p.row p.symbol) (function_named p.row (option_map (text_at all) p.symbol)) scope (function_is p.row all p.symbol w.0) in
+    let c = with_symbol_is all (function_symbol p.row p.symbol) (function_named p.row (option_map (text_at all) p.symbol)) scope (function_is p.row all p.symbol w.0) in
     a ∙ (λ i. with_defines n (b i) (map (define_said all) p.defines) (c i))

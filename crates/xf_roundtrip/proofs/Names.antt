@@ -19,7 +19,7 @@ use Rattle.xf_ir.specs.Places.{Seen, done, inside, results_of, args_of, below, s
 use Rattle.xf_ir.specs.Renamed.{value_renamed}
 use Rattle.xf_read.specs.declared.scope.Named.{Named}
 use Rattle.xf_read.specs.Names.{op_name, argument_number, argument_named, results_named}
-use Rattle.xf_read.specs.Scopes.{Scope, with_name, has_value, has_use, value_in, type_in, value_of}
+use Rattle.xf_read.specs.Scopes.{Scope, beside, with_name, has_value, has_use, value_in, type_in, value_of}
 use Rattle.xf_read.specs.Types.{one_type}
 use Rattle.xf_ir.specs.PrintedNames.{Entry, Names, argument_text, next_number, type_of}
 use Rattle.xf_roundtrip.specs.Saying.{index_or, use_means, use_value, use_type, with_arguments, with_defines}
@@ -57,7 +57,7 @@ number_argument j k h e = digits_differ (decimal j) (114 ∷ 103 ∷ decimal k) 
 pub record Stands (scope : Scope) (u : UseSaid) (v : ValueName) (t : Option PayloadType) : Type 0 where
   pub named : Named
   pub is : scope u.name ≡ Some named
-  pub has : has_value (is_some u.number) (index_or u.number) named.count ≡ true
+  pub has : has_value (is_some u.number) (index_or u.number) named ≡ true
   pub value : value_of named.definer (index_or u.number) ≡ v
   pub type_is : slice_get named.types (index_or u.number) ≡ t
 
@@ -78,8 +78,8 @@ clear_more k a k' a' scope p q c = record { numbers = λ j le lt. c.numbers j (o
 other_name : (b name : List ℕ) (x : Named) (scope : Scope) → b ≢ name → with_name b x scope name ≡ scope name
 other_name b name x scope n = let e = differ b name n in rw e refl
 
-this_name : (b : List ℕ) (x : Named) (scope : Scope) → with_name b x scope b ≡ Some x
-this_name b x scope = let e = itself b in rw e refl
+this_name : (b : List ℕ) (x : Named) (scope : Scope) → scope b ≡ None → with_name b x scope b ≡ Some x
+this_name b x scope free = let e = itself b in rw e (ap (λ o. Some (beside o x)) free)
 
 -- a name that stands for something is none that does not
 apart_from : (b name : List ℕ) (x : Named) (scope : Scope) → scope b ≡ None → scope name ≡ Some x → b ≢ name
@@ -105,26 +105,26 @@ result_seen false num count s = absurd cc
 same_op_name : (o m : OpName) → o.0 == m.0 ≡ true → o ≡ m
 same_op_name o m e = let p = eqb-true o.0 m.0 e in λ i. record { 0 = p i }
 
-result_stands : (n k num : ℕ) (ts : List PayloadType) (scope : Scope) (e : Entry) → e.number ≡ k → e.results ≡ ts → num < length ts
+result_stands : (n k num : ℕ) (ts : List PayloadType) (scope : Scope) (e : Entry) → e.number ≡ k → e.results ≡ ts → scope (number_name k) ≡ None → num < length ts
     → Stands (with_defines n ts (defines_printed k ts) scope) (result_use e num) (Result (op_name n) num) (slice_get ts num)
-result_stands n k num [] scope e p q lt = absurd (omega (arith, lt))
-result_stands n k num (t ∷ []) scope e p q lt =
+result_stands n k num [] scope e p q free lt = absurd (omega (arith, lt))
+result_stands n k num (t ∷ []) scope e p q free lt =
     let z : 0 ≡ num = omega (arith, lt) in
     let i : part_said e.results num ≡ None = ap (λ ts. part_said ts num) q in
     record {
       named = results_named n 1 (t ∷ []);
-      is = ap (λ j. with_name (number_name k) (results_named n 1 (t ∷ [])) scope (number_name j)) p ∙ this_name (number_name k) (results_named n 1 (t ∷ [])) scope;
-      has = ap (λ o. has_value (is_some o) (index_or o) 1) i;
+      is = ap (λ j. with_name (number_name k) (results_named n 1 (t ∷ [])) scope (number_name j)) p ∙ this_name (number_name k) (results_named n 1 (t ∷ [])) scope free;
+      has = ap (λ o. has_value (is_some o) (index_or o) (results_named n 1 (t ∷ []))) i;
       value = ap (λ o. Result (op_name n) (index_or o)) i ∙ ap (Result (op_name n)) z;
       type_is = ap (λ o. slice_get (t ∷ []) (index_or o)) i ∙ ap (slice_get (t ∷ [])) z;
     }
-result_stands n k num (t ∷ (s ∷ ts)) scope e p q lt =
+result_stands n k num (t ∷ (s ∷ ts)) scope e p q free lt =
     let count : ℕ = length (t ∷ (s ∷ ts)) in
     let i : part_said e.results num ≡ Some num = ap (λ us. part_said us num) q in
     record {
       named = results_named n count (t ∷ (s ∷ ts));
-      is = ap (λ j. with_name (number_name k) (results_named n count (t ∷ (s ∷ ts))) scope (number_name j)) p ∙ this_name (number_name k) (results_named n count (t ∷ (s ∷ ts))) scope;
-      has = ap (λ o. has_value (is_some o) (index_or o) count) i ∙ lt-ltb num count lt;
+      is = ap (λ j. with_name (number_name k) (results_named n count (t ∷ (s ∷ ts))) scope (number_name j)) p ∙ this_name (number_name k) (results_named n count (t ∷ (s ∷ ts))) scope free;
+      has = ap (λ o. has_value (is_some o) (index_or o) (results_named n count (t ∷ (s ∷ ts)))) i ∙ lt-ltb num count lt;
       value = ap (λ o. Result (op_name n) (index_or o)) i;
       type_is = ap (λ o. slice_get (t ∷ (s ∷ ts)) (index_or o)) i;
     }
@@ -142,10 +142,10 @@ pub record HasEntry (names : Names) (m : OpName) (k a : ℕ) (ts args : List Pay
   pub first : entry.first ≡ a
   pub arguments : entry.args ≡ args
 
-new_result : (names : Names) (renamed : OpName → OpName) (m o : OpName) (n k a num : ℕ) (ts args : List PayloadType) (scope : Scope) → HasEntry names m k a ts args → renamed m ≡ op_name n → o ≡ m → num < length ts
+new_result : (names : Names) (renamed : OpName → OpName) (m o : OpName) (n k a num : ℕ) (ts args : List PayloadType) (scope : Scope) → HasEntry names m k a ts args → renamed m ≡ op_name n → o ≡ m → scope (number_name k) ≡ None → num < length ts
     → Stands (with_defines n ts (defines_printed k ts) scope) (use_printed names (Result o num)) (Result (renamed o) num) (type_of names (Result o num))
-new_result names renamed m o n k a num ts args scope h r e lt =
-    let s = result_stands n k num ts scope h.entry h.number h.results lt in
+new_result names renamed m o n k a num ts args scope h r e free lt =
+    let s = result_stands n k num ts scope h.entry h.number h.results free lt in
     let at : names.entry o.0 ≡ Some h.entry = ap (λ (p : OpName). names.entry p.0) e ∙ h.is in
     let u : result_use h.entry num ≡ use_printed names (Result o num) = ap (use_or (λ e. result_use e num)) (sym at) in
     let v : Result (op_name n) num ≡ Result (renamed o) num = ap (λ p. Result p num) (sym r ∙ ap renamed (sym e)) in
@@ -156,7 +156,7 @@ new_result names renamed m o n k a num ts args scope h r e lt =
 knows_at_results : (names : Names) (renamed : OpName → OpName) (ss : List Seen) (m : OpName) (n k a : ℕ) (ts args : List PayloadType) (scope : Scope) → HasEntry names m k a ts args → renamed m ≡ op_name n → k < 2 ^ 64 → Knows ss names renamed scope → Clear k a scope
     → (v : ValueName) → (is_some (results_of m (length ts) v) || sees ss v) ≡ true → Stands (with_defines n ts (defines_printed k ts) scope) (use_printed names v) (value_renamed renamed v) (type_of names v)
 knows_at_results names renamed ss m n k a ts args scope h r lt w c (Result o num) s = elim (seen_or (results_of m (length ts) (Result o num)) (sees ss (Result o num)) s) [
-  | inl new ↦ let p = result_seen (o.0 == m.0) num (length ts) new in new_result names renamed m o n k a num ts args scope h r (same_op_name o m p.0) p.1
+  | inl new ↦ let p = result_seen (o.0 == m.0) num (length ts) new in new_result names renamed m o n k a num ts args scope h r (same_op_name o m p.0) (c.numbers k (omega arith) lt) p.1
   | inr old ↦ still_by_results n k a ts scope _ _ _ lt c (w.by (Result o num) old)
 ]
 knows_at_results names renamed ss m n k a ts args scope h r lt w c (Arg o q num) s = still_by_results n k a ts scope _ _ _ lt c (w.by (Arg o q num) s)
@@ -222,11 +222,11 @@ number_kept j lt = grind (arith, nat_tests)
 argument : ℕ → UseSaid
 argument j = record { name = argument_text j; number = None }
 
-argument_here : (n j a : ℕ) (us : List PayloadType) (scope : Scope) → j < 2 ^ 32 → Stands (with_name (argument_text a) (argument_named n j (slice_get us j)) scope) (argument a) (Arg (op_name n) 0 j) (slice_get us j)
+argument_here : (n j a : ℕ) (us : List PayloadType) (scope : Scope) → scope (argument_text a) ≡ None → j < 2 ^ 32 → Stands (with_name (argument_text a) (argument_named n j (slice_get us j)) scope) (argument a) (Arg (op_name n) 0 j) (slice_get us j)
 unfolding argument
-argument_here n j a us scope lt = record {
+argument_here n j a us scope free lt = record {
   named = argument_named n j (slice_get us j);
-  is = this_name (argument_text a) (argument_named n j (slice_get us j)) scope;
+  is = this_name (argument_text a) (argument_named n j (slice_get us j)) scope free;
   has = refl;
   value = ap (Arg (op_name n) 0) (number_kept j lt);
   type_is = one_of (slice_get us j);
@@ -238,7 +238,7 @@ argument_stands n j k a x us [] scope lt le below c = absurd (omega (arith, belo
 argument_stands n j k a zero us (t ∷ ts) scope lt le below c =
     let y : Named = argument_named n j (slice_get us j) in
     let inner : Scope = with_name (argument_text a) y scope in
-    let h = argument_here n j a us scope (omega (arith, le)) in
+    let h = argument_here n j a us scope (c.arguments a (omega arith) (omega (arith, lt))) (omega (arith, le)) in
     let s = still_by_arguments n (j + 1) k (suc a) us ts inner (argument a) (Arg (op_name n) 0 j) (slice_get us j) (omega (arith, lt)) (clear_argument k a y scope (omega (arith, lt)) c) h in
     let p : a ≡ a + 0 = omega arith in
     let q : j ≡ j + 0 = omega arith in

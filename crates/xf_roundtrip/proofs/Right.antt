@@ -16,7 +16,7 @@ use Rattle.xf_read_base.specs.Attributes.{also, entries_twice}
 use Rattle.xf_read.specs.Names.{earlier, no_faults, with_faults, yield_count, nodes_count, bodies_count, argument_named, function_symbol, undefined_in, visible_at, symbol_twice, results_twice, args_twice, names_twice, twice, operands_fit, results_fit, agrees, head_faults, nodes_faults, bodies_faults}
 use Rattle.xf_read.specs.Names.{inside as inside_tokens, behind as behind_tokens}
 use Rattle.xf_read_base.specs.Values.{text}
-use Rattle.xf_read.specs.Scopes.{Scope, with_name, means}
+use Rattle.xf_read.specs.Scopes.{Scope, has_values, with_name, means}
 use Rattle.xf_read.specs.Tree.{Nodes, no_nodes, node, Bodies, no_bodies, body}
 use Rattle.xf_read.specs.Types.{results_by, args_by, fits}
 use Rattle.xf_read.specs.Written.{nodes_said, bodies_said}
@@ -124,7 +124,12 @@ symbol_free all scope (Some at) s e = visible_free all scope at (text all at) re
 results_free : (all : List Token) (scope : Scope) (rs : List Ref) → All (NameOf all) rs → free (results_twice all scope rs) ≡ defines_new scope (map (define_said all) rs)
 unfolding free
 results_free all scope [] w = refl
-results_free all scope (r ∷ rs) w = visible_free all scope r.token (text_at all r.token) (name_is all r.token (All-head (NameOf all) r rs w))
+results_free all scope (r ∷ rs) w =
+    free_or_none (has_values r.count) (visible_at all scope r.token) ∙ ap (λ b. cond (has_values r.count) b true) (visible_free all scope r.token (text_at all r.token) (name_is all r.token (All-head (NameOf all) r rs w)))
+  where
+    free_or_none : (b : Bool) (o : Option ℕ) → free (cond b o None) ≡ cond b (free o) true
+    free_or_none true o = refl
+    free_or_none false o = refl
 
 args_free : (all : List Token) (n j : ℕ) (ts : List PayloadType) (rs : List Ref) (scope : Scope) → All (NameOf all) rs → free (args_twice all n j ts rs scope) ≡ arguments_new n j ts (map (arg_said all) rs) scope
 unfolding free

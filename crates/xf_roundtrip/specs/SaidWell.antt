@@ -1,12 +1,12 @@
 -- Whether names and types are right in what a text says: each use stands for a value, no name stands twice, and the types and
 -- numbers that are stated are those of the values.
-use Rattle.std.specs.Prelude.{ℕ, ◌+◌, ◌==◌, ◌&&◌, List, [], ◌∷◌, length, Option, Some, None, Bool, true, false, not, is_some, slice_get}
+use Rattle.std.specs.Prelude.{ℕ, ◌+◌, ◌==◌, ◌&&◌, List, [], ◌∷◌, length, Option, Some, None, Bool, true, false, not, is_some, slice_get, if◌then◌else◌}
 use Rattle.xf_type.specs.declared.payload_type.PayloadType.{PayloadType}
 use Rattle.xf_read_base.specs.Parts.{UseSaid, DefineSaid, EntrySaid, Said}
 use Rattle.xf_ir.specs.Lists.{every}
 use Rattle.xf_read_base.specs.Attributes.{also}
 use Rattle.xf_read.specs.Names.{argument_named}
-use Rattle.xf_read.specs.Scopes.{Scope, no_names, with_name}
+use Rattle.xf_read.specs.Scopes.{Scope, has_values, no_names, with_name}
 use Rattle.xf_read.specs.Types.{operands_by, stated_by, fits}
 use Rattle.xf_read.specs.Written.{SaidNodes, no_nodes_said, node_said, SaidBodies, no_bodies_said, body_said, operations, left_out, operations_inside}
 use Rattle.xf_roundtrip.specs.Saying.{use_means, use_type, shape, result_types, argument_types, function_named, inside, behind}
@@ -27,7 +27,7 @@ symbol_new scope (Some symbol) = is_new scope symbol
 
 abbrev pub defines_new : Scope → List DefineSaid → Bool
 defines_new scope [] = true
-defines_new scope (d ∷ ds) = is_new scope d.name
+defines_new scope (d ∷ ds) = if has_values d.count then is_new scope d.name else true
 
 -- the arguments from argument j on, each with the names of those before
 abbrev pub arguments_new : ℕ → ℕ → List PayloadType → List (List ℕ) → Scope → Bool

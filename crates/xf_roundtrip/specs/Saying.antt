@@ -1,5 +1,5 @@
 -- What heads mean by what they say in bytes, where some names are visible: without tokens and their numbers.
-use Rattle.std.specs.Prelude.{ℕ, ◌+◌, List, [], ◌∷◌, drop, Option, Some, None, Bool, is_some, option_map, slice_get}
+use Rattle.std.specs.Prelude.{ℕ, ◌+◌, List, [], ◌∷◌, drop, Option, Some, None, Bool, is_some, option_map, slice_get, if◌then◌else◌}
 use Rattle.xf_type.specs.declared.attribute.AttrValue.{AttrValue}
 use Rattle.xf_type.specs.declared.attribute.AttrValue.TheVariants as attr
 use Rattle.xf_type.specs.declared.payload_type.PayloadType.{PayloadType}
@@ -15,8 +15,8 @@ use Rattle.xf_ir.specs.declared.kind.Attr.{Attr}
 use Rattle.xf_ir.specs.declared.kind.Kind.{Kind}
 use Rattle.xf_ir.specs.declared.kind.Kind.TheVariants as kind
 use Rattle.xf_ir.specs.declared.name.ValueName.{ValueName}
-use Rattle.xf_read.specs.Names.{argument_named, results_named}
-use Rattle.xf_read.specs.Scopes.{Scope, with_name, has_use, value_in, type_in}
+use Rattle.xf_read.specs.Names.{argument_named, results_named, symbol_named}
+use Rattle.xf_read.specs.Scopes.{Scope, has_values, with_name, has_use, value_in, type_in}
 use Rattle.xf_read.specs.Types.{results_by, args_by}
 use Rattle.xf_read_base.specs.Strings.{decoded}
 use Rattle.xf_read_base.specs.Values.{signed, truth_bits, integer_bits, with_attr, width_at, predicate_or}
@@ -108,20 +108,20 @@ with_arguments n j ts (name ∷ names) scope = with_arguments n (j + 1) ts names
 
 abbrev pub with_defines : ℕ → List PayloadType → List DefineSaid → Scope → Scope
 with_defines n ts [] scope = scope
-with_defines n ts (d ∷ ds) scope = with_name d.name (results_named n d.count ts) scope
+with_defines n ts (d ∷ ds) scope = if has_values d.count then with_name d.name (results_named n d.count ts) scope else scope
 
 -- the symbol that stands for a function from then on
 abbrev pub function_named : Row → Option (List ℕ) → Option (List ℕ)
 function_named row.Function symbol = symbol
 function_named r symbol = None
 
-abbrev pub with_function : ℕ → Option (List ℕ) → Scope → Scope
-with_function n None scope = scope
-with_function n (Some symbol) scope = with_name symbol (results_named n 0 []) scope
+abbrev pub with_function : Option (List ℕ) → Scope → Scope
+with_function None scope = scope
+with_function (Some symbol) scope = with_name symbol symbol_named scope
 
 -- what is visible in the bodies of operation n, and behind it
 abbrev pub inside : ℕ → Said → Scope → Scope
 inside n t scope = with_arguments n 0 (argument_types t) t.args scope
 
 abbrev pub behind : ℕ → Said → Scope → Scope
-behind n t scope = with_defines n (result_types t) t.defines (with_function n (function_named t.row t.symbol) scope)
+behind n t scope = with_defines n (result_types t) t.defines (with_function (function_named t.row t.symbol) scope)

@@ -27,5 +27,3 @@ pub use reduction::reduces;
 pub use rows::{callee_agrees, types_fit};
 pub use slices::slices_fit;
 
-#[cfg(test)]
-mod tests;

@@ -10,5 +10,3 @@ pub use laws::{
 };
 pub use value::{ElemList, SizeList, Value};
 
-#[cfg(test)]
-mod tests;

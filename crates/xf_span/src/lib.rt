@@ -7,8 +7,6 @@ mod limit;
 mod line;
 mod place;
 mod table;
-#[cfg(test)]
-mod tests;
 
 pub use code::Code;
 pub use fault::{Fault, LexFault, ReadFault, ScriptFault, TextFault};

@@ -12,5 +12,3 @@ pub use lex::tokens;
 pub use script::is_script;
 pub use token::{Token, TokenKind, TokenList};
 
-#[cfg(test)]
-mod tests;

@@ -242,6 +242,3 @@ pub fn combine(c: Combiner, w: Width, a: Elem, b: Elem) -> Elem
 {
     apply_binary(c.kind(), w, a, b)
 }
-
-#[cfg(test)]
-mod tests;

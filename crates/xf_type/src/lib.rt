@@ -24,5 +24,3 @@ pub use payload_type::{Dim, Elem, PayloadType, Shape, Width};
 /// There was no memory for what a call has to make.
 pub type NoMemory = std::alloc::AllocError;
 
-#[cfg(test)]
-mod tests;

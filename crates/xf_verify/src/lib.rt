@@ -14,5 +14,3 @@ mod walk;
 pub use fault::VerifyFault;
 pub use verifier::verify;
 
-#[cfg(test)]
-mod tests;
