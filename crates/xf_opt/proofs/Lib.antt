@@ -4,6 +4,7 @@ pub mod FormFacts
 pub mod FormKept
 pub mod FormLists
 pub mod FormParts
+pub mod Headline
 pub mod Renaming
 pub mod Runs
 pub mod Statuses
