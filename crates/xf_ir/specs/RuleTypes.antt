@@ -25,10 +25,10 @@ Row = List (Option PayloadType) → List PayloadType → Bool
 abbrev pub takes_gives : List PayloadType → List PayloadType → Row
 takes_gives wanted given os ts = have_types os wanted && same_types ts given
 
--- a call has the types of the function; where there is none of the name, that is another rule's
-abbrev pub call_row : Option Signature → Row
-call_row None os ts = true
-call_row (Some s) os ts = takes_gives s.takes s.gives os ts
+-- operands that a function takes; where a call has none, and what its results are, is another rule's
+abbrev pub are_inputs : Option Signature → List (Option PayloadType) → Bool
+are_inputs None os = true
+are_inputs (Some s) os = have_types os s.inputs
 
 -- ---- tensors
 
@@ -119,7 +119,7 @@ abbrev pub row_of : Signatures → List PayloadType → Kind → Row
 row_of sigs gives (kind.Module symbol) = takes_gives [] []
 row_of sigs gives (kind.Func symbol private results) = takes_gives [] []
 row_of sigs gives kind.Return = takes_gives gives []
-row_of sigs gives (kind.Call callee) = call_row (sigs callee)
+row_of sigs gives (kind.Call callee) = λ os ts. are_inputs (sigs callee) os
 row_of sigs gives (kind.Constant width bits) = takes_gives [] (Scalar width ∷ [])
 row_of sigs gives (kind.Dense shape numbers) = takes_gives [] (Tensor shape ∷ [])
 row_of sigs gives (kind.Binary which width) = takes_gives (Scalar width ∷ (Scalar width ∷ [])) (Scalar width ∷ [])

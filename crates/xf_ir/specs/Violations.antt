@@ -1,7 +1,9 @@
 -- The first operation that breaks a rule, with its first rule.
-use Rattle.std.specs.Prelude.{ℕ, ◌+◌, List, [], ◌∷◌, Option, Some, None, Bool, true, not, ◌&&◌, nat_lt, if◌then◌else◌}
+use Rattle.std.specs.Prelude.{ℕ, List, [], ◌∷◌, Option, Some, None, Bool, true, not, ◌&&◌, nat_lt, if◌then◌else◌}
 use Rattle.xf_ir.specs.declared.name.OpName.{OpName}
 use Rattle.xf_ir.specs.declared.op.Module.{Module}
+use Rattle.xf_ir.specs.declared.rule.Rule.{Rule}
+use Rattle.xf_ir.specs.declared.rule.Rule.TheVariants as rule
 use Rattle.xf_ir.specs.Tree.{Ops, no_ops, op, Regions, no_regions, region}
 use Rattle.xf_ir.specs.Kinds.{is_container, is_module, is_function}
 use Rattle.xf_ir.specs.Lists.{every, is_empty, is_among, texts_once}
@@ -15,9 +17,9 @@ use Rattle.xf_ir.specs.RuleLinalg.{has_its_maps, has_its_iterators, has_its_redu
 use Rattle.xf_ir.specs.RuleSlices.{has_its_slices}
 use Rattle.xf_ir.specs.Valid.{symbols_in}
 
--- a broken rule, by its number in V1 to V16, and the operation that breaks it
+-- a broken rule, and the operation that breaks it
 pub record Violation : Type 0 where
-  pub rule : ℕ
+  pub rule : Rule
   pub op : OpName
 
 -- ---- V1 and V2 as tests
@@ -52,43 +54,50 @@ root_holds_functions m before = if is_empty before then holds_functions m else t
 
 -- ---- which rules an operation keeps
 
+-- a rule, and whether it is kept
+abbrev pub Kept : Type 0
+Kept = Rule × Bool
+
 -- V3 to V16
-abbrev pub local_rules : Module → Placed → List Bool
+abbrev pub local_rules : Module → Placed → List Kept
 local_rules m p =
-    has_its_regions p
-    ∷ (ends_its_blocks p
-    ∷ (every known p.types
-    ∷ (has_its_types (signatures m) p
-    ∷ (has_its_attributes p
-    ∷ (has_its_callee (signatures m) p
-    ∷ (has_short_chains (functions_of m) p
-    ∷ (has_its_maps p
-    ∷ (has_its_iterators p
-    ∷ (has_its_reduction p
-    ∷ (has_its_extents p
-    ∷ (fits_its_body p
-    ∷ (has_types_in_range p
-    ∷ (has_its_slices p
+    (rule.Regions, has_its_regions p)
+    ∷ ((rule.Blocks, ends_its_blocks p)
+    ∷ ((rule.Uses, every known p.types)
+    ∷ ((rule.Types, has_its_types (signatures m) p)
+    ∷ ((rule.Attributes, has_its_attributes p)
+    ∷ ((rule.Callees, has_its_callee (signatures m) p)
+    ∷ ((rule.Chains, has_short_chains (functions_of m) p)
+    ∷ ((rule.Maps, has_its_maps p)
+    ∷ ((rule.Iterators, has_its_iterators p)
+    ∷ ((rule.Reductions, has_its_reduction p)
+    ∷ ((rule.Extents, has_its_extents p)
+    ∷ ((rule.Bodies, fits_its_body p)
+    ∷ ((rule.Ranges, has_types_in_range p)
+    ∷ ((rule.Slices, has_its_slices p)
     ∷ [])))))))))))))
 
 -- V1 to V16, for an operation behind those of some names
-abbrev pub rules_kept : Module → List OpName → Placed → List Bool
-rules_kept m before p = is_new_name m.next before p.tree.name ∷ (root_holds_functions m before ∷ local_rules m p)
+abbrev pub rules_kept : Module → List OpName → Placed → List Kept
+rules_kept m before p =
+    (rule.Names, is_new_name m.next before p.tree.name)
+    ∷ ((rule.Functions, root_holds_functions m before)
+    ∷ local_rules m p)
 
--- the number of the first that is false, where the first has this number
-abbrev pub first_false : ℕ → List Bool → Option ℕ
-first_false i [] = None
-first_false i (b ∷ bs) = if b then first_false (i + 1) bs else Some i
+-- the first rule that is not kept
+abbrev pub first_false : List Kept → Option Rule
+first_false [] = None
+first_false (x ∷ xs) = if x.1 then first_false xs else Some x.0
 
 -- ---- the first violation
 
-abbrev pub broken_or : Option ℕ → OpName → Option Violation → Option Violation
+abbrev pub broken_or : Option Rule → OpName → Option Violation → Option Violation
 broken_or None name later = later
-broken_or (Some rule) name later = Some (record { rule = rule; op = name })
+broken_or (Some r) name later = Some (record { rule = r; op = name })
 
 abbrev pub first_broken : Module → List OpName → List Placed → Option Violation
 first_broken m before [] = None
-first_broken m before (p ∷ ps) = broken_or (first_false 1 (rules_kept m before p)) p.tree.name (first_broken m (p.tree.name ∷ before) ps)
+first_broken m before (p ∷ ps) = broken_or (first_false (rules_kept m before p)) p.tree.name (first_broken m (p.tree.name ∷ before) ps)
 
 -- the first operation in preorder that breaks a rule, with the first rule that it breaks
 abbrev pub first_violation : Module → Option Violation

@@ -7,7 +7,7 @@ use Rattle.xf_span.specs.declared.fault.Fault.{Fault}
 use Rattle.xf_span.specs.declared.fault.TextFault.{TextFault}
 use Rattle.xf_span.specs.declared.fault.TextFault.TheVariants as text_fault
 use Rattle.xf_span.specs.Fault.{fault_at}
-use Rattle.xf_lex.specs.Lexes.{first_place}
+use Rattle.xf_span.specs.Place.{first_place}
 use Rattle.xf_ir.specs.declared.op.Module.{Module}
 use Rattle.xf_payload.specs.Payload.{IsPayload, IsRefused}
 use Rattle.xf_opt.specs.Form.{is_first_form}

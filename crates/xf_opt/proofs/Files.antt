@@ -8,7 +8,8 @@ use Rattle.std.proofs.lemmas.List.{length-take, take_all}
 use Rattle.xf_host.specs.Count.{HasRisen}
 use Rattle.xf_span.specs.declared.fault.Fault.{Fault}
 use Rattle.xf_ir.specs.declared.op.Module.{Module}
-use Rattle.xf_payload.specs.Payload.{file_limit, IsPayload, IsNoPayload}
+use Rattle.xf_span.specs.Limit.{file_limit}
+use Rattle.xf_payload.specs.Payload.{IsPayload, IsNoPayload}
 use Rattle.xf_opt.specs.declared.journal.Entry.{Entry}
 use Rattle.xf_opt.specs.Words.{Asked, run, verify, print}
 use Rattle.xf_opt.specs.Stages.{End}

@@ -5,6 +5,5 @@ pub mod FormKept
 pub mod FormLists
 pub mod FormParts
 pub mod Headline
-pub mod Renaming
 pub mod Runs
 pub mod Statuses

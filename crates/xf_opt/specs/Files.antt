@@ -4,9 +4,10 @@ use Rattle.xf_span.specs.declared.code.Code.TheVariants as code
 use Rattle.xf_span.specs.declared.fault.Fault.{Fault}
 use Rattle.xf_span.specs.Fault.{fault_at}
 use Rattle.xf_ir.specs.declared.op.Module.{Module}
-use Rattle.xf_lex.specs.Lexes.{first_place}
+use Rattle.xf_span.specs.Place.{first_place}
 use Rattle.xf_text.specs.Script.{IsScript}
-use Rattle.xf_payload.specs.Payload.{file_limit, IsPayload, IsNoPayload}
+use Rattle.xf_span.specs.Limit.{file_limit}
+use Rattle.xf_payload.specs.Payload.{IsPayload, IsNoPayload}
 use Rattle.xf_opt.specs.Form.{is_first_form}
 use Rattle.xf_opt.specs.Stages.{End, Judges}
 use Rattle.xf_opt.specs.Stages as stage

@@ -5,9 +5,9 @@ use Rattle.xf_ir.specs.declared.op.Module.{Module}
 use Rattle.xf_ir.specs.Valid.{IsValid}
 use Rattle.xf_ir.specs.Choices.{weight_at}
 use Rattle.xf_sem.specs.Keeps.{KeepsMeaning}
-use Rattle.xf_print.specs.Printed.{printed_form}
+use Rattle.xf_ir.specs.PrintedForm.{printed_form}
 use Rattle.xf_read.specs.Spells.{Spells}
-use Rattle.xf_roundtrip.specs.Renamed.{IsRenamed}
+use Rattle.xf_ir.specs.Renamed.{IsRenamed}
 use Rattle.xf_payload.specs.Payload.{IsPayload}
 use Rattle.xf_opt.specs.declared.journal.Entry.{Entry}
 use Rattle.xf_opt.specs.Files.{IsRunnable}

@@ -1,11 +1,12 @@
 //! The command `run`: a schedule carried out on a payload, both as their bytes.
 ghost use Rattle.std.specs.Prelude.{◌≡◌, ◌≤◌, ◌↔◌, ⊤, ℕ, List, [], length, true, false, IsTrue, IfOk, IfErr};
 ghost use Rattle.xf_host.specs.Count.{HasRisen};
-ghost use Rattle.xf_lex.specs.Lexes.{first_place};
+ghost use Rattle.xf_span.specs.Place.{first_place};
 ghost use Rattle.xf_span.specs.declared.code.Code.TheVariants as code;
 ghost use Rattle.xf_span.specs.Fault.{fault_at};
 ghost use Rattle.xf_span.specs.Line.{HasLine};
-ghost use Rattle.xf_payload.specs.Payload.{file_limit, IsTellable};
+ghost use Rattle.xf_span.specs.Limit.{file_limit};
+ghost use Rattle.xf_payload.specs.Payload.{IsTellable};
 ghost use Rattle.xf_opt.specs.Words.{run};
 ghost use Rattle.xf_opt.specs.Stages.{EndsAt, EndsBefore};
 ghost use Rattle.xf_opt.specs.Stages as stage;
@@ -20,9 +21,9 @@ use crate::run::erase_dead;
 use std::alloc::Global;
 use xf_host::sink::{Sink, SinkFail};
 use xf_ir::Module;
-use xf_payload::{FILE_LIMIT, read_payload};
+use xf_payload::read_payload;
 use xf_print::print;
-use xf_span::{Code, Fault, Place, TextFault};
+use xf_span::{Code, FILE_LIMIT, FIRST_PLACE, Fault, TextFault};
 use xf_text::is_script;
 use xf_type::NoMemory;
 
@@ -48,7 +49,7 @@ fn is_script_file(alloc: Global, bytes: &[u8]) -> Result<bool, NoMemory>
 fn outside() -> Fault
     ensures { result ≡ fault_at code.N1 first_place }
 {
-    Fault::at(Code::N1, Place { line: 1, col: 1 })
+    Fault::at(Code::N1, FIRST_PLACE)
 }
 
 /// The payload of a run: a valid module of the form that it takes.

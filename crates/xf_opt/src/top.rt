@@ -2,7 +2,7 @@
 ghost use Rattle.std.specs.Prelude.{◌≡◌, ◌≢◌, ◌≤◌, ◌↔◌, ◌+◌, ℕ, List, [], Some, None, IsNone, IfOk, IfErr, IfSome, IsErrOf, take};
 ghost use Rattle.xf_host.specs.Count.{HasRisen};
 ghost use Rattle.xf_span.specs.Line.{HasLine};
-ghost use Rattle.xf_payload.specs.Payload.{file_limit};
+ghost use Rattle.xf_span.specs.Limit.{file_limit};
 ghost use Rattle.xf_opt.specs.Words.{texts, run, verify, print, command_of};
 ghost use Rattle.xf_opt.specs.Paths.{RunsNoScript, OnScript, OnPayload, HasReadFault, OthersStay};
 ghost use Rattle.xf_opt.specs.Stages.{EndsAt, EndsBefore};
@@ -21,7 +21,7 @@ use crate::words::{Command, parse};
 use std::alloc::Global;
 use xf_host::files::{FileFail, Files};
 use xf_host::sink::Sink;
-use xf_payload::FILE_LIMIT;
+use xf_span::FILE_LIMIT;
 
 /// Reads a file, and at most one byte past the greatest length.
 fn read_file<F: Files>(alloc: Global, files: &mut F, path: &str) -> Result<Vec<u8>, FileFail>

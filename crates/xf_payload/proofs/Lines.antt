@@ -2,7 +2,7 @@
 use Rattle.std.proofs.Common.{◌≡◌, ℕ, suc, List, [], ◌∷◌, take, drop, Option, Some, None, Bool, true, false, ◌==◌, ◌&&◌, if◌then◌else◌, inl, inr, refl, sym, subst}
 use Rattle.xf_span.specs.declared.place.Place.{Place}
 use Rattle.xf_span.specs.declared.code.Code.{Code}
-use Rattle.xf_span.specs.declared.code.Code.TheVariants.{L1, L2, L3, A2, A3, A4, V1, V2, V3, V4, V5, V6, V7, V8, V9, V10, V11, V12, V13, V14, V15, V16}
+use Rattle.xf_span.specs.declared.code.Code.TheVariants.{L1, L2, L3, A2, A3, A4}
 use Rattle.xf_span.specs.declared.fault.Fault.{Fault}
 use Rattle.xf_span.specs.declared.fault.TextFault.{TextFault}
 use Rattle.xf_span.specs.declared.fault.TextFault.TheVariants as text_fault
@@ -18,6 +18,8 @@ use Rattle.xf_lex.specs.Fronts.{quoted_in, string_of, string_at, value_at, named
 use Rattle.xf_lex.specs.Lexes.{HasFault, text_at}
 use Rattle.xf_read_base.specs.declared.verdict.Verdict.{Verdict}
 use Rattle.xf_read_base.specs.declared.verdict.Verdict.TheVariants.{Syntax, OutOfProfile, NotBuilt, TooMany}
+use Rattle.xf_ir.specs.declared.rule.Rule.{Rule}
+use Rattle.xf_ir.specs.declared.rule.Rule.TheVariants as rule
 use Rattle.xf_read.specs.declared.fault.Cause.{Cause}
 use Rattle.xf_read.specs.declared.fault.Cause.TheVariants as cause
 use Rattle.xf_read_base.specs.Stops.{judged}
@@ -128,42 +130,30 @@ misspelt_line bytes f (inr (inr x)) = undefined_line x.tokens (file_faults x.tok
 
 -- ---- rules
 
--- the line of a code tells of a place alone
-record IsRule (c : Code) : Type 0 where
-  pub line : (p : Place) → HasLine (fault_at c p)
-
-rule : (c : Code) → ((p : Place) → HasLine (fault_at c p)) → IsRule c
-rule c l = record { line = l }
-
-one_of : (b : Bool) (c d : Code) → IsRule c → IsRule d → IsRule (if b then c else d)
-one_of true c d x y = x
-one_of false c d x y = y
-
-code_is_rule : (n : ℕ) → IsRule (rule_code n)
-code_is_rule n =
-    one_of _ _ _ (rule V1 (λ p. refl))
-    (one_of _ _ _ (rule V2 (λ p. refl))
-    (one_of _ _ _ (rule V3 (λ p. refl))
-    (one_of _ _ _ (rule V4 (λ p. refl))
-    (one_of _ _ _ (rule V5 (λ p. refl))
-    (one_of _ _ _ (rule V6 (λ p. refl))
-    (one_of _ _ _ (rule V7 (λ p. refl))
-    (one_of _ _ _ (rule V8 (λ p. refl))
-    (one_of _ _ _ (rule V9 (λ p. refl))
-    (one_of _ _ _ (rule V10 (λ p. refl))
-    (one_of _ _ _ (rule V11 (λ p. refl))
-    (one_of _ _ _ (rule V12 (λ p. refl))
-    (one_of _ _ _ (rule V13 (λ p. refl))
-    (one_of _ _ _ (rule V14 (λ p. refl))
-    (one_of _ _ _ (rule V15 (λ p. refl))
-    (rule V16 (λ p. refl))))))))))))))))
+rule_line : (r : Rule) (p : Place) → HasLine (fault_at (rule_code r) p)
+rule_line rule.Names p = refl
+rule_line rule.Functions p = refl
+rule_line rule.Regions p = refl
+rule_line rule.Blocks p = refl
+rule_line rule.Uses p = refl
+rule_line rule.Types p = refl
+rule_line rule.Attributes p = refl
+rule_line rule.Callees p = refl
+rule_line rule.Chains p = refl
+rule_line rule.Maps p = refl
+rule_line rule.Iterators p = refl
+rule_line rule.Reductions p = refl
+rule_line rule.Extents p = refl
+rule_line rule.Bodies p = refl
+rule_line rule.Ranges p = refl
+rule_line rule.Slices p = refl
 
 -- ---- files
 
 no_payload_line : (file : List ℕ) (f : Fault) → IsNoPayload file f → HasLine f
 no_payload_line file f (inl x) = subst HasLine (sym x.is) refl
 no_payload_line file f (inr (inl x)) = misspelt_line file f x.misspells
-no_payload_line file f (inr (inr x)) = subst HasLine (sym x.is) ((code_is_rule x.violation.rule).line _)
+no_payload_line file f (inr (inr x)) = subst HasLine (sym x.is) (rule_line x.violation.rule _)
 
 pub refused_line : (file : List ℕ) (e : TextFault) → IsRefused file e → IsTellable e
 refused_line file (text_fault.At f) r = no_payload_line file f r

@@ -1,5 +1,5 @@
 -- The payload in a file: the valid module that its bytes spell, and why they spell none.
-use Rattle.std.specs.Prelude.{◌≡◌, ◌⊎◌, ◌≤◌, ◌<◌, ◌==◌, ⊤, ℕ, List, length, Option, Some, None, slice_get, if◌then◌else◌}
+use Rattle.std.specs.Prelude.{◌≡◌, ◌⊎◌, ◌≤◌, ◌<◌, ⊤, ℕ, List, length, Option, Some, None, slice_get}
 use Rattle.xf_span.specs.declared.place.Place.{Place}
 use Rattle.xf_span.specs.declared.code.Code.{Code}
 use Rattle.xf_span.specs.declared.code.Code.TheVariants.{A8, V1, V2, V3, V4, V5, V6, V7, V8, V9, V10, V11, V12, V13, V14, V15, V16}
@@ -7,16 +7,15 @@ use Rattle.xf_span.specs.declared.fault.Fault.{Fault}
 use Rattle.xf_span.specs.declared.fault.TextFault.{TextFault}
 use Rattle.xf_span.specs.declared.fault.TextFault.TheVariants as text_fault
 use Rattle.xf_span.specs.Fault.{fault_at}
+use Rattle.xf_span.specs.Limit.{file_limit}
 use Rattle.xf_span.specs.Line.{HasLine}
-use Rattle.xf_lex.specs.Lexes.{first_place}
+use Rattle.xf_span.specs.Place.{first_place}
 use Rattle.xf_ir.specs.declared.op.Module.{Module}
+use Rattle.xf_ir.specs.declared.rule.Rule.{Rule}
+use Rattle.xf_ir.specs.declared.rule.Rule.TheVariants as rule
 use Rattle.xf_ir.specs.Valid.{IsValid}
 use Rattle.xf_ir.specs.Violations.{Violation, first_violation}
 use Rattle.xf_read.specs.Spells.{Spells, HasPlaces, Misspells}
-
--- the greatest length of a file
-abbrev pub file_limit : ℕ
-file_limit = 8388608
 
 -- a file holds a valid module
 pub record IsPayload (file : List ℕ) (m : Module) : Type 0 where
@@ -36,25 +35,24 @@ pub record IsMisspelt (file : List ℕ) (f : Fault) : Type 0 where
   pub fits : length file ≤ file_limit
   pub misspells : Misspells file f
 
--- the code of a rule, by its number
-abbrev pub rule_code : ℕ → Code
-rule_code rule =
-    if rule == 1 then V1
-    else if rule == 2 then V2
-    else if rule == 3 then V3
-    else if rule == 4 then V4
-    else if rule == 5 then V5
-    else if rule == 6 then V6
-    else if rule == 7 then V7
-    else if rule == 8 then V8
-    else if rule == 9 then V9
-    else if rule == 10 then V10
-    else if rule == 11 then V11
-    else if rule == 12 then V12
-    else if rule == 13 then V13
-    else if rule == 14 then V14
-    else if rule == 15 then V15
-    else V16
+-- the code of a rule
+abbrev pub rule_code : Rule → Code
+rule_code rule.Names = V1
+rule_code rule.Functions = V2
+rule_code rule.Regions = V3
+rule_code rule.Blocks = V4
+rule_code rule.Uses = V5
+rule_code rule.Types = V6
+rule_code rule.Attributes = V7
+rule_code rule.Callees = V8
+rule_code rule.Chains = V9
+rule_code rule.Maps = V10
+rule_code rule.Iterators = V11
+rule_code rule.Reductions = V12
+rule_code rule.Extents = V13
+rule_code rule.Bodies = V14
+rule_code rule.Ranges = V15
+rule_code rule.Slices = V16
 
 abbrev pub place_or_first : Option Place → Place
 place_or_first None = first_place

@@ -2,46 +2,41 @@
 ghost use Rattle.std.specs.Prelude.{◌≡◌, ◌≤◌, ◌↔◌, length, IfOk, IfErr, IsTrue, Some};
 ghost use Rattle.xf_ir.specs.Valid.{IsValid};
 ghost use Rattle.xf_ir.specs.Violations.{first_violation};
-ghost use Rattle.xf_payload.specs.Payload.{file_limit, rule_code, rule_fault, place_or_first, IsPayload, IsRefused, IsTellable, IsJudged};
+ghost use Rattle.xf_span.specs.Limit.{file_limit};
+ghost use Rattle.xf_payload.specs.Payload.{rule_code, rule_fault, place_or_first, IsPayload, IsRefused, IsTellable, IsJudged};
 
 use std::alloc::Global;
-use xf_ir::{Module, OpName};
+use xf_ir::{Module, OpName, Rule};
 use xf_read::{PlaceOfList, ReadModule, read_module};
-use xf_span::{Code, Fault, Place, TextFault};
+use xf_span::{Code, FILE_LIMIT, FIRST_PLACE, Fault, TextFault};
 use xf_verify::{VerifyFault, verify};
 
-/// The greatest length of a file.
-pub const FILE_LIMIT: usize = 8_388_608;
-
-/// The place where a text begins.
-const FIRST_PLACE: Place = Place { line: 1, col: 1 };
-
-/// The code of a rule, by its number.
-fn rule_code(rule: u8) -> Code
+/// The code of a rule.
+fn rule_code(rule: Rule) -> Code
     ensures { result ≡ rule_code rule }
 {
     match rule {
-        1 => Code::V1,
-        2 => Code::V2,
-        3 => Code::V3,
-        4 => Code::V4,
-        5 => Code::V5,
-        6 => Code::V6,
-        7 => Code::V7,
-        8 => Code::V8,
-        9 => Code::V9,
-        10 => Code::V10,
-        11 => Code::V11,
-        12 => Code::V12,
-        13 => Code::V13,
-        14 => Code::V14,
-        15 => Code::V15,
-        _ => Code::V16,
+        Rule::Names => Code::V1,
+        Rule::Functions => Code::V2,
+        Rule::Regions => Code::V3,
+        Rule::Blocks => Code::V4,
+        Rule::Uses => Code::V5,
+        Rule::Types => Code::V6,
+        Rule::Attributes => Code::V7,
+        Rule::Callees => Code::V8,
+        Rule::Chains => Code::V9,
+        Rule::Maps => Code::V10,
+        Rule::Iterators => Code::V11,
+        Rule::Reductions => Code::V12,
+        Rule::Extents => Code::V13,
+        Rule::Bodies => Code::V14,
+        Rule::Ranges => Code::V15,
+        Rule::Slices => Code::V16,
     }
 }
 
 /// The fault of an operation that breaks a rule.
-fn rule_fault(places: &PlaceOfList, rule: u8, op: OpName) -> Fault
+fn rule_fault(places: &PlaceOfList, rule: Rule, op: OpName) -> Fault
     ensures { result ≡ rule_fault places.now (record { rule = rule; op = op }) }
 {
     let place = match places.get(op.0 as usize) {
@@ -52,6 +47,7 @@ fn rule_fault(places: &PlaceOfList, rule: u8, op: OpName) -> Fault
 }
 
 /// Judges a module that was read by the rules.
+#[tactic(auto, using(crate::proofs::Refused::verdict_told))]
 fn judge(alloc: Global, read: &ReadModule) -> Result<(), TextFault>
     ensures valid { IfOk result (λ _. IsValid read.now.module) }
     ensures fault { IfErr result (IsJudged read.now.module read.now.places) }
@@ -60,6 +56,7 @@ fn judge(alloc: Global, read: &ReadModule) -> Result<(), TextFault>
         Ok(()) => Ok(()),
         Err(VerifyFault::NoMemory) => Err(TextFault::NoMemory),
         Err(VerifyFault::Rule { rule, op }) => {
+            let rule = Rule::numbered(rule);
             Err(TextFault::At(rule_fault(&read.places, rule, op)))
         }
     }

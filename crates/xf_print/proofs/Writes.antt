@@ -8,9 +8,9 @@ use Rattle.xf_ir.specs.Placed.{functions_of}
 use Rattle.xf_ir.specs.Tree.{Tree, Body, Ops}
 use Rattle.xf_ir.specs.View.{ops_of, regions_of, tree_size, ops_size, regions_size, body_size}
 use Rattle.xf_ir.proofs.EraseLemmas.{size_at, body_size_at}
-use Rattle.xf_print.specs.Names.{Names, no_names}
+use Rattle.xf_ir.specs.PrintedNames.{Names, no_names}
 use Rattle.xf_print.specs.Lines.{lines_text, tree_lines, else_lines, else_block_lines, rest_lines, function_lines}
-use Rattle.xf_print.specs.Printed.{line_at, op_text, is_empty_yield, body_head, head_lines, ops_lines, regions_lines, end_lines, functions_lines, printed_form}
+use Rattle.xf_ir.specs.PrintedForm.{line_at, op_text, is_empty_yield, body_head, head_lines, ops_lines, regions_lines, end_lines, functions_lines, printed_form}
 use Rattle.xf_host.specs.Writes.{Gains, GainsPrefix, WritesText}
 use Rattle.xf_host.proofs.WriteLemmas.{gains_nothing, gains-append, prefix-append, gains-prefix, writes_same}
 use Rattle.xf_host.specs.declared.sink.SinkFail.{SinkFail}

@@ -22,7 +22,7 @@ use Rattle.xf_ir.specs.Kinds.{returned_types}
 use Rattle.xf_ir.specs.Lists.{Each}
 use Rattle.xf_ir.specs.Tree.{Regions}
 use Rattle.xf_ir.specs.Types.{element_of}
-use Rattle.xf_print.specs.Names.{Names, argument_text, type_of, first_args}
+use Rattle.xf_ir.specs.PrintedNames.{Names, argument_text, type_of, first_args}
 use Rattle.xf_roundtrip.specs.Naming.{use_printed, defines_printed, arguments_printed}
 use Rattle.xf_roundtrip.specs.Plain.{IsScalar}
 use Rattle.xf_roundtrip.specs.SaidPrinted.{signed_said, literal_printed, entry_printed, known_types, head_by}
@@ -307,7 +307,7 @@ head_same sigs gives names i a kind.Yield ds os types ts rs w e lt n o s r c =
     moved names i a kind.Yield ds ts os os (first_args rs) [] refl (no_blocks rs w.regions)
     (ap (row_says (slots row.Yield) (pieces_of names a [] kind.Yield ds os ts)) (begun_is row.Yield i ts lt) ∙ given_head row.Yield names i ds os ts gives (begun row.Yield i ts) (e ∙ g.operands) scalars n)
 head_same sigs gives names i a (kind.Call callee) ds os types ts rs w e lt n o s r c =
-    let g = called (sigs callee) types ts w.callee in
+    let g = called (sigs callee) types ts w.fits w.callee in
     let scalars = all_scalar g.0 (subst (Each ScalarType) g.1 o) in
     moved names i a (kind.Call callee) ds ts os os (first_args rs) [] refl (no_blocks rs w.regions) (call_head names i a callee ds os ts g.0 lt (e ∙ g.1) scalars n s)
 head_same sigs gives names i a (kind.Constant width bits) ds os types ts rs w e lt n o s r c =

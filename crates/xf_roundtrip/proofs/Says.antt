@@ -14,12 +14,12 @@ use Rattle.xf_ir.specs.Calls.{Signature, Signatures, callee_agrees, agrees}
 use Rattle.xf_ir.specs.Lists.{Each, is_empty}
 use Rattle.xf_ir.specs.RuleAttributes.{kind_fits, attributes_fit}
 use Rattle.xf_ir.specs.RuleBlocks.{block_args, are_blocks, blocks_fit}
-use Rattle.xf_ir.specs.RuleTypes.{takes_gives}
+use Rattle.xf_ir.specs.RuleTypes.{takes_gives, are_inputs}
 use Rattle.xf_ir.specs.RuleTypes.{row_of as type_row}
 use Rattle.xf_ir.specs.Tree.{Regions, no_regions, region}
 use Rattle.xf_ir.specs.Types.{have_types, same_types}
 use Rattle.xf_read.specs.Types.{operands_by}
-use Rattle.xf_print.specs.Names.{Names, first_args, type_of}
+use Rattle.xf_ir.specs.PrintedNames.{Names, first_args, type_of}
 use Rattle.xf_roundtrip.specs.Printable.{HasBytes}
 use Rattle.xf_roundtrip.specs.Saying.{shape, kind_said, result_types, argument_types, function_named}
 use Rattle.xf_roundtrip.specs.SaidPrinted.{head_by, has_row, known_types}
@@ -33,7 +33,7 @@ pub record Keeps (sigs : Signatures) (gives : List PayloadType) (k : Kind) (ds :
   pub row : has_row k ≡ true
   pub regions : blocks_fit k types ts (block_args rs) ≡ true
   pub fits : type_row sigs gives k types ts ≡ true
-  pub callee : callee_agrees sigs k types ts ≡ true
+  pub callee : callee_agrees sigs k ts ≡ true
   pub kind_fit : kind_fits k ≡ true
   pub attrs : attributes_fit ds ≡ true
   pub bytes : Each (λ (d : Attr). HasBytes d.value) ds
@@ -77,9 +77,9 @@ module_symbol : (s : Option (List ℕ)) → option_map (drop 1) (option_map (λ 
 module_symbol None = refl
 module_symbol (Some b) = refl
 
-pub called : (s : Option Signature) (types : List (Option PayloadType)) (ts : List PayloadType) → agrees s types ts ≡ true → (wanted : List PayloadType) × (types ≡ map Some wanted)
-called None types ts e = absurd cc
-called (Some s) types ts e = let p = and_parts (have_types types s.takes) (same_types ts s.gives) e in (s.takes, have_is types s.takes p.0)
+pub called : (s : Option Signature) (types : List (Option PayloadType)) (ts : List PayloadType) → are_inputs s types ≡ true → agrees s ts ≡ true → (wanted : List PayloadType) × (types ≡ map Some wanted)
+called None types ts f e = absurd cc
+called (Some s) types ts f e = (s.inputs, have_is types s.inputs f)
 
 -- ---- all kinds
 
@@ -150,7 +150,7 @@ rest_of sigs gives names i a kind.Yield ds os types ts rs w e =
       fit = ap (all_fit t 0) p ∙ fit_all t gives (λ j. ap (λ us. slice_get us j) l);
     }
 rest_of sigs gives names i a (kind.Call callee) ds os types ts rs w e =
-    let g = called (sigs callee) types ts w.callee in
+    let g = called (sigs callee) types ts w.fits w.callee in
     let p = e ∙ g.1 in
     let l = stated names os g.0 p in
     let t : Said = head_by names i a (kind.Call callee) ds os ts (first_args rs) in

@@ -13,7 +13,7 @@ use Rattle.xf_rules.specs.declared.given.Gives.TheVariants.{Types, Element, Noth
 -- the signature of a callee, none where no function has the symbol
 abbrev pub callee_seen : Option Signature → Option calls.Signature
 callee_seen None = None
-callee_seen (Some s) = Some (record { takes = s.takes.now; gives = s.gives.now })
+callee_seen (Some s) = Some (record { inputs = s.inputs.now; results = s.results.now })
 
 -- the types of the values that the terminator of a block gives
 abbrev pub gives_seen : Gives → List PayloadType

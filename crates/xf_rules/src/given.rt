@@ -2,11 +2,11 @@
 
 use xf_type::{PayloadType, Width};
 
-/// The types of what a function takes and of what it returns.
+/// The types of a function's arguments and of what it returns.
 #[derive(Clone, Copy)]
 pub struct Signature<'a> {
-    pub takes: &'a [PayloadType],
-    pub gives: &'a [PayloadType],
+    pub inputs: &'a [PayloadType],
+    pub results: &'a [PayloadType],
 }
 
 /// The types of the values that the terminator of a block gives to the operation that holds the block.

@@ -1,7 +1,7 @@
 //! Numbers and types of operands and results.
 ghost use Rattle.std.specs.Prelude.{◌≡◌, ◌∷◌, []};
 ghost use Rattle.xf_ir.specs.Calls.{callee_agrees};
-ghost use Rattle.xf_ir.specs.RuleTypes.{takes_gives, call_row, row_of};
+ghost use Rattle.xf_ir.specs.RuleTypes.{takes_gives, are_inputs, row_of};
 ghost use Rattle.xf_ir.specs.Types.{have_types};
 ghost use Rattle.xf_type.specs.declared.payload_type.PayloadType.TheVariants.{Scalar, Tensor};
 ghost use Rattle.xf_rules.specs.Given.{callee_seen, gives_seen};
@@ -44,17 +44,13 @@ fn gives_row(gives: Gives<'_>, types: &[Option<&PayloadType>], results: &[Payloa
     has_given(gives, types) && has_no_results(results)
 }
 
-/// Whether a call has the types of its callee; where there is no callee, that is another rule's.
-fn call_row(
-    callee: Option<Signature<'_>>,
-    types: &[Option<&PayloadType>],
-    results: &[PayloadType],
-) -> bool
-    ensures { result ≡ call_row (callee_seen callee.entry) (operand_types types.now) results.now }
+/// Whether the operands of a call are the callee's arguments; where there is no callee, that is another rule's.
+fn are_inputs(callee: Option<Signature<'_>>, types: &[Option<&PayloadType>]) -> bool
+    ensures { result ≡ are_inputs (callee_seen callee.entry) (operand_types types.now) }
 {
     match callee {
         None => true,
-        Some(callee) => have_types(types, callee.takes) && same_types(results, callee.gives),
+        Some(callee) => have_types(types, callee.inputs),
     }
 }
 
@@ -108,7 +104,7 @@ pub fn types_fit(
     match kind {
         Kind::Module { .. } | Kind::Func { .. } => is_bare(types, results),
         Kind::Return | Kind::Yield | Kind::LinalgYield => gives_row(gives, types, results),
-        Kind::Call { .. } => call_row(callee, types, results),
+        Kind::Call { .. } => are_inputs(callee, types),
         Kind::Constant { width, .. } => scalar_row(&[], &[*width], types, results),
         Kind::Dense { shape, .. } => dense_row(shape, types, results),
         Kind::Binary { width, .. } => scalar_row(&[*width, *width], &[*width], types, results),
@@ -135,21 +131,20 @@ pub fn types_fit(
     }
 }
 
-/// Whether a call has a callee, and the types of it. Any other operation passes.
+/// Whether a call has a callee, and its results are what the callee returns. Any other operation passes.
 ///
-/// Takes time in the number of operands and results and the length of their types.
+/// Takes time in the number of results and the length of their types.
 pub fn callee_agrees(
     kind: &Kind,
     callee: Option<Signature<'_>>,
-    types: &[Option<&PayloadType>],
     results: &[PayloadType],
 ) -> bool
-    ensures { result ≡ callee_agrees (λ symbol. callee_seen callee.entry) kind.now (operand_types types.now) results.now }
+    ensures { result ≡ callee_agrees (λ symbol. callee_seen callee.entry) kind.now results.now }
 {
     match kind {
         Kind::Call { .. } => match callee {
             None => false,
-            Some(callee) => have_types(types, callee.takes) && same_types(results, callee.gives),
+            Some(callee) => same_types(results, callee.results),
         },
         _ => true,
     }

@@ -5,19 +5,19 @@ use Rattle.std.specs.FinSet as set
 use Rattle.std.specs.Ordering.{nat_cmp}
 use Rattle.xf_ir.specs.declared.name.OpName.{OpName}
 use Rattle.xf_ir.specs.declared.kind.Kind.{Kind}
-use Rattle.xf_ir.specs.declared.kind.Kind.TheVariants as kind
 use Rattle.xf_ir.specs.declared.op.Module.{Module}
 use Rattle.xf_ir.specs.Tree.{Ops, no_ops, op, Regions, no_regions, region}
 use Rattle.xf_ir.specs.Lists.{is_among}
-use Rattle.xf_ir.specs.Calls.{Signatures, signatures, chains_end, chain_ends}
+use Rattle.xf_ir.specs.Calls.{Signatures, signatures, chains_end, callee_ends, chain_ends}
 use Rattle.xf_ir.specs.Places.{done, inside}
 use Rattle.xf_ir.specs.Placed.{Typed, type_at, Holder, holder_of, Placed, place, ops_placed, regions_placed, functions_placed, blocks_placed, top, root_holder, functions_of}
-use Rattle.xf_ir.specs.Violations.{is_new_name, local_rules, rules_kept, first_false, broken_or, first_broken, first_violation, holds_functions}
+use Rattle.xf_ir.specs.declared.rule.Rule.TheVariants as rule
+use Rattle.xf_ir.specs.Violations.{Kept, is_new_name, local_rules, rules_kept, first_false, broken_or, first_broken, first_violation, holds_functions}
 use Rattle.xf_ir.specs.Calls.{has_its_callee}
 use Rattle.xf_ir.specs.RuleTypes.{has_its_types}
 use Rattle.xf_ir.specs.RuleAttributes.{has_its_attributes}
 use Rattle.xf_verify.specs.declared.facts.Facts.{Facts}
-use Rattle.xf_verify.specs.Chains.{signatures_in, ends_in, callee_ends}
+use Rattle.xf_verify.specs.Chains.{signatures_in, ends_in}
 use Rattle.xf_verify.specs.Judged.{ops_stand, regions_stand, functions_stand, blocks_stand, stands, shape_rules, linalg_rules, range_rules, rules_of, rules_behind, Names, is_new, first_behind}
 use Rattle.xf_verify.proofs.Naming.{inserted}
 use Rattle.xf_verify.proofs.Truths.{eqb_sym}
@@ -52,31 +52,6 @@ blocks_same h (region args ops rest) =
 
 -- ---- the same rules
 
-chain_same : (fs : Ops) (k : Kind) → callee_ends (chains_end fs 31) k ≡ chain_ends fs k
-chain_same fs (kind.Module symbol) = refl
-chain_same fs (kind.Func symbol private results) = refl
-chain_same fs kind.Return = refl
-chain_same fs (kind.Call callee) = refl
-chain_same fs (kind.Constant width bits) = refl
-chain_same fs (kind.Dense shape numbers) = refl
-chain_same fs (kind.Binary which width) = refl
-chain_same fs (kind.Compare which width) = refl
-chain_same fs (kind.Select width) = refl
-chain_same fs (kind.Convert which from to) = refl
-chain_same fs (kind.For width) = refl
-chain_same fs kind.If = refl
-chain_same fs kind.Yield = refl
-chain_same fs kind.Empty = refl
-chain_same fs kind.Dim = refl
-chain_same fs kind.Extract = refl
-chain_same fs kind.Insert = refl
-chain_same fs (kind.ExtractSlice offsets sizes) = refl
-chain_same fs (kind.InsertSlice offsets sizes) = refl
-chain_same fs kind.Cast = refl
-chain_same fs (kind.Named which) = refl
-chain_same fs (kind.Generic maps iterators) = refl
-chain_same fs kind.LinalgYield = refl
-
 -- what is known of a module
 pub record IsOf (m : Module) (f : Facts) : Type 0 where
   pub next : f.next ≡ m.next
@@ -84,10 +59,13 @@ pub record IsOf (m : Module) (f : Facts) : Type 0 where
   pub ends_are : ends_in f.calls ≡ chains_end (functions_of m) 31
 
 chain_kept : (m : Module) (f : Facts) → IsOf m f → (k : Kind) → callee_ends (ends_in f.calls) k ≡ chain_ends (functions_of m) k
-chain_kept m f o k = ap (λ e. callee_ends e k) o.ends_are ∙ chain_same (functions_of m) k
+chain_kept m f o k = ap (λ e. callee_ends e k) o.ends_are
 
-abbrev rules_with : Signatures → Bool → Placed → List Bool
-rules_with sigs ends p = shape_rules p ++ ((has_its_types sigs p ∷ (has_its_attributes p ∷ (has_its_callee sigs p ∷ (ends ∷ [])))) ++ (linalg_rules p ++ range_rules p))
+abbrev rules_with : Signatures → Bool → Placed → List Kept
+rules_with sigs ends p =
+    shape_rules p
+    ++ (((rule.Types, has_its_types sigs p) ∷ ((rule.Attributes, has_its_attributes p) ∷ ((rule.Callees, has_its_callee sigs p) ∷ ((rule.Chains, ends) ∷ []))))
+    ++ (linalg_rules p ++ range_rules p))
 
 rules_by : (s t : Signatures) → s ≡ t → (b c : Bool) → b ≡ c → (p : Placed) → rules_with s b p ≡ rules_with t c p
 rules_by s t e b c h p = ap (λ x. rules_with x b p) e ∙ ap (λ x. rules_with t x p) h
@@ -110,25 +88,30 @@ new_same m f o ns n = ap (λ b. not b && nat_lt n.0 f.next) (among_same ns n) �
 
 -- ---- the same violation
 
+abbrev rules_from : Bool → Bool → List Kept → List Kept
+rules_from new functions more = (rule.Names, new) ∷ ((rule.Functions, functions) ∷ more)
+
 behind_same : (m : Module) (f : Facts) → IsOf m f → (x : OpName) (ns : List OpName) (ps : List Placed) → first_broken m (x ∷ ns) ps ≡ first_behind f (names_from (x ∷ ns)) ps
 behind_same m f o x ns [] = refl
 behind_same m f o x ns (p ∷ ps) = sym (
-    ap (λ bs. broken_or (first_false 1 bs) p.tree.name (first_behind f (names_from (p.tree.name ∷ (x ∷ ns))) ps)) rules
-    ∙ ap (broken_or (first_false 1 (rules_kept m (x ∷ ns) p)) p.tree.name) (sym (behind_same m f o p.tree.name (x ∷ ns) ps)))
+    ap (λ bs. broken_or (first_false bs) p.tree.name (first_behind f (names_from (p.tree.name ∷ (x ∷ ns))) ps)) rules
+    ∙ ap (broken_or (first_false (rules_kept m (x ∷ ns) p)) p.tree.name) (sym (behind_same m f o p.tree.name (x ∷ ns) ps)))
   where
     rules : rules_behind f (names_from (x ∷ ns)) p ≡ rules_kept m (x ∷ ns) p
-    rules = ap (λ (b : Bool). b ∷ (true ∷ rules_of f p)) (new_same m f o (x ∷ ns) p.tree.name) ∙ ap (λ (bs : List Bool). is_new_name m.next (x ∷ ns) p.tree.name ∷ (true ∷ bs)) (local_same m f o p)
+    rules =
+        ap (λ (b : Bool). rules_from b true (rules_of f p)) (new_same m f o (x ∷ ns) p.tree.name)
+        ∙ ap (rules_from (is_new_name m.next (x ∷ ns) p.tree.name) true) (local_same m f o p)
 
 -- where the root's name and its functions are right, the walk finds the first violation
 pub walk_finds : (m : Module) (f : Facts) → IsOf m f → holds_functions m ≡ true → (names : Names) → names ≡ set.empty →
     first_behind f names (stands top (type_at []) m.root no_ops ∷ blocks_stand (root_holder m.root) (type_at []) m.root.regions) ≡ first_violation m
 walk_finds m f o h names e =
     ap (λ x. first_behind f x (stands top (type_at []) m.root no_ops ∷ blocks_stand (root_holder m.root) (type_at []) m.root.regions)) e
-    ∙ ap (λ bs. broken_or (first_false 1 bs) m.root.name (first_behind f (names_from (m.root.name ∷ [])) (blocks_stand (root_holder m.root) (type_at []) m.root.regions))) rules
-    ∙ ap (broken_or (first_false 1 (rules_kept m [] (place top [] m.root no_ops))) m.root.name) (ap (first_behind f (names_from (m.root.name ∷ []))) (sym (blocks_same (root_holder m.root) m.root.regions)) ∙ sym (behind_same m f o m.root.name [] (blocks_placed (root_holder m.root) m.root.regions)))
+    ∙ ap (λ bs. broken_or (first_false bs) m.root.name (first_behind f (names_from (m.root.name ∷ [])) (blocks_stand (root_holder m.root) (type_at []) m.root.regions))) rules
+    ∙ ap (broken_or (first_false (rules_kept m [] (place top [] m.root no_ops))) m.root.name) (ap (first_behind f (names_from (m.root.name ∷ []))) (sym (blocks_same (root_holder m.root) m.root.regions)) ∙ sym (behind_same m f o m.root.name [] (blocks_placed (root_holder m.root) m.root.regions)))
   where
     rules : rules_behind f (names_from []) (place top [] m.root no_ops) ≡ rules_kept m [] (place top [] m.root no_ops)
     rules =
-        ap (λ (b : Bool). b ∷ (true ∷ rules_of f (place top [] m.root no_ops))) (new_same m f o [] m.root.name)
-        ∙ ap (λ (b : Bool). is_new_name m.next [] m.root.name ∷ (b ∷ rules_of f (place top [] m.root no_ops))) (sym h)
-        ∙ ap (λ (bs : List Bool). is_new_name m.next [] m.root.name ∷ (holds_functions m ∷ bs)) (local_same m f o (place top [] m.root no_ops))
+        ap (λ (b : Bool). rules_from b true (rules_of f (place top [] m.root no_ops))) (new_same m f o [] m.root.name)
+        ∙ ap (λ (b : Bool). rules_from (is_new_name m.next [] m.root.name) b (rules_of f (place top [] m.root no_ops))) (sym h)
+        ∙ ap (rules_from (is_new_name m.next [] m.root.name) (holds_functions m)) (local_same m f o (place top [] m.root no_ops))

@@ -12,19 +12,20 @@ use Rattle.xf_ir.specs.Lists.{every}
 use Rattle.xf_ir.specs.Types.{known}
 use Rattle.xf_ir.specs.Places.{Place, results_of, args_of}
 use Rattle.xf_ir.specs.Placed.{type_or, Holder, holder_of, Placed}
-use Rattle.xf_ir.specs.Calls.{has_its_callee}
+use Rattle.xf_ir.specs.Calls.{callee_ends, has_its_callee}
 use Rattle.xf_ir.specs.RuleBlocks.{has_its_regions, ends_its_blocks}
 use Rattle.xf_ir.specs.RuleTypes.{has_its_types}
 use Rattle.xf_ir.specs.RuleAttributes.{has_its_attributes, has_types_in_range}
 use Rattle.xf_ir.specs.RuleLinalg.{has_its_maps, has_its_iterators, has_its_reduction, has_its_extents, fits_its_body}
 use Rattle.xf_ir.specs.RuleSlices.{has_its_slices}
-use Rattle.xf_ir.specs.Violations.{Violation, first_false, broken_or}
+use Rattle.xf_ir.specs.declared.rule.Rule.TheVariants as rule
+use Rattle.xf_ir.specs.Violations.{Violation, Kept, first_false, broken_or}
 pub use Rattle.xf_verify.specs.Verdict.{Answers}
 use Rattle.xf_verify.specs.declared.facts.Facts.{Facts}
 use Rattle.xf_verify.specs.declared.stand.Holder.{Holder as HolderSeen}
 use Rattle.xf_verify.specs.declared.stand.Stand.{Stand}
 use Rattle.xf_verify.specs.declared.walk.Walk.{Walk}
-use Rattle.xf_verify.specs.Chains.{signatures_in, ends_in, callee_ends}
+use Rattle.xf_verify.specs.Chains.{signatures_in, ends_in}
 use Rattle.xf_rules.specs.OperandTypes.{operand_types}
 use Rattle.xf_rules.specs.Given.{gives_seen}
 use Rattle.xf_verify.specs.Visible.{definitions_in}
@@ -72,20 +73,35 @@ all_stand h see t = stands h see t no_ops ∷ blocks_stand (holder_of t.kind (ma
 
 -- ---- the rules that each keeps
 
-abbrev pub shape_rules : Placed → List Bool
-shape_rules p = has_its_regions p ∷ (ends_its_blocks p ∷ (every known p.types ∷ []))
+abbrev pub shape_rules : Placed → List Kept
+shape_rules p =
+    (rule.Regions, has_its_regions p)
+    ∷ ((rule.Blocks, ends_its_blocks p)
+    ∷ ((rule.Uses, every known p.types)
+    ∷ []))
 
-abbrev pub type_rules : Facts → Placed → List Bool
-type_rules f p = has_its_types (signatures_in f.calls) p ∷ (has_its_attributes p ∷ (has_its_callee (signatures_in f.calls) p ∷ (callee_ends (ends_in f.calls) p.tree.kind ∷ [])))
+abbrev pub type_rules : Facts → Placed → List Kept
+type_rules f p =
+    (rule.Types, has_its_types (signatures_in f.calls) p)
+    ∷ ((rule.Attributes, has_its_attributes p)
+    ∷ ((rule.Callees, has_its_callee (signatures_in f.calls) p)
+    ∷ ((rule.Chains, callee_ends (ends_in f.calls) p.tree.kind)
+    ∷ [])))
 
-abbrev pub linalg_rules : Placed → List Bool
-linalg_rules p = has_its_maps p ∷ (has_its_iterators p ∷ (has_its_reduction p ∷ (has_its_extents p ∷ (fits_its_body p ∷ []))))
+abbrev pub linalg_rules : Placed → List Kept
+linalg_rules p =
+    (rule.Maps, has_its_maps p)
+    ∷ ((rule.Iterators, has_its_iterators p)
+    ∷ ((rule.Reductions, has_its_reduction p)
+    ∷ ((rule.Extents, has_its_extents p)
+    ∷ ((rule.Bodies, fits_its_body p)
+    ∷ []))))
 
-abbrev pub range_rules : Placed → List Bool
-range_rules p = has_types_in_range p ∷ (has_its_slices p ∷ [])
+abbrev pub range_rules : Placed → List Kept
+range_rules p = (rule.Ranges, has_types_in_range p) ∷ ((rule.Slices, has_its_slices p) ∷ [])
 
 -- V3 to V16
-abbrev pub rules_of : Facts → Placed → List Bool
+abbrev pub rules_of : Facts → Placed → List Kept
 rules_of f p = shape_rules p ++ (type_rules f p ++ (linalg_rules p ++ range_rules p))
 
 abbrev pub Names : Type 0
@@ -95,14 +111,14 @@ abbrev pub is_new : Facts → Names → OpName → Bool
 is_new f names n = not (set.contains names n.0) && nat_lt n.0 f.next
 
 -- V1 to V16; the root alone can break V2
-abbrev pub rules_behind : Facts → Names → Placed → List Bool
-rules_behind f names p = is_new f names p.tree.name ∷ (true ∷ rules_of f p)
+abbrev pub rules_behind : Facts → Names → Placed → List Kept
+rules_behind f names p = (rule.Names, is_new f names p.tree.name) ∷ ((rule.Functions, true) ∷ rules_of f p)
 
 -- ---- the first violation
 
 abbrev pub first_behind : Facts → Names → List Placed → Option Violation
 first_behind f names [] = None
-first_behind f names (p ∷ ps) = broken_or (first_false 1 (rules_behind f names p)) p.tree.name (first_behind f (set.insert names p.tree.name.0) ps)
+first_behind f names (p ∷ ps) = broken_or (first_false (rules_behind f names p)) p.tree.name (first_behind f (set.insert names p.tree.name.0) ps)
 
 -- the names before what stands behind these operations
 abbrev pub names_behind : Names → List Placed → Names

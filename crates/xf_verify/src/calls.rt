@@ -1,10 +1,10 @@
 //! The functions of a module by their symbols, and how deep the calls from each go.
 ghost use Rattle.std.specs.Prelude.{◌≡◌, ◌++◌, Some, [], map, IfOk, OnOk};
 ghost use Rattle.std.specs.Option.{option_copied};
-ghost use Rattle.xf_ir.specs.Calls.{signatures, signature, callee_before, regions_callees, chains_end};
+ghost use Rattle.xf_ir.specs.Calls.{signatures, signature, callee_before, callee_ends, regions_callees, chains_end};
 ghost use Rattle.xf_ir.specs.Lists.{every};
 ghost use Rattle.xf_ir.specs.Placed.{functions_of};
-ghost use Rattle.xf_verify.specs.Chains.{no_numbers, numbers_in, with_number, number_from, pick, numbers_called, tree_calls, ends_at, ends_after, signatures_in, ends_in, callee_ends};
+ghost use Rattle.xf_verify.specs.Chains.{no_numbers, numbers_in, with_number, number_from, pick, numbers_called, tree_calls, ends_at, ends_after, signatures_in, ends_in};
 ghost use Rattle.xf_rules.specs.Given.{callee_of, callee_seen};
 
 use crate::functions::functions_of;
@@ -152,19 +152,19 @@ fn ends_of(alloc: Global, calls: &[CalleeList]) -> Result<Vec<bool>, NoMemory>
     Ok(ends)
 }
 
-/// What a function takes and gives.
+/// The signature of a function.
 fn signature_of(function: &Op) -> Signature<'_>
     ensures { callee_seen (Some result) ≡ signature (Some function.now) }
 {
-    let takes = match function.regions.first() {
+    let inputs = match function.regions.first() {
         Some(block) => block.args.as_slice(),
         None => &[],
     };
-    let gives = match &function.kind {
+    let results = match &function.kind {
         Kind::Func { results, .. } => results.as_slice(),
         _ => &[],
     };
-    Signature { takes, gives }
+    Signature { inputs, results }
 }
 
 impl<'a> Calls<'a> {
@@ -194,7 +194,7 @@ impl<'a> Calls<'a> {
         self.functions.get(*number)
     }
 
-    /// What the function takes and gives that an operation calls; `None` where it calls none that there is.
+    /// The signature of the function that an operation calls; `None` where it calls none that there is.
     pub fn callee(&self, kind: &Kind) -> Option<Signature<'a>>
         ensures { callee_seen result ≡ callee_of (signatures_in self.now) kind.now }
     {

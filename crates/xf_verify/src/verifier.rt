@@ -15,7 +15,8 @@ use crate::scope::Scope;
 use crate::stand::Holder;
 use crate::walk::{Walk, blocks, enter};
 use std::alloc::Global;
-use xf_ir::{Kind, Module, NameSet, Op, valid_has_no_violation};
+use xf_ir::{Kind, Module, NameSet, Op, Rule};
+use xf_ir_laws::valid_has_no_violation;
 use xf_rules::Gives;
 
 /// Judges the root by all rules but V2, and then what it holds. What holds the root is as if a module did.
@@ -54,16 +55,10 @@ pub fn verify(alloc: Global, m: &Module) -> Result<(), VerifyFault>
     valid_has_no_violation();
     let root = &m.root;
     if root.name.0 >= m.next {
-        return Err(VerifyFault::Rule {
-            rule: 1,
-            op: root.name,
-        });
+        return Err(VerifyFault::breaks(Rule::Names, root.name));
     }
     if !holds_functions(alloc, m)? {
-        return Err(VerifyFault::Rule {
-            rule: 2,
-            op: root.name,
-        });
+        return Err(VerifyFault::breaks(Rule::Functions, root.name));
     }
     let facts = Facts {
         next: m.next,

@@ -12,7 +12,7 @@ use crate::local::broken_rule;
 use crate::scope::{Definition, Scope};
 use crate::stand::{Holder, Stand, holder_of};
 use std::alloc::Global;
-use xf_ir::{NameSet, Op};
+use xf_ir::{NameSet, Op, Rule};
 
 /// Where the walk stands: the names of the operations before, and the values that are visible.
 #[derive(Drop)]
@@ -44,10 +44,10 @@ fn judge(
     let name = op.name;
     let is_first = names.insert(name)?;
     if !is_first || name.0 >= facts.next {
-        return Err(VerifyFault::Rule { rule: 1, op: name });
+        return Err(VerifyFault::breaks(Rule::Names, name));
     }
     match broken_rule(alloc, facts, stand)? {
-        Some(rule) => Err(VerifyFault::Rule { rule, op: name }),
+        Some(rule) => Err(VerifyFault::breaks(rule, name)),
         None => Ok(()),
     }
 }
