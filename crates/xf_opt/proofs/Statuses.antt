@@ -65,6 +65,12 @@ at_reads well e = e
 at_reads (at last) e = omega arith
 at_reads anywhere e = e
 
+-- past the reads the words were understood
+pub words_read : (end : End) → (EndsBefore stage.script end → ⊥) → EndsBefore stage.reads end → ⊥
+words_read well past e = e
+words_read (at last) past e = past (omega arith)
+words_read anywhere past e = e
+
 pub words_passed : (r : Refusal) (status : ℕ) → status ≡ status_of r → (EndsBefore stage.reads (stage_of r) → ⊥) → EndsAt stage.words (ending status) → ⊥
 words_passed r status e past w = past (at_words (stage_of r) (subst (λ n. EndsAt stage.words (ending n)) e w))
 

@@ -1,8 +1,8 @@
 -- The stages of a call, in order, and what the end of a call says of each.
 use Rattle.std.specs.Prelude.{◌≡◌, ◌<◌, ◌⊎◌, ℕ, ⊤}
 
--- what a call does, in this order: it reads the words and the files, judges the script and the payload, judges the uses of
--- handles, runs the script and writes the text
+-- what a call does, in this order: it reads the words and the files, judges the script and the payload, judges the uses
+-- of handles, runs the script and writes the text
 pub data Stage : Type 0 where
   words : Stage
   reads : Stage
@@ -22,7 +22,7 @@ rank uses = 4
 rank run = 5
 rank write = 6
 
--- where a call ends: well, past all stages; at the first stage whose condition fails; or for want of memory, at any stage
+-- where a call ends: well, past all stages; at the first stage whose condition fails; or for want of memory, at any
 pub data End : Type 0 where
   well : End
   at : Stage → End
@@ -58,8 +58,8 @@ EndsAnywhere well = ⊥
 EndsAnywhere (at last) = ⊥
 EndsAnywhere anywhere = ⊤
 
--- what an end says of a stage: past it the condition held; a call that ended there has the cause; and whatever the end, nothing
--- was written unless the condition held
+-- what an end says of a stage: past it the condition held; a call that ended there has the cause; and whatever the end,
+-- nothing was written unless the condition held
 pub record Judges (stage : Stage) (end : End) (Holds Cause Untouched : Type 0) : Type 0 where
   pub past : IsPast stage end → Holds
   pub ended : EndsAt stage end → Cause
