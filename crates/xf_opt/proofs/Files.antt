@@ -55,7 +55,7 @@ module _ (file part : List ℕ) (e : part ≡ take (file_limit + 1) file) where
   part_of_script : IsScriptFile file → IsScriptFile part
   part_of_script s = ⊎_elim (λ (same : part ≡ file). subst IsScriptFile (sym same) s) (λ (long : AreLong file part). absurd (let a = s.fits in let b = long.1 in omega arith)) (part_cases file part e)
 
--- ---- payloads
+  -- ---- payloads
 
   holds_of_part : (m : Module) → IsPayload part m → IsPayload file m
   holds_of_part m s = ⊎_elim (λ (same : part ≡ file). subst (λ f. IsPayload f m) same s) (λ (long : AreLong file part). absurd (let a = s.fits in let b = long.0 in omega arith)) (part_cases file part e)
@@ -82,7 +82,7 @@ module _ (file part : List ℕ) (e : part ≡ take (file_limit + 1) file) where
   accepts_of_part (verify p) a = (a.0, holds_of_part a.0 a.1)
   accepts_of_part (print p) a = (a.0, holds_of_part a.0 a.1)
 
--- ---- the text that is owed
+  -- ---- the text that is owed
 
   reaches_of_part : (journal : List Entry) (after : Module) → Reaches part journal after → Reaches file journal after
   reaches_of_part journal after r = record { before = r.before; holds = runnable_of_part r.before r.holds; runs = r.runs; few = r.few; keeps = r.keeps; valid_after = r.valid_after }
@@ -106,7 +106,7 @@ module _ (file part : List ℕ) (e : part ≡ take (file_limit + 1) file) where
   most_of_part asked old new w =
       ⊎_elim (λ (same : new ≡ old). inl same) (λ (x : (js : List Entry) × WritesPrefix asked part js old new). inr (x.0, prefix_of_part asked x.0 old new x.1)) w
 
--- ---- the end, said of the file
+  -- ---- the end, said of the file
 
   script_end : (end : End) (old new : Option (List ℕ)) → JudgesScript end old new part → JudgesScript end old new file
   script_end end old new j = judged_alike _ end _ _ _ _ _ script_of_part (λ no s. no (part_of_script s)) j

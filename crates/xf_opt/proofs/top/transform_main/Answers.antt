@@ -28,19 +28,19 @@ returns-in-Err-clause-reads g c =
 pub returns-in-Err-clause-script : goal.returns-in-Err-clause-script
 returns-in-Err-clause-script g c =
     of_all (λ (asked : Option Asked) (end : End) (fault : Option Fault). OnScript asked (g.F.Files.holds c.args.files.now)
-        (JudgesScript end (g.S.Sink.written c.args.out.now) (g.S.Sink.written c.execute.new.out)))
+    (JudgesScript end (g.S.Sink.written c.args.out.now) (g.S.Sink.written c.execute.new.out)))
     _ (asked_by c.in-Some.command) c.in-Err.refusal c.status.result c.fault-in-Err.result c.in-Some.ensures c.status.ensures c.fault-in-Err.ensures c.in-Err.ensures.script
 
 pub returns-in-Err-clause-payload : goal.returns-in-Err-clause-payload
 returns-in-Err-clause-payload g c =
     of_all (λ (asked : Option Asked) (end : End) (fault : Option Fault). OnPayload asked (g.F.Files.holds c.args.files.now)
-        (JudgesPayload end fault (g.S.Sink.written c.args.out.now) (g.S.Sink.written c.execute.new.out)))
+    (JudgesPayload end fault (g.S.Sink.written c.args.out.now) (g.S.Sink.written c.execute.new.out)))
     _ (asked_by c.in-Some.command) c.in-Err.refusal c.status.result c.fault-in-Err.result c.in-Some.ensures c.status.ensures c.fault-in-Err.ensures c.in-Err.ensures.payload
 
 pub returns-in-Err-clause-text : goal.returns-in-Err-clause-text
 returns-in-Err-clause-text g c =
     of_all (λ (asked : Option Asked) (end : End) (fault : Option Fault). OnPayload asked (g.F.Files.holds c.args.files.now)
-        (Writes end c.execute.new.journal (g.S.Sink.written c.args.out.now) (g.S.Sink.written c.execute.new.out)))
+    (Writes end c.execute.new.journal (g.S.Sink.written c.args.out.now) (g.S.Sink.written c.execute.new.out)))
     _ (asked_by c.in-Some.command) c.in-Err.refusal c.status.result c.fault-in-Err.result c.in-Some.ensures c.status.ensures c.fault-in-Err.ensures c.in-Err.ensures.text
 
 pub returns-in-Err-clause-fault : goal.returns-in-Err-clause-fault
