@@ -1,5 +1,5 @@
 -- What the refusal of a call says of its status, its fault and its line.
-use Rattle.std.proofs.Common.{◌≡◌, ◌≢◌, ℕ, List, [], Option, Some, None, Result, Ok, Err, refl, sym, ap, subst, inl, inr, ◌∙◌, ◌↔◌, arith}
+use Rattle.std.proofs.Common.{◌≡◌, ◌≢◌, ℕ, List, [], Option, Some, None, Result, Ok, Err, true, false, refl, sym, ap, subst, inl, inr, ◌∙◌, ◌↔◌, arith}
 use Rattle.std.specs.Prelude.{IfErr, IsNone}
 use Rattle.xf_span.specs.declared.code.Code.TheVariants as code
 use Rattle.xf_span.specs.declared.fault.Fault.{Fault}
@@ -26,13 +26,13 @@ record Agrees (r : Refusal) : Type 0 where
   fault : FaultIs (status_of r) (Some (fault_of r))
 
 agrees : (r : Refusal) → Agrees r
-agrees because.Words = record { known = tt; bad = λ e. omega arith; fault = refl }
-agrees because.ScriptRead = record { known = tt; bad = λ e. omega arith; fault = refl }
-agrees because.PayloadRead = record { known = tt; bad = λ e. omega arith; fault = refl }
-agrees because.Script = record { known = tt; bad = λ e. omega arith; fault = refl }
-agrees (because.Payload f) = record { known = tt; bad = λ e. omega arith; fault = tt }
-agrees because.Write = record { known = tt; bad = λ e. omega arith; fault = refl }
-agrees because.NoMemory = record { known = tt; bad = λ e. omega arith; fault = refl }
+agrees because.Words = record { known = refl; bad = λ e. omega arith; fault = refl }
+agrees because.ScriptRead = record { known = refl; bad = λ e. omega arith; fault = refl }
+agrees because.PayloadRead = record { known = refl; bad = λ e. omega arith; fault = refl }
+agrees because.Script = record { known = refl; bad = λ e. omega arith; fault = refl }
+agrees (because.Payload f) = record { known = refl; bad = λ e. omega arith; fault = refl }
+agrees because.Write = record { known = refl; bad = λ e. omega arith; fault = refl }
+agrees because.NoMemory = record { known = refl; bad = λ e. omega arith; fault = refl }
 
 pub status_known : (r : Refusal) (status : ℕ) → status ≡ status_of r → IsStatus status
 status_known r status e = subst IsStatus (sym e) (agrees r).known
@@ -76,7 +76,7 @@ words_passed r status e past w = past (at_words (stage_of r) (subst (λ n. EndsA
 
 pub words_understood : (command : Option Asked) (asked : Asked) (r : Refusal) (status : ℕ) → Some asked ≡ command → status ≡ status_of r → (EndsBefore stage.reads (stage_of r) → ⊥) → EndsAt stage.words (ending status) ↔ IsNone command
 words_understood command asked r status p e past =
-    (λ w. absurd (words_passed r status e past w), subst (λ (c : Option Asked). IsNone c → EndsAt stage.words (ending status)) p (λ n. absurd n))
+    (λ w. absurd (words_passed r status e past w), subst (λ (c : Option Asked). IsNone c → EndsAt stage.words (ending status)) p (λ n. let never : true ≡ false = n in absurd (cc)))
 
 -- ---- failed reads, and paths
 
