@@ -6,7 +6,7 @@ use Rattle.xf_lex.specs.contracts.token.TokenKindPartialEq.TheImpl as kind_eq
 use Rattle.xf_lex.specs.declared.token.TokenKind.{TokenKind}
 use Rattle.xf_lex.specs.declared.token.TokenKind.TheVariants as kind
 use Rattle.xf_lex.specs.declared.token.Token.{Token}
-use Rattle.xf_lex.specs.Bytes.{is_digit}
+use Rattle.xf_type.specs.Bytes.{is_digit}
 
 -- a token by its kind, and by its bytes where they tell more than the kind; or the end of the text
 pub data Seen : Type 0 where

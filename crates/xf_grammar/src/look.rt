@@ -1,10 +1,9 @@
 //! What stands at a number in a list of tokens.
-ghost use Rattle.std.specs.Prelude.{◌≡◌, ◌<◌, ◌≤◌, ◌^◌, length, min, IsTrue};
-ghost use Rattle.std.specs.Char.{digit_value};
-ghost use Rattle.std.specs.Str.Parse.{digits_value};
+ghost use Rattle.std.specs.Prelude.{◌≡◌, ◌<◌, length, IsTrue};
 ghost use Rattle.xf_grammar.specs.Tokens.{looks, says, word_at, number_of, number_at, is_index_at};
 
 use xf_lex::{Token, TokenKind};
+use xf_type::{TOO_LARGE, number_of};
 
 /// Whether a token of this kind stands there.
 pub fn looks(tokens: &[Token], at: usize, kind: TokenKind) -> bool
@@ -49,39 +48,12 @@ pub fn says(tokens: &[Token], at: usize, word: &[u8]) -> bool
     }
 }
 
-/// What a digit counts; a byte that is none counts 36.
-fn digit_value(b: u8) -> u128
-    ensures value { result ≡ digit_value b }
-    ensures small { result ≤ 36 }
-{
-    match b {
-        b'0'..=b'9' => u128::from(b - b'0'),
-        b'A'..=b'Z' => u128::from(b - b'A') + 10,
-        b'a'..=b'z' => u128::from(b - b'a') + 10,
-        _ => 36,
-    }
-}
-
-/// More than the number of any integer token.
-const LIMIT: u128 = 1 << 64;
-
-/// The number that decimal digits write, or `LIMIT` where it is that or more.
-fn cut_number(digits: &[u8]) -> u128
-    ensures { result ≡ min (digits_value 10 digits.now) (2 ^ 64) }
-{
-    let mut value = 0;
-    for b in digits {
-        value = (value * 10 + digit_value(*b)).min(LIMIT);
-    }
-    value
-}
-
 /// The number that decimal digits write, or 2^64 - 1 where it is more.
 pub fn number(digits: &[u8]) -> u64
     ensures { result ≡ number_of digits.now }
 {
-    let value = cut_number(digits);
-    if value < LIMIT {
+    let value = number_of(digits);
+    if value < TOO_LARGE {
         value as u64
     } else {
         u64::MAX

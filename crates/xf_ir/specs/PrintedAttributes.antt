@@ -4,7 +4,7 @@ use Rattle.std.specs.List.{flat_map}
 use Rattle.xf_type.specs.declared.attribute.AttrValue.{AttrValue}
 use Rattle.xf_type.specs.declared.attribute.AttrValue.TheVariants.{Unit as unit_attr, Int, Text}
 use Rattle.xf_ir.specs.declared.kind.Attr.{Attr}
-use Rattle.xf_ir.specs.Words.{between}
+use Rattle.xf_type.specs.Bytes.{between}
 use Rattle.xf_ir.specs.PrintedWords.{listed}
 use Rattle.xf_ir.specs.PrintedNumbers.{literal_text}
 

@@ -1,7 +1,8 @@
 -- What stands first where a digit does.
 use Rattle.std.proofs.Common.{◌≡◌, ℕ, ◌+◌, ◌-◌, ◌≤◌, Bool, true, false, List, [], ◌∷◌, length, take, drop, get_or, ap, ◌∙◌, add-one, arith}
 use Rattle.std.proofs.lemmas.List.{take_all}
-use Rattle.xf_lex.specs.Bytes.{is_digit, is_letter, run}
+use Rattle.xf_type.specs.Bytes.{is_digit, is_letter}
+use Rattle.xf_lex.specs.Bytes.{run}
 use Rattle.xf_lex.specs.Fronts.{integer_of, token_at}
 
 pub digit_front : (after_tensor : Bool) (bs : List ℕ) (n : ℕ) → 1 ≤ length bs → is_letter (get_or bs 0 0) ≡ false → is_digit (get_or bs 0 0) ≡ true

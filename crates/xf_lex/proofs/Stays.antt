@@ -4,7 +4,8 @@ use Rattle.std.specs.Fmt.{decimal}
 use Rattle.std.proofs.lemmas.Bool.{le-leb}
 use Rattle.std.proofs.lemmas.Fmt.{decimal_by_steps}
 use Rattle.xf_lex.specs.declared.token.TokenKind.TheVariants as kind
-use Rattle.xf_lex.specs.Bytes.{is_digit, is_letter, is_word_byte, run}
+use Rattle.xf_type.specs.Bytes.{is_digit, is_letter, is_word_byte}
+use Rattle.xf_lex.specs.Bytes.{run}
 use Rattle.xf_lex.specs.Laid.{Plain, Stays}
 
 abbrev pub AllPass : (ℕ → Bool) → List ℕ → Type 0

@@ -1,19 +1,6 @@
--- Bytes by class, and how many at the front of a text are of one.
-use Rattle.std.specs.Prelude.{ℕ, suc, List, [], ◌∷◌, Bool, true, false, not, ◌==◌, ◌&&◌, ◌||◌, if◌then◌else◌, nat_le}
-
-abbrev pub between : ℕ → ℕ → ℕ → Bool
-between least most b = nat_le least b && nat_le b most
-
-abbrev pub is_digit : ℕ → Bool
-is_digit b = between 48 57 b
-
--- a letter or _
-abbrev pub is_letter : ℕ → Bool
-is_letter b = (between 97 122 b || between 65 90 b) || (b == 95)
-
--- a byte of a word behind its first: a letter, a digit, _, $ or .
-abbrev pub is_word_byte : ℕ → Bool
-is_word_byte b = (is_letter b || is_digit b) || ((b == 36) || (b == 46))
+-- Bytes of blanks, names, shapes and marks, and how many at the front of a text are of one.
+use Rattle.std.specs.Prelude.{ℕ, suc, List, [], ◌∷◌, Bool, true, false, not, ◌==◌, ◌&&◌, ◌||◌, if◌then◌else◌}
+use Rattle.xf_type.specs.Bytes.{is_digit, is_letter}
 
 -- a letter or one of $ . _ -, as a value's name may begin with
 abbrev pub is_name_start : ℕ → Bool
@@ -22,10 +9,6 @@ is_name_start b = is_letter b || (((b == 36) || (b == 46)) || (b == 45))
 -- a byte of a value's name that began with no digit
 abbrev pub is_name_byte : ℕ → Bool
 is_name_byte b = is_name_start b || is_digit b
-
--- a hexadecimal digit
-abbrev pub is_hex : ℕ → Bool
-is_hex b = (is_digit b || between 97 102 b) || between 65 70 b
 
 -- what a shape goes on with: any byte of the line but >
 abbrev pub is_shape_byte : ℕ → Bool

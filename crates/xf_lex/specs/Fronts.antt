@@ -6,7 +6,8 @@ use Rattle.xf_lex.specs.declared.token.TokenKind.{TokenKind}
 use Rattle.xf_lex.specs.declared.token.TokenKind.TheVariants as kind
 use Rattle.xf_lex.specs.declared.front.Front.{Front}
 use Rattle.xf_lex.specs.declared.front.Front.TheVariants.{End, Token, Fault}
-use Rattle.xf_lex.specs.Bytes.{is_digit, is_letter, is_word_byte, is_name_start, is_name_byte, is_hex, is_shape_byte, is_mark, run, starts}
+use Rattle.xf_type.specs.Bytes.{is_digit, is_letter, is_word_byte, is_hex}
+use Rattle.xf_lex.specs.Bytes.{is_name_start, is_name_byte, is_shape_byte, is_mark, run, starts}
 
 -- ---- strings
 

@@ -1,7 +1,9 @@
 //! Bytes by class.
 ghost use Rattle.std.specs.Prelude.{◌≡◌, ◌≤◌, length};
-ghost use Rattle.xf_lex.specs.Bytes.{is_digit, is_letter, is_name_start, is_hex, is_blank, is_mark, run, starts, gap};
+ghost use Rattle.xf_lex.specs.Bytes.{is_name_start, is_blank, is_mark, run, starts, gap};
 ghost use Rattle.xf_lex.specs.Classes.{has};
+
+use xf_type::{is_digit, is_letter, is_word_byte};
 
 /// A set of bytes that a token is made of.
 #[derive(Clone, Copy, Debug, PartialEq, Eq)]
@@ -15,30 +17,10 @@ pub enum Class {
     ShapeByte,
 }
 
-pub fn is_digit(b: u8) -> bool
-    ensures { result ≡ is_digit b }
-{
-    b'0' <= b && b <= b'9'
-}
-
-/// Whether a byte is a letter or `_`.
-pub fn is_letter(b: u8) -> bool
-    ensures { result ≡ is_letter b }
-{
-    b'a' <= b && b <= b'z' || b'A' <= b && b <= b'Z' || b == b'_'
-}
-
 pub fn is_name_start(b: u8) -> bool
     ensures { result ≡ is_name_start b }
 {
     is_letter(b) || (b == b'$' || b == b'.' || b == b'-')
-}
-
-/// Whether a byte is a hexadecimal digit.
-pub fn is_hex(b: u8) -> bool
-    ensures { result ≡ is_hex b }
-{
-    is_digit(b) || b'a' <= b && b <= b'f' || b'A' <= b && b <= b'F'
 }
 
 fn is_blank(b: u8) -> bool
@@ -62,7 +44,7 @@ fn has(class: Class, b: u8) -> bool
 {
     match class {
         Class::Digit => is_digit(b),
-        Class::WordByte => is_letter(b) || is_digit(b) || (b == b'$' || b == b'.'),
+        Class::WordByte => is_word_byte(b),
         Class::NameByte => is_name_start(b) || is_digit(b),
         Class::ShapeByte => !(b == b'>' || b == b'\n'),
     }

@@ -1,16 +1,12 @@
 //! What stands first in a text.
-ghost use Rattle.std.specs.Prelude.{◌≡◌, ◌≤◌, ◌<◌, ◌+◌, ◌^◌, length, min};
-ghost use Rattle.std.specs.Char.{digit_value};
-ghost use Rattle.std.specs.Str.Parse.{digits_value};
+ghost use Rattle.std.specs.Prelude.{◌≡◌, ◌≤◌, ◌<◌, ◌+◌, length};
 ghost use Rattle.xf_lex.specs.Fronts.{string_of, string_at, value_at, named_at, hash_at, shape_at, integer_of, sign_at, token_at, IsWithin};
 
-use crate::byte_class::{Class, is_digit, is_letter, is_mark, is_name_start, run, starts};
+use crate::byte_class::{Class, is_mark, is_name_start, run, starts};
 use crate::quoted::{escaped, quoted};
 use crate::token::TokenKind;
 use xf_span::Code;
-
-/// More than the number of any integer.
-const LIMIT: u128 = 1 << 64;
+use xf_type::{TOO_LARGE, is_digit, is_letter, number_of};
 
 /// What stands first in a text.
 #[derive(Clone, Copy, Debug, PartialEq, Eq)]
@@ -114,37 +110,13 @@ fn shape_at(bytes: &[u8]) -> Front
     }
 }
 
-/// What a digit counts; a byte that is none counts 36.
-fn digit_value(b: u8) -> u128
-    ensures value { result ≡ digit_value b }
-    ensures small { result ≤ 36 }
-{
-    match b {
-        b'0'..=b'9' => u128::from(b - b'0'),
-        b'A'..=b'Z' => u128::from(b - b'A') + 10,
-        b'a'..=b'z' => u128::from(b - b'a') + 10,
-        _ => 36,
-    }
-}
-
-/// The number that decimal digits write, or `LIMIT` where it is that or more.
-fn number_of(digits: &[u8]) -> u128
-    ensures { result ≡ min (digits_value 10 digits.now) (2 ^ 64) }
-{
-    let mut value = 0;
-    for b in digits {
-        value = (value * 10 + digit_value(*b)).min(LIMIT);
-    }
-    value
-}
-
 /// What digits are.
 fn integer_of(digits: &[u8]) -> Front
     requires { 0 < length digits.now }
     ensures value { result ≡ integer_of digits.now }
     ensures within { IsWithin result (length digits.now) }
 {
-    if number_of(digits) < LIMIT {
+    if number_of(digits) < TOO_LARGE {
         Front::Token(TokenKind::Integer, digits.len())
     } else {
         Front::Fault(Code::L3, 0)

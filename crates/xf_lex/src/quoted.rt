@@ -2,7 +2,7 @@
 ghost use Rattle.std.specs.Prelude.{◌≡◌, ◌≤◌, length, false};
 ghost use Rattle.xf_lex.specs.Fronts.{quoted_in, starts_hex, is_escape, escaped_in};
 
-use crate::byte_class::is_hex;
+use xf_type::is_hex;
 
 /// How many bytes stand before the quote that ends a string, before the end of the line, or else
 /// in all.

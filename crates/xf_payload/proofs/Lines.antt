@@ -13,7 +13,8 @@ use Rattle.xf_lex.specs.declared.token.TokenKind.{TokenKind}
 use Rattle.xf_lex.specs.declared.token.TokenKind.TheVariants as kind
 use Rattle.xf_lex.specs.declared.front.Front.{Front}
 use Rattle.xf_lex.specs.declared.front.Front.TheVariants as front
-use Rattle.xf_lex.specs.Bytes.{is_digit, is_letter, is_word_byte, is_name_start, is_name_byte, is_mark, run, starts}
+use Rattle.xf_type.specs.Bytes.{is_digit, is_letter, is_word_byte}
+use Rattle.xf_lex.specs.Bytes.{is_name_start, is_name_byte, is_mark, run, starts}
 use Rattle.xf_lex.specs.Fronts.{quoted_in, string_of, string_at, value_at, named_at, hash_at, shape_at, integer_of, sign_at, token_at}
 use Rattle.xf_lex.specs.Lexes.{HasFault, text_at}
 use Rattle.xf_read_base.specs.declared.verdict.Verdict.{Verdict}

@@ -1,7 +1,7 @@
 -- What a string stands for.
 use Rattle.std.specs.Prelude.{ℕ, ◌+◌, ◌*◌, ◌%◌, List, [], ◌∷◌, drop, ◌==◌, if◌then◌else◌}
 use Rattle.std.specs.Char.{digit_value}
-use Rattle.xf_lex.specs.Bytes.{is_hex}
+use Rattle.xf_type.specs.Bytes.{is_hex}
 use Rattle.xf_read_base.specs.declared.quoted.Escape.{Escape}
 use Rattle.xf_read_base.specs.declared.quoted.Escape.TheVariants as escape
 use Rattle.xf_read_base.specs.declared.quoted.Step.{Step}

@@ -5,7 +5,7 @@ use Rattle.std.specs.List.{starts_with, list_any}
 use Rattle.std.specs.Option.{option_or}
 use Rattle.std.specs.Str.{bytes_eq}
 use Rattle.xf_lex.specs.declared.token.TokenKind.TheVariants as kind
-use Rattle.xf_lex.specs.Bytes.{is_digit}
+use Rattle.xf_type.specs.Bytes.{is_digit}
 use Rattle.xf_grammar.specs.Tokens.{Seen, is_kind, is_word, word_of, less, open_paren, open_bracket, open_brace, close_brace}
 use Rattle.xf_read_base.specs.declared.due.Due.{Due}
 use Rattle.xf_read_base.specs.declared.due.Due.TheVariants as due

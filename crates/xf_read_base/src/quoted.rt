@@ -1,11 +1,9 @@
 //! What a string stands for.
 ghost use Rattle.std.specs.Prelude.{◌≡◌, ◌≤◌, drop, length, IfOk};
-ghost use Rattle.std.specs.Char.{digit_value};
-ghost use Rattle.xf_lex.specs.Bytes.{is_hex};
 ghost use Rattle.xf_read_base.specs.Strings.{escaped_byte, step_of, decoded};
 
 use std::alloc::Global;
-use xf_type::{ByteList, NoMemory};
+use xf_type::{ByteList, NoMemory, digit_value, is_hex};
 
 /// What stands before a byte of a string.
 #[derive(Clone, Copy)]
@@ -37,25 +35,6 @@ pub fn behind_first(bytes: &[u8]) -> &[u8]
         [] => bytes,
         [_, rest @ ..] => rest,
     }
-}
-
-/// What a digit counts; a byte that is none counts 36.
-fn digit_value(b: u8) -> u32
-    ensures value { result ≡ digit_value b }
-    ensures small { result ≤ 36 }
-{
-    match b {
-        b'0'..=b'9' => u32::from(b - b'0'),
-        b'A'..=b'Z' => u32::from(b - b'A') + 10,
-        b'a'..=b'z' => u32::from(b - b'a') + 10,
-        _ => 36,
-    }
-}
-
-fn is_hex(b: u8) -> bool
-    ensures { result ≡ is_hex b }
-{
-    matches!(b, b'0'..=b'9' | b'a'..=b'f' | b'A'..=b'F')
 }
 
 /// The byte that a letter or a mark behind a `\` stands for.

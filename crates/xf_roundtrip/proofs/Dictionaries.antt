@@ -13,7 +13,7 @@ use Rattle.std.proofs.lemmas.Bool.Decides.{nat_tests}
 use Rattle.std.proofs.lemmas.Slice.Eq.{bytes_eq-Decides}
 use Rattle.xf_type.specs.declared.attribute.AttrValue.{AttrValue}
 use Rattle.xf_type.specs.declared.attribute.AttrValue.TheVariants as attr
-use Rattle.xf_lex.specs.Bytes.{is_hex}
+use Rattle.xf_type.specs.Bytes.{is_hex}
 use Rattle.xf_ir.specs.declared.kind.Attr.{Attr}
 use Rattle.xf_ir.specs.Attributes.{bytes_before}
 use Rattle.xf_ir.specs.Lists.{Each, every}

@@ -10,7 +10,8 @@ use Rattle.std.proofs.lemmas.List.{take_at}
 use Rattle.std.proofs.lemmas.Fmt.{decimal_is_IsNumeral}
 use Rattle.xf_lex.specs.declared.token.TokenKind.{TokenKind}
 use Rattle.xf_lex.specs.declared.token.TokenKind.TheVariants as kind
-use Rattle.xf_lex.specs.Bytes.{is_digit, is_letter, is_word_byte, is_name_start, is_name_byte, is_blank}
+use Rattle.xf_type.specs.Bytes.{is_digit, is_letter, is_word_byte}
+use Rattle.xf_lex.specs.Bytes.{is_name_start, is_name_byte, is_blank}
 use Rattle.xf_lex.specs.Lexes.{is_tensor}
 use Rattle.xf_lex.specs.Laid.{Plain, Piece, laid, Stays, AllStay}
 use Rattle.xf_lex.proofs.Stays.{AllPass, Stops, run_all, Digits, decimal_digits}

@@ -8,7 +8,7 @@ use Rattle.std.proofs.lemmas.Bool.Decides.{nat_tests}
 use Rattle.std.proofs.lemmas.Fmt.{decimal_injective}
 use Rattle.std.proofs.lemmas.Slice.Eq.{bytes_eq-Decides}
 use Rattle.xf_type.specs.declared.payload_type.PayloadType.{PayloadType}
-use Rattle.xf_lex.specs.Bytes.{is_digit}
+use Rattle.xf_type.specs.Bytes.{is_digit}
 use Rattle.xf_lex.proofs.Stays.{Digits, decimal_digits}
 use Rattle.xf_read_base.specs.Parts.{UseSaid}
 use Rattle.xf_ir.specs.declared.name.OpName.{OpName}

@@ -20,7 +20,8 @@ use Rattle.xf_ir.specs.declared.kind.Attr.{Attr}
 use Rattle.xf_ir.specs.Lists.{Each, every}
 use Rattle.xf_ir.specs.RuleAttributes.{fits_bits, value_fits}
 use Rattle.xf_ir.specs.Types.{element_of}
-use Rattle.xf_ir.specs.Words.{is_word as is_ir_word, is_letter, is_word_byte}
+use Rattle.xf_type.specs.Bytes.{is_letter, is_word_byte}
+use Rattle.xf_ir.specs.Words.{is_word as is_ir_word}
 use Rattle.xf_ir.specs.PrintedWords.{listed, listed_more, width_text, type_text, types_text, arrow_types}
 use Rattle.xf_ir.specs.PrintedNumbers.{literal_text}
 use Rattle.xf_ir.specs.PrintedAttributes.{value_text, entry_text, attrs_text}

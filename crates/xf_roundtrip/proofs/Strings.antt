@@ -6,7 +6,7 @@ use Rattle.std.proofs.lemmas.Bool.Decides.{nat_tests}
 use Rattle.std.proofs.lemmas.List.{take_at, drop_at}
 use Rattle.xf_lex.specs.declared.token.TokenKind.TheVariants as kind
 use Rattle.xf_lex.specs.declared.front.Front.TheVariants as front_of
-use Rattle.xf_lex.specs.Bytes.{is_hex}
+use Rattle.xf_type.specs.Bytes.{is_hex}
 use Rattle.xf_lex.specs.Fronts.{quoted_in, escaped_in, string_at}
 use Rattle.xf_lex.specs.Laid.{Stays}
 use Rattle.xf_grammar.specs.Tokens.{sees}

@@ -4,27 +4,14 @@ ghost use Rattle.std.specs.Option.{option_copied};
 ghost use Rattle.xf_ir.specs.Attributes.{bytes_before};
 ghost use Rattle.xf_ir.specs.Lists.{every};
 ghost use Rattle.xf_ir.specs.RuleAttributes.{fits_bits, value_fits, attributes_fit, conversion_fits, is_index, is_narrower, has_one_index, is_word_or_none, kind_fits};
-ghost use Rattle.xf_ir.specs.Words.{is_letter, is_word_byte, is_word};
+ghost use Rattle.xf_type.specs.Bytes.{is_letter, is_word_byte};
+ghost use Rattle.xf_ir.specs.Words.{is_word};
 ghost use Rattle.xf_rules.specs.Attributes.{attribute_fits, follows, names_ascend};
 
 use crate::dense::dense_fits;
 use crate::types::same_width;
 use xf_ir::{Attr, Kind};
-use xf_type::{AttrValue, ByteList, ConvKind, Width, bits, greatest};
-
-/// Whether a byte is a letter or `_`.
-fn is_letter(byte: u8) -> bool
-    ensures { result ≡ is_letter byte }
-{
-    (b'a' <= byte && byte <= b'z') || (b'A' <= byte && byte <= b'Z') || byte == b'_'
-}
-
-/// Whether a byte may stand in a word behind its first.
-fn is_word_byte(byte: u8) -> bool
-    ensures { result ≡ is_word_byte byte }
-{
-    is_letter(byte) || (b'0' <= byte && byte <= b'9') || byte == b'$' || byte == b'.'
-}
+use xf_type::{AttrValue, ByteList, ConvKind, Width, bits, greatest, is_letter, is_word_byte};
 
 /// Whether each of the bytes may stand in a word behind its first.
 fn are_word_bytes(bytes: &[u8]) -> bool

@@ -26,4 +26,3 @@ pub use ranges::types_in_range;
 pub use reduction::reduces;
 pub use rows::{callee_agrees, types_fit};
 pub use slices::slices_fit;
-

@@ -134,11 +134,7 @@ pub fn types_fit(
 /// Whether a call has a callee, and its results are what the callee returns. Any other operation passes.
 ///
 /// Takes time in the number of results and the length of their types.
-pub fn callee_agrees(
-    kind: &Kind,
-    callee: Option<Signature<'_>>,
-    results: &[PayloadType],
-) -> bool
+pub fn callee_agrees(kind: &Kind, callee: Option<Signature<'_>>, results: &[PayloadType]) -> bool
     ensures { result ≡ callee_agrees (λ symbol. callee_seen callee.entry) kind.now results.now }
 {
     match kind {

@@ -1,4 +1,2 @@
 pub mod Found
-pub mod Lexing
-pub mod SameBytes
 pub mod Scripts

@@ -1,4 +1,3 @@
 pub mod Tokens
-pub mod Classes
-pub mod Reading
 pub mod Script
+pub mod Reading

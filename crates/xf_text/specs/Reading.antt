@@ -2,11 +2,11 @@
 -- Contracts of private functions cite it; what is read is exactly what `script_tokens` writes, which is proved beside
 -- it.
 use Rattle.std.specs.Prelude.{◌≡◌, List, [], ◌∷◌, Option, Some, None, Bool, false, ◌&&◌, if◌then◌else◌, codes}
-use Rattle.xf_ir.specs.Lists.{same_bytes}
-use Rattle.xf_text.specs.contracts.token.TokenKindPartialEq.TheImpl as kind_eq
-use Rattle.xf_text.specs.declared.token.TokenKind.{TokenKind}
-use Rattle.xf_text.specs.declared.token.TokenKind.TheVariants as kind
-use Rattle.xf_text.specs.declared.token.Token.{Token}
+use Rattle.std.specs.Str.{bytes_eq}
+use Rattle.xf_lex.specs.contracts.token.TokenKindPartialEq.TheImpl as kind_eq
+use Rattle.xf_lex.specs.declared.token.TokenKind.{TokenKind}
+use Rattle.xf_lex.specs.declared.token.TokenKind.TheVariants as kind
+use Rattle.xf_lex.specs.Laid.{Plain}
 use Rattle.xf_text.specs.Tokens.{Name, token, word, mark, colon}
 use Rattle.xf_text.specs.Script.{any_op}
 
@@ -14,7 +14,7 @@ use Rattle.xf_text.specs.Script.{any_op}
 
 -- what is read, and the tokens behind it
 abbrev pub Front : Type 0 → Type 0
-Front A = Option (A × List Token)
+Front A = Option (A × List Plain)
 
 infixl 10 ◌>>=◌
 abbrev pub ◌>>=◌ : {A B : Type 0} → Option A → (A → Option B) → Option B
@@ -31,36 +31,36 @@ Gives view (Some x) read = read ≡ Some (view x)
 abbrev pub same_kind : TokenKind → TokenKind → Bool
 same_kind = (kind_eq.ghosts).eq
 
-abbrev pub same_token : Token → Token → Bool
-same_token t u = same_kind t.kind u.kind && same_bytes t.bytes u.bytes
+abbrev pub same_token : Plain → Plain → Bool
+same_token t u = same_kind t.kind u.kind && bytes_eq t.bytes u.bytes
 
 -- what is left behind a token that stands first
-abbrev pub behind : Token → List Token → Option (List Token)
+abbrev pub behind : Plain → List Plain → Option (List Plain)
 behind w [] = None
 behind w (t ∷ ts) = if same_token t w then Some ts else None
 
-abbrev pub behind_all : List Token → List Token → Option (List Token)
+abbrev pub behind_all : List Plain → List Plain → Option (List Plain)
 behind_all [] ts = Some ts
 behind_all (w ∷ ws) ts = behind w ts >>= behind_all ws
 
 -- whether a token stands first
-abbrev pub begins : Token → List Token → Bool
+abbrev pub begins : Plain → List Plain → Bool
 begins w [] = false
 begins w (t ∷ ts) = same_token t w
 
 -- the bytes of the first token, which is of a kind
-abbrev pub bytes_front : TokenKind → List Token → Front Name
+abbrev pub bytes_front : TokenKind → List Plain → Front Name
 bytes_front k [] = None
 bytes_front k (t ∷ ts) = if same_kind t.kind k then Some (t.bytes, ts) else None
 
-abbrev pub at_end : {A : Type 0} → A → List Token → Option A
+abbrev pub at_end : {A : Type 0} → A → List Plain → Option A
 at_end x [] = Some x
 at_end x (t ∷ ts) = None
 
 -- ---- the script
 
 -- the module and the main sequence, up to its `{`: the name of the argument
-unfoldable pub sequence_front : List Token → Front Name
+unfoldable pub sequence_front : List Plain → Front Name
 sequence_front ts = do
   module_body ← behind_all
       (word (codes "module") ∷ word (codes "attributes")
@@ -72,7 +72,7 @@ sequence_front ts = do
   Some (argument.0, after)
 
 -- the step: the name of its target
-unfoldable pub step_front : List Token → Front Name
+unfoldable pub step_front : List Plain → Front Name
 step_front ts = do
   rest ← behind_all (word (codes "transform.apply_dce") ∷ word (codes "to") ∷ []) ts
   target ← bytes_front kind.Value rest
@@ -80,18 +80,18 @@ step_front ts = do
   Some (target.0, after)
 
 -- the optional end of the sequence
-unfoldable pub yield_front : List Token → Option (List Token)
+unfoldable pub yield_front : List Plain → Option (List Plain)
 yield_front ts =
     if begins (word (codes "transform.yield")) ts then behind (word (codes "transform.yield")) ts else Some ts
 
-unfoldable pub script_front : List Token → Front Name
+unfoldable pub script_front : List Plain → Front Name
 script_front ts = do
   argument ← sequence_front ts
   target ← step_front argument.1
-  rest ← if same_bytes argument.0 target.0 then yield_front target.1 else None
+  rest ← if bytes_eq argument.0 target.0 then yield_front target.1 else None
   after ← behind_all (mark 125 ∷ mark 125 ∷ []) rest
   Some (argument.0, after)
 
 -- a whole script: the name of its argument
-unfoldable pub script_read : List Token → Option Name
+unfoldable pub script_read : List Plain → Option Name
 script_read ts = script_front ts >>= λ name. at_end name.0 name.1

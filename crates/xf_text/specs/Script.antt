@@ -1,20 +1,22 @@
 -- The schedule of a run: one step that erases dead code.
-use Rattle.std.specs.Prelude.{ℕ, List, [], ◌∷◌, ◌++◌, Bool, true, false, codes}
-use Rattle.xf_text.specs.declared.token.Token.{Token}
-use Rattle.xf_text.specs.declared.token.TokenKind.TheVariants as kind
-use Rattle.xf_text.specs.Tokens.{Name, token, word, value, mark, colon, Lexes}
+use Rattle.std.specs.Prelude.{◌≡◌, ℕ, List, [], ◌∷◌, ◌++◌, map, Bool, true, false, codes}
+use Rattle.xf_lex.specs.declared.token.Token.{Token}
+use Rattle.xf_lex.specs.declared.token.TokenKind.TheVariants as kind
+use Rattle.xf_lex.specs.Laid.{Plain, plain}
+use Rattle.xf_lex.specs.Lexes.{Lexes}
+use Rattle.xf_text.specs.Tokens.{Name, token, word, value, mark, colon}
 
 -- `!transform.any_op`
-abbrev pub any_op : Token
+abbrev pub any_op : Plain
 any_op = token kind.DialectType (codes "!transform.any_op")
 
 -- `transform.yield`, or nothing
-abbrev pub yield_tokens : Bool → List Token
+abbrev pub yield_tokens : Bool → List Plain
 yield_tokens true = word (codes "transform.yield") ∷ []
 yield_tokens false = []
 
 -- the main sequence, its argument of this name, and `transform.apply_dce to` it
-abbrev pub script_tokens : Name → Bool → List Token
+abbrev pub script_tokens : Name → Bool → List Plain
 script_tokens argument yields =
     word (codes "module") ∷ word (codes "attributes")
     ∷ mark 123 ∷ word (codes "transform.with_named_sequence") ∷ mark 125 ∷ mark 123
@@ -27,4 +29,6 @@ script_tokens argument yields =
 pub record IsScript (bytes : List ℕ) : Type 0 where
   pub argument : Name
   pub yields : Bool
-  pub lexes : Lexes bytes (script_tokens argument yields)
+  pub tokens : List Token
+  pub lexes : Lexes bytes tokens
+  pub are : map plain tokens ≡ script_tokens argument yields

@@ -1,11 +1,11 @@
 //! Tokens, read from the front on.
-ghost use Rattle.std.specs.Prelude.{◌≡◌, [], ◌↔◌, IsTrue};
+ghost use Rattle.std.specs.Prelude.{◌≡◌, [], ◌↔◌, map, IsTrue};
+ghost use Rattle.xf_lex.specs.Laid.{plain};
 ghost use Rattle.xf_text.specs.Tokens.{token, word, mark};
 ghost use Rattle.xf_text.specs.Reading.{Gives, behind, begins, bytes_front};
 
-use crate::bytes::same_bytes;
-use crate::token::{Token, TokenKind};
 use std::marker::Model;
+use xf_lex::{Token, TokenKind};
 
 /// The tokens that are left to read. After a `None` it stands at some later token.
 #[derive(Drop)]
@@ -14,18 +14,18 @@ pub struct Cursor<'a> {
 }
 
 impl<'a> Model for Cursor<'a> {
-    ghost use Rattle.std.specs.Prelude.{List};
-    ghost use Rattle.xf_text.specs.declared.token.Token.{Token};
+    ghost use Rattle.std.specs.Prelude.{List, map};
+    ghost use Rattle.xf_lex.specs.Laid.{Plain, plain};
 
-    ghost Value = { List Token };
+    ghost Value = { List Plain };
 
-    ghost view = { λ cursor. cursor.rest.now };
+    ghost view = { λ cursor. map plain cursor.rest.now };
 }
 
 impl<'a> Cursor<'a> {
     /// At the first of these tokens.
     pub fn new(tokens: &'a [Token]) -> Cursor<'a>
-        ensures { result ≡ tokens.now }
+        ensures { result ≡ map plain tokens.now }
     {
         Cursor { rest: tokens }
     }
@@ -43,9 +43,7 @@ impl<'a> Cursor<'a> {
     {
         match self.rest {
             [] => false,
-            [next, ..] => {
-                next.kind == TokenKind::Word && same_bytes(next.bytes.as_slice(), text)
-            }
+            [next, ..] => { next.kind == TokenKind::Word && next.bytes.as_slice() == text }
         }
     }
 
@@ -56,7 +54,7 @@ impl<'a> Cursor<'a> {
         match self.rest {
             [] => None,
             [next, rest @ ..] => {
-                if next.kind == kind && same_bytes(next.bytes.as_slice(), bytes) {
+                if next.kind == kind && next.bytes.as_slice() == bytes {
                     self.rest = rest;
                     Some(())
                 } else {

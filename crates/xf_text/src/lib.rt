@@ -1,14 +1,8 @@
-//! The schedule of a run: its tokens, and whether a text is it.
+//! The schedule of a run: whether a text is it. The schedule is defined by its tokens (`specs/Script.antt`), which are those of
+//! `xf_lex`; the contract is that of `is_script`.
 #![tactic(auto)]
 
-mod bytes;
-mod classes;
 mod cursor;
-mod lex;
 mod script;
-mod token;
 
-pub use lex::tokens;
 pub use script::is_script;
-pub use token::{Token, TokenKind, TokenList};
-

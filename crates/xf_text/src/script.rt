@@ -1,13 +1,13 @@
 //! The schedule of a run.
-ghost use Rattle.std.specs.Prelude.{◌≡◌, true, false, IfOk};
+ghost use Rattle.std.specs.Prelude.{◌≡◌, map, true, false, IfOk};
+ghost use Rattle.xf_lex.specs.Laid.{plain};
 ghost use Rattle.xf_text.specs.Script.{any_op, IsScript};
 ghost use Rattle.xf_text.specs.Reading.{Gives, behind, sequence_front, step_front, yield_front, script_front, script_read};
 
-use crate::bytes::same_bytes;
 use crate::cursor::Cursor;
-use crate::lex::tokens;
-use crate::token::{Token, TokenKind};
-use std::alloc::Global;
+use std::alloc::{AllocError, Global};
+use xf_lex::{Token, TokenKind, tokens};
+use xf_span::LexFault;
 use xf_type::NoMemory;
 
 /// `!transform.any_op`.
@@ -70,7 +70,7 @@ fn script<'a>(cursor: &mut Cursor<'a>) -> Option<&'a [u8]>
 {
     let argument = sequence(cursor)?;
     let target = step(cursor)?;
-    if !same_bytes(argument, target) {
+    if argument != target {
         return None;
     }
     yield_step(cursor)?;
@@ -82,7 +82,7 @@ fn script<'a>(cursor: &mut Cursor<'a>) -> Option<&'a [u8]>
 /// The name of a script's argument.
 #[tactic(auto, unfolding(crate::specs::Reading::script_read))]
 fn argument<'a>(tokens: &'a [Token]) -> Option<&'a [u8]>
-    ensures { Gives (λ name. name.now) result (script_read tokens.now) }
+    ensures { Gives (λ name. name.now) result (script_read (map plain tokens.now)) }
 {
     let mut cursor = Cursor::new(tokens);
     let argument = script(&mut cursor)?;
@@ -97,9 +97,9 @@ pub fn is_script(alloc: Global, bytes: &[u8]) -> Result<bool, NoMemory>
     ensures yes { IfOk result (λ answer. answer ≡ true → IsScript bytes.now) }
     ensures no { IfOk result (λ answer. answer ≡ false → IsScript bytes.now → ⊥) }
 {
-    let tokens = match tokens(alloc, bytes)? {
-        Some(tokens) => tokens,
-        None => return Ok(false),
-    };
-    Ok(argument(tokens.as_slice()).is_some())
+    match tokens(alloc, bytes) {
+        Ok(tokens) => Ok(argument(tokens.as_slice()).is_some()),
+        Err(LexFault::At(_)) => Ok(false),
+        Err(LexFault::NoMemory) => Err(AllocError),
+    }
 }

@@ -2,6 +2,7 @@
 #![tactic(auto)]
 
 mod attribute;
+mod byte;
 mod duplicate;
 mod equals;
 mod integer;
@@ -11,6 +12,7 @@ mod list;
 mod payload_type;
 
 pub use attribute::{AffineMap, AttrValue};
+pub use byte::{TOO_LARGE, digit_value, is_digit, is_hex, is_letter, is_word_byte, number_of};
 pub use duplicate::Duplicate;
 pub use equals::Equals;
 pub use integer::{
@@ -23,4 +25,3 @@ pub use payload_type::{Dim, Elem, PayloadType, Shape, Width};
 
 /// There was no memory for what a call has to make.
 pub type NoMemory = std::alloc::AllocError;
-

@@ -1,8 +1,8 @@
 use Rattle.std.proofs.Common.{◌≡◌, ◌^◌, ◌*◌, ◌+◌, get_or, arith}
 use Rattle.std.specs.Prelude.{min}
 use Rattle.std.specs.Char.{digit_value}
-use Rattle.xf_lex.proofs.Numbers.{digit_turn}
-use Rattle.xf_grammar.proofs.look.cut_number.Goals as goal
+use Rattle.xf_type.proofs.Numbers.{digit_turn}
+use Rattle.xf_type.proofs.byte.number_of.Goals as goal
 
 pub loop-b-preserved : goal.loop-b-preserved
 loop-b-preserved c =
