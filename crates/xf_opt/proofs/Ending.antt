@@ -1,128 +1,80 @@
--- How the ends of the inner calls make up the end of the whole.
-use Rattle.std.proofs.Common.{◌≡◌, ℕ, List, Option, Some, false, inl, inr, refl, ap, sym, subst, [], length, ◌≤◌, ◌+◌}
-use Rattle.xf_host.specs.Writes.{Gains, GainsFront}
-use Rattle.xf_host.specs.declared.sink.SinkFail.{SinkFail}
-use Rattle.xf_host.specs.declared.sink.SinkFail.TheVariants as failed
+-- What the ends of calls say of the stages.
+use Rattle.std.proofs.Common.{◌≡◌, ◌<◌, ℕ, List, [], Option, Some, None, Result, Ok, Err, false, inl, inr, refl, sym, subst, arith}
+use Rattle.std.specs.Prelude.{IfErr}
+use Rattle.xf_host.specs.Writes.{GainsPrefix}
 use Rattle.xf_span.specs.declared.code.Code.TheVariants.{N1}
 use Rattle.xf_span.specs.declared.fault.Fault.{Fault}
+use Rattle.xf_span.specs.declared.fault.TextFault.{TextFault}
+use Rattle.xf_span.specs.declared.fault.TextFault.TheVariants as text_fault
 use Rattle.xf_span.specs.Fault.{fault_at}
 use Rattle.xf_span.specs.Place.{first_place}
 use Rattle.xf_ir.specs.declared.op.Module.{Module}
-use Rattle.xf_ir.specs.Valid.{IsValid}
-use Rattle.xf_ir.specs.Choices.{weight_at}
-use Rattle.xf_sem.specs.Keeps.{KeepsMeaning}
-use Rattle.xf_sem.proofs.Keeping.{keeping_composes}
-use Rattle.xf_ir.specs.PrintedForm.{printed_form}
-use Rattle.xf_read.specs.Names.{op_name}
-use Rattle.xf_roundtrip.proofs.ValidAgain.{printed_is_valid_again}
-use Rattle.xf_payload.specs.Payload.{IsPayload}
+use Rattle.xf_payload.specs.Payload.{IsPayload, IsRefused}
+use Rattle.xf_opt.specs.Form.{is_first_form}
+use Rattle.xf_opt.specs.Words.{Asked, run}
+use Rattle.xf_opt.specs.Stages.{Stage, End, well, at, anywhere, IsPast, EndsAt, EndsBefore, Judges}
+use Rattle.xf_opt.specs.Stages as stage
+use Rattle.xf_opt.specs.Owes.{Finishes, WritesPrefix, WritesAtMost, Writes}
+use Rattle.xf_opt.specs.Refusals.{RefusesBy}
 use Rattle.xf_opt.specs.declared.journal.Entry.{Entry}
-use Rattle.xf_opt.specs.declared.outcome.Refusal.{Refusal}
-use Rattle.xf_opt.specs.declared.outcome.Refusal.TheVariants as because
-use Rattle.xf_opt.specs.Form.{is_first_form, IsFirstForm}
-use Rattle.xf_opt.specs.Run.{Runs}
-use Rattle.xf_opt.specs.Words.{Asked, run, verify}
-use Rattle.xf_opt.specs.Ends.{IsRunnable, Reaches, Headline, Due, Refuses, Finishes, WritesFront}
-use Rattle.xf_opt.specs.Ended.{EndsPlainly, EndsByPayload, IsPastPayload, RefusesBy, write_refusal}
-use Rattle.xf_opt.proofs.FormFacts.{form_is_core, form_is_stored, form_is_within}
-use Rattle.xf_sem.proofs.Renaming.{renaming_keeps}
 
--- there are few choices
-abbrev pub IsFew : Module → List Entry → Type 0
-IsFew m journal = length journal ≤ weight_at m (record { 0 = 0 }) + 1
+-- ---- stages
 
--- what the run reaches
-pub reached : (payload : List ℕ) (journal : List Entry) (m after : Module) → IsRunnable payload m → Runs m journal after → IsFew m journal → KeepsMeaning m after → IsValid after → Reaches payload journal after
-reached payload journal m after s r n k v = record { before = m; holds = s; runs = r; few = n; keeps = k; valid_after = v }
+-- a call that ended before a stage
+pub judged_before : (stage : Stage) (end : End) (Holds Cause Untouched : Type 0) → EndsBefore stage end → Untouched → Judges stage end Holds Cause Untouched
+judged_before stage well Holds Cause Untouched e u = absurd e
+judged_before stage (at last) Holds Cause Untouched e u = record { past = λ p. absurd (omega arith); ended = λ p. absurd (omega arith); written = inl u }
+judged_before stage anywhere Holds Cause Untouched e u = absurd e
 
--- the headline, from its parts
-headline_is : (payload : List ℕ) (journal : List Entry) (m after : Module) → IsRunnable payload m → Runs m journal after → IsFew m journal → KeepsMeaning m after → IsFirstForm after → Headline payload journal (printed_form after)
-unfolding reached
-headline_is payload journal m after s r n k g =
-    let again = printed_is_valid_again after g.valid (form_is_core after g) (form_is_stored after g) (form_is_within after g) in
-    record {
-      after = after;
-      reaches = reached payload journal m after s r n k g.valid;
-      is = refl;
-      again = again.0;
-      spells = again.1.0;
-      renamed = again.1.1.0;
-      valid = again.1.1.1;
-      same = keeping_composes m after again.0 k (renaming_keeps after again.0 g.valid again.1.1.0);
-    }
+-- at it
+pub judged_at : (stage : Stage) (end : End) (Holds Cause Untouched : Type 0) → EndsAt stage end → Cause → Untouched → Judges stage end Holds Cause Untouched
+judged_at stage well Holds Cause Untouched e c u = absurd e
+judged_at stage (at last) Holds Cause Untouched e c u = record { past = λ p. absurd (omega arith); ended = λ p. c; written = inl u }
+judged_at stage anywhere Holds Cause Untouched e c u = absurd e
 
-pub whole_is : (payload script path : List ℕ) (journal : List Entry) (m after : Module) (old new : Option (List ℕ)) → IsRunnable payload m → Runs m journal after → IsFew m journal → KeepsMeaning m after → IsFirstForm after → Gains old (printed_form after) new → Finishes (run script path) payload journal old new
-whole_is payload script path journal m after old new s r n k g w = (printed_form after, (headline_is payload journal m after s r n k g, w))
+-- past it
+pub judged_past : (stage : Stage) (end : End) (Holds Cause Untouched : Type 0) → IsPast stage end → Holds → Judges stage end Holds Cause Untouched
+judged_past stage well Holds Cause Untouched e h = record { past = λ p. h; ended = λ p. absurd p; written = inr h }
+judged_past stage (at last) Holds Cause Untouched e h = record { past = λ p. h; ended = λ p. absurd (omega arith); written = inr h }
+judged_past stage anywhere Holds Cause Untouched e h = absurd e
 
-pub front_is : (payload script path : List ℕ) (journal : List Entry) (m after : Module) (old new : Option (List ℕ)) → IsRunnable payload m → Runs m journal after → IsFew m journal → KeepsMeaning m after → IsFirstForm after → GainsFront old (printed_form after) new → WritesFront (run script path) payload journal old new
-front_is payload script path journal m after old new s r n k g w = (printed_form after, (headline_is payload journal m after s r n k g, w))
+-- for want of memory, before anything was written
+pub judged_nowhere : (stage : Stage) (Holds Cause Untouched : Type 0) → Untouched → Judges stage anywhere Holds Cause Untouched
+judged_nowhere stage Holds Cause Untouched u = record { past = λ p. absurd p; ended = λ p. absurd p; written = inl u }
 
--- what a run takes is of its form
-pub of_form : (file : List ℕ) (m : Module) → IsRunnable file m → IsFirstForm m
-of_form file m s = record { valid = s.holds.valid; shape = s.form }
+-- or where the condition held
+pub judged_late : (stage : Stage) (Holds Cause Untouched : Type 0) → Holds → Judges stage anywhere Holds Cause Untouched
+judged_late stage Holds Cause Untouched h = record { past = λ p. absurd p; ended = λ p. absurd p; written = inr h }
+
+-- the same, said in other words
+pub judged_alike : (stage : Stage) (end : End) (Holds Holds' Cause Cause' Untouched : Type 0) → (Holds → Holds') → (Cause → Cause') → Judges stage end Holds Cause Untouched → Judges stage end Holds' Cause' Untouched
+judged_alike stage end Holds Holds' Cause Cause' Untouched f g j = record {
+  past = λ p. f (j.past p);
+  ended = λ p. g (j.ended p);
+  written = elim j.written [ inl u ↦ inl u | inr h ↦ inr (f h) ];
+}
+
+-- ---- what was written
+
+-- all of the text
+pub wrote_all : (asked : Asked) (file : List ℕ) (journal : List Entry) (old new : Option (List ℕ)) → Finishes asked file journal old new → Writes well journal old new asked file
+wrote_all asked file journal old new w = record { done = λ p. w; cut = λ p. absurd p; memory = λ p. absurd p }
+
+-- a prefix, before a write failed
+pub wrote_prefix : (asked : Asked) (file : List ℕ) (journal : List Entry) (old new : Option (List ℕ)) → WritesPrefix asked file journal old new → Writes (at stage.write) journal old new asked file
+wrote_prefix asked file journal old new w = record { done = λ p. absurd p; cut = λ p. w; memory = λ p. absurd p }
+
+-- at most a prefix, before memory was refused
+pub wrote_some : (asked : Asked) (file : List ℕ) (journal : List Entry) (old new : Option (List ℕ)) → WritesPrefix asked file journal old new → Writes anywhere journal old new asked file
+wrote_some asked file journal old new w = record { done = λ p. absurd p; cut = λ p. absurd p; memory = λ p. inr (journal, w) }
+
+-- ---- payloads that are refused
 
 -- a run refuses what every command refuses
-pub refused_alike : (file : List ℕ) (r : Refusal) → RefusesBy (verify []) file r → RefusesBy (run [] []) file r
-refused_alike file because.Words e = absurd e
-refused_alike file because.ScriptRead e = absurd e
-refused_alike file because.PayloadRead e = absurd e
-refused_alike file because.Write e = absurd e
-refused_alike file (because.Payload f) e = (inl e.0, e.1)
-refused_alike file because.Script e = absurd e
-refused_alike file because.NoMemory e = tt
+pub refused_alike : (file : List ℕ) (f : TextFault) → IsRefused file f → RefusesBy (run [] []) file f
+refused_alike file (text_fault.At f) e = inl e
+refused_alike file text_fault.NoMemory e = tt
 
 -- and a payload that is not of its form
-pub outside_refused : (file : List ℕ) (m : Module) (r : Refusal) → r ≡ because.Payload (fault_at N1 first_place) → IsPayload file m → is_first_form m ≡ false → RefusesBy (run [] []) file r
-outside_refused file m r e h n = subst (λ (x : Refusal). RefusesBy (run [] []) file x) (sym e) (inr (record { payload = m; holds = h; form = n; is = refl }), tt)
-
--- a payload that is refused before the run
-pub form_refused : (script path payload : List ℕ) (journal : List Entry) (old : Option (List ℕ)) (r : Refusal) → RefusesBy (run [] []) payload r → EndsByPayload (Some r) (run script path) payload journal old old
-form_refused script path payload journal old because.Words e = absurd e
-form_refused script path payload journal old because.ScriptRead e = absurd e
-form_refused script path payload journal old because.PayloadRead e = absurd e
-form_refused script path payload journal old because.Write e = absurd e
-form_refused script path payload journal old (because.Payload f) e = e.0
-form_refused script path payload journal old because.Script e = absurd e
-form_refused script path payload journal old because.NoMemory e = inl refl
-
--- a refusal of a payload says nothing else
-pub refused_idly : (asked : Asked) (file : List ℕ) (Stays : Type 0) (r : Refusal) (before after : ℕ) → RefusesBy asked file r → Stays → EndsPlainly (Some r) [] Stays before after
-refused_idly asked file Stays because.Words before after e s = absurd e
-refused_idly asked file Stays because.ScriptRead before after e s = absurd e
-refused_idly asked file Stays because.PayloadRead before after e s = absurd e
-refused_idly asked file Stays because.Write before after e s = absurd e
-refused_idly asked file Stays (because.Payload f) before after e s = ((s, refl), e.1)
-refused_idly asked file Stays because.Script before after e s = absurd e
-refused_idly asked file Stays because.NoMemory before after e s = tt
-
--- a payload that is refused, by a command that refuses no more
-pub payload_refused : (asked wanted : Asked) (file : List ℕ) (old : Option (List ℕ)) (r : Refusal) → ((f : Fault) → Refuses asked file f → Refuses wanted file f) → RefusesBy asked file r → EndsByPayload (Some r) wanted file [] old old
-payload_refused asked wanted file old because.Words same e = absurd e
-payload_refused asked wanted file old because.ScriptRead same e = absurd e
-payload_refused asked wanted file old because.PayloadRead same e = absurd e
-payload_refused asked wanted file old because.Write same e = absurd e
-payload_refused asked wanted file old (because.Payload f) same e = same f e.0
-payload_refused asked wanted file old because.Script same e = absurd e
-payload_refused asked wanted file old because.NoMemory same e = inl refl
-
--- the reads are done
-pub refused_past : (asked : Asked) (file : List ℕ) (r : Refusal) → RefusesBy asked file r → IsPastPayload (Some r)
-refused_past asked file because.Words e = absurd e
-refused_past asked file because.ScriptRead e = absurd e
-refused_past asked file because.PayloadRead e = absurd e
-refused_past asked file because.Write e = absurd e
-refused_past asked file (because.Payload f) e = tt
-refused_past asked file because.Script e = absurd e
-refused_past asked file because.NoMemory e = tt
-
--- a text that is due, of which a front was written
-front_written : (asked : Asked) (file text : List ℕ) (fail : SinkFail) (old new : Option (List ℕ)) → Due asked file [] text → GainsFront old text new → EndsByPayload (Some (write_refusal fail)) asked file [] old new
-front_written asked file text failed.Failed old new d w = (text, (d, w))
-front_written asked file text failed.NoMemory old new d w = inr ([], (text, (d, w)))
-
-pub front_told : (asked : Asked) (file text : List ℕ) (fail : SinkFail) (r : Refusal) (old new : Option (List ℕ)) → r ≡ write_refusal fail → Due asked file [] text → GainsFront old text new → EndsByPayload (Some r) asked file [] old new
-front_told asked file text fail r old new e d w = subst (λ (x : Refusal). EndsByPayload (Some x) asked file [] old new) (sym e) (front_written asked file text fail old new d w)
-
--- the root of a module that a text spells is operation 0
-pub root_named : (payload : List ℕ) (m : Module) → IsRunnable payload m → m.root.name ≡ op_name 0
-root_named payload m s = sym (ap (λ (x : Module). x.root.name) s.holds.spells.means)
+pub outside_refused : (file : List ℕ) (m : Module) (f : Fault) → f ≡ fault_at N1 first_place → IsPayload file m → is_first_form m ≡ false → RefusesBy (run [] []) file (text_fault.At f)
+outside_refused file m f e h n = inr (record { payload = m; holds = h; form = n; is = e })

@@ -8,14 +8,14 @@ use Rattle.std.proofs.lemmas.List.{length-take, take_all}
 use Rattle.xf_host.specs.Count.{HasRisen}
 use Rattle.xf_span.specs.declared.fault.Fault.{Fault}
 use Rattle.xf_ir.specs.declared.op.Module.{Module}
-use Rattle.xf_opt.specs.declared.journal.Entry.{Entry}
-use Rattle.xf_opt.specs.declared.outcome.Refusal.{Refusal}
-use Rattle.xf_opt.specs.declared.outcome.Refusal.TheVariants as because
 use Rattle.xf_span.specs.Limit.{file_limit}
 use Rattle.xf_payload.specs.Payload.{IsPayload, IsNoPayload}
+use Rattle.xf_opt.specs.declared.journal.Entry.{Entry}
 use Rattle.xf_opt.specs.Words.{Asked, run, verify, print}
-use Rattle.xf_opt.specs.Ends.{IsScriptFile, IsRunnable, Reaches, Headline, TellsOf, Due, Refuses, WritesFront}
-use Rattle.xf_opt.specs.Ended.{EndsByScript, EndsByPayload}
+use Rattle.xf_opt.specs.Stages.{End}
+use Rattle.xf_opt.specs.Files.{IsScriptFile, IsRunnable, Refuses, Accepts, RefusesWith, JudgesScript, JudgesPayload}
+use Rattle.xf_opt.specs.Owes.{Reaches, Headline, TellsOf, Owes, WritesPrefix, WritesAtMost, Writes}
+use Rattle.xf_opt.proofs.Ending.{judged_alike}
 
 -- ---- counts
 
@@ -34,91 +34,108 @@ count_kept before after path other grows others =
     (λ (e : bytes_eq other path ≡ false). let apart : after other ≡ before other = others other (λ same. let t = (bytes_eq-Decides other path).1 same in cc) in omega arith)
     (true_or_false (bytes_eq other path))
 
--- ---- the front of a file that was read
+-- ---- the part of a file that was read
+
+-- both are too long
+abbrev pub AreLong : List ℕ → List ℕ → Type 0
+AreLong file part = (file_limit < length part) × (file_limit < length file)
 
 -- what was read is the whole file, or both are too long
-front_cases : (file front : List ℕ) → front ≡ take (file_limit + 1) file → (front ≡ file) ⊎ ((file_limit < length front) × (file_limit < length file))
-front_cases file front e =
+part_cases : (file part : List ℕ) → part ≡ take (file_limit + 1) file → (part ≡ file) ⊎ AreLong file part
+part_cases file part e =
     ⊎_elim
-    (λ (more : file_limit < length file). let part : length front ≡ file_limit + 1 = ap length e ∙ rw length-take (omega arith) in inr (omega arith, more))
+    (λ (more : file_limit < length file). let size : length part ≡ file_limit + 1 = ap length e ∙ rw length-take (omega arith) in inr (omega arith, more))
     (λ (few : length file ≤ file_limit). inl (e ∙ take_all (file_limit + 1) file (omega arith)))
     (cases_lt file_limit (length file))
 
-pub script_of_front : (file front : List ℕ) → front ≡ take (file_limit + 1) file → IsScriptFile front → IsScriptFile file
-script_of_front file front e s = ⊎_elim (λ (same : front ≡ file). subst IsScriptFile same s) (λ (long : (file_limit < length front) × (file_limit < length file)). absurd (let a = s.fits in let b = long.0 in omega arith)) (front_cases file front e)
+module _ (file part : List ℕ) (e : part ≡ take (file_limit + 1) file) where
+  script_of_part : IsScriptFile part → IsScriptFile file
+  script_of_part s = ⊎_elim (λ (same : part ≡ file). subst IsScriptFile same s) (λ (long : AreLong file part). absurd (let a = s.fits in let b = long.0 in omega arith)) (part_cases file part e)
 
-pub front_of_script : (file front : List ℕ) → front ≡ take (file_limit + 1) file → IsScriptFile file → IsScriptFile front
-front_of_script file front e s = ⊎_elim (λ (same : front ≡ file). subst IsScriptFile (sym same) s) (λ (long : (file_limit < length front) × (file_limit < length file)). absurd (let a = s.fits in let b = long.1 in omega arith)) (front_cases file front e)
+  part_of_script : IsScriptFile file → IsScriptFile part
+  part_of_script s = ⊎_elim (λ (same : part ≡ file). subst IsScriptFile (sym same) s) (λ (long : AreLong file part). absurd (let a = s.fits in let b = long.1 in omega arith)) (part_cases file part e)
 
--- ---- valid payloads, and files that hold none
+  -- ---- payloads
 
-holds_of_front : (file front : List ℕ) (m : Module) → front ≡ take (file_limit + 1) file → IsPayload front m → IsPayload file m
-holds_of_front file front m e s = ⊎_elim (λ (same : front ≡ file). subst (λ f. IsPayload f m) same s) (λ (long : (file_limit < length front) × (file_limit < length file)). absurd (let a = s.fits in let b = long.0 in omega arith)) (front_cases file front e)
+  holds_of_part : (m : Module) → IsPayload part m → IsPayload file m
+  holds_of_part m s = ⊎_elim (λ (same : part ≡ file). subst (λ f. IsPayload f m) same s) (λ (long : AreLong file part). absurd (let a = s.fits in let b = long.0 in omega arith)) (part_cases file part e)
 
-long_front : (file front : List ℕ) (f : Fault) → (file_limit < length front) × (file_limit < length file) → IsNoPayload front f → IsNoPayload file f
-long_front file front f long (inl x) = inl (record { passes = long.1; is = x.is })
-long_front file front f long (inr (inl x)) = absurd (let a = x.fits in let b = long.0 in omega arith)
-long_front file front f long (inr (inr x)) = absurd (let a = x.fits in let b = long.0 in omega arith)
+  long_part : (f : Fault) → AreLong file part → IsNoPayload part f → IsNoPayload file f
+  long_part f long (inl x) = inl (record { passes = long.1; is = x.is })
+  long_part f long (inr (inl x)) = absurd (let a = x.fits in let b = long.0 in omega arith)
+  long_part f long (inr (inr x)) = absurd (let a = x.fits in let b = long.0 in omega arith)
 
-refused_of_front : (file front : List ℕ) (f : Fault) → front ≡ take (file_limit + 1) file → IsNoPayload front f → IsNoPayload file f
-refused_of_front file front f e n = ⊎_elim (λ (same : front ≡ file). subst (λ q. IsNoPayload q f) same n) (λ (long : (file_limit < length front) × (file_limit < length file)). long_front file front f long n) (front_cases file front e)
+  refused_of_part : (f : Fault) → IsNoPayload part f → IsNoPayload file f
+  refused_of_part f n = ⊎_elim (λ (same : part ≡ file). subst (λ q. IsNoPayload q f) same n) (λ (long : AreLong file part). long_part f long n) (part_cases file part e)
 
-runnable_of_front : (file front : List ℕ) (m : Module) → front ≡ take (file_limit + 1) file → IsRunnable front m → IsRunnable file m
-runnable_of_front file front m e s = record { holds = holds_of_front file front m e s.holds; form = s.form }
+  runnable_of_part : (m : Module) → IsRunnable part m → IsRunnable file m
+  runnable_of_part m s = record { holds = holds_of_part m s.holds; form = s.form }
 
-reaches_of_front : (file front : List ℕ) (journal : List Entry) (after : Module) → front ≡ take (file_limit + 1) file → Reaches front journal after → Reaches file journal after
-reaches_of_front file front journal after e r = record { before = r.before; holds = runnable_of_front file front r.before e r.holds; runs = r.runs; few = r.few; keeps = r.keeps; valid_after = r.valid_after }
+  refuses_of_part : (asked : Asked) (f : Fault) → Refuses asked part f → Refuses asked file f
+  refuses_of_part (run s p) f (inl n) = inl (refused_of_part f n)
+  refuses_of_part (run s p) f (inr o) = inr (record { payload = o.payload; holds = holds_of_part o.payload o.holds; form = o.form; is = o.is })
+  refuses_of_part (verify p) f r = refused_of_part f r
+  refuses_of_part (print p) f r = refused_of_part f r
 
-headline_of_front : (file front : List ℕ) (journal : List Entry) (text : List ℕ) → front ≡ take (file_limit + 1) file → Headline front journal text → Headline file journal text
-unfolding reaches_of_front
-headline_of_front file front journal text e h = record { after = h.after; reaches = reaches_of_front file front journal h.after e h.reaches; is = h.is; again = h.again; spells = h.spells; renamed = h.renamed; valid = h.valid; same = h.same }
+  accepts_of_part : (asked : Asked) → Accepts asked part → Accepts asked file
+  accepts_of_part (run s p) a = (a.0, runnable_of_part a.0 a.1)
+  accepts_of_part (verify p) a = (a.0, holds_of_part a.0 a.1)
+  accepts_of_part (print p) a = (a.0, holds_of_part a.0 a.1)
 
-tells_of_front : (text_of : Module → List ℕ) (file front text : List ℕ) → front ≡ take (file_limit + 1) file → TellsOf text_of front text → TellsOf text_of file text
-tells_of_front text_of file front text e t = record { payload = t.payload; holds = holds_of_front file front t.payload e t.holds; is = t.is }
+  -- ---- the text that is owed
 
--- ---- what is due
+  reaches_of_part : (journal : List Entry) (after : Module) → Reaches part journal after → Reaches file journal after
+  reaches_of_part journal after r = record { before = r.before; holds = runnable_of_part r.before r.holds; runs = r.runs; few = r.few; keeps = r.keeps; valid_after = r.valid_after }
 
-due_of_front : (asked : Asked) (file front : List ℕ) (journal : List Entry) (text : List ℕ) → front ≡ take (file_limit + 1) file → Due asked front journal text → Due asked file journal text
-due_of_front (run s p) file front journal text e d = headline_of_front file front journal text e d
-due_of_front (verify p) file front journal text e d = tells_of_front _ file front text e d
-due_of_front (print p) file front journal text e d = tells_of_front _ file front text e d
+  headline_of_part : (journal : List Entry) (text : List ℕ) → Headline part journal text → Headline file journal text
+  unfolding reaches_of_part
+  headline_of_part journal text h = record { after = h.after; reaches = reaches_of_part journal h.after h.reaches; is = h.is; again = h.again; spells = h.spells; renamed = h.renamed; valid = h.valid; same = h.same }
 
-refuses_of_front : (asked : Asked) (file front : List ℕ) (f : Fault) → front ≡ take (file_limit + 1) file → Refuses asked front f → Refuses asked file f
-refuses_of_front (run s p) file front f e (inl n) = inl (refused_of_front file front f e n)
-refuses_of_front (run s p) file front f e (inr o) = inr (record { payload = o.payload; holds = holds_of_front file front o.payload e o.holds; form = o.form; is = o.is })
-refuses_of_front (verify p) file front f e r = refused_of_front file front f e r
-refuses_of_front (print p) file front f e r = refused_of_front file front f e r
+  tells_of_part : (text_of : Module → List ℕ) (text : List ℕ) → TellsOf text_of part text → TellsOf text_of file text
+  tells_of_part text_of text t = record { payload = t.payload; holds = holds_of_part t.payload t.holds; is = t.is }
 
-writes_of_front : (asked : Asked) (file front : List ℕ) (journal : List Entry) (old new : Option (List ℕ)) → front ≡ take (file_limit + 1) file → WritesFront asked front journal old new → WritesFront asked file journal old new
-writes_of_front asked file front journal old new e w = (w.0, (due_of_front asked file front journal w.0 e w.1.0, w.1.1))
+  owes_of_part : (asked : Asked) (journal : List Entry) (text : List ℕ) → Owes asked part journal text → Owes asked file journal text
+  owes_of_part (run s p) journal text d = headline_of_part journal text d
+  owes_of_part (verify p) journal text d = tells_of_part _ text d
+  owes_of_part (print p) journal text d = tells_of_part _ text d
 
--- ---- the end, said of the files
+  prefix_of_part : (asked : Asked) (journal : List Entry) (old new : Option (List ℕ)) → WritesPrefix asked part journal old new → WritesPrefix asked file journal old new
+  prefix_of_part asked journal old new w = (w.0, (owes_of_part asked journal w.0 w.1.0, w.1.1))
 
-ends_by_script : (r : Option Refusal) (file front : List ℕ) (old new : Option (List ℕ)) → front ≡ take (file_limit + 1) file → EndsByScript r front old new → EndsByScript r file old new
-ends_by_script None file front old new e s = script_of_front file front e s
-ends_by_script (Some because.Words) file front old new e s = tt
-ends_by_script (Some because.ScriptRead) file front old new e s = tt
-ends_by_script (Some because.PayloadRead) file front old new e s = tt
-ends_by_script (Some because.Write) file front old new e s = script_of_front file front e s
-ends_by_script (Some (because.Payload f)) file front old new e s = script_of_front file front e s
-ends_by_script (Some because.Script) file front old new e s = λ f. s (front_of_script file front e f)
-ends_by_script (Some because.NoMemory) file front old new e s = ⊎_elim (λ (same : new ≡ old). inl same) (λ (f : IsScriptFile front). inr (script_of_front file front e f)) s
+  most_of_part : (asked : Asked) (old new : Option (List ℕ)) → WritesAtMost asked part old new → WritesAtMost asked file old new
+  most_of_part asked old new w =
+      ⊎_elim (λ (same : new ≡ old). inl same) (λ (x : (js : List Entry) × WritesPrefix asked part js old new). inr (x.0, prefix_of_part asked x.0 old new x.1)) w
 
-pub script_told : (told : Option (List ℕ)) (r : Option Refusal) (front : List ℕ) (old new : Option (List ℕ)) → IfSome told (λ file. front ≡ take (file_limit + 1) file) → EndsByScript r front old new → IfSome told (λ file. EndsByScript r file old new)
-script_told None r front old new e s = tt
-script_told (Some file) r front old new e s = ends_by_script r file front old new e s
+  -- ---- the end, said of the file
 
-ends_by_payload : (r : Option Refusal) (asked : Asked) (file front : List ℕ) (journal : List Entry) (old new : Option (List ℕ)) → front ≡ take (file_limit + 1) file → EndsByPayload r asked front journal old new → EndsByPayload r asked file journal old new
-ends_by_payload None asked file front journal old new e h = (h.0, (due_of_front asked file front journal h.0 e h.1.0, h.1.1))
-ends_by_payload (Some because.Words) asked file front journal old new e h = tt
-ends_by_payload (Some because.ScriptRead) asked file front journal old new e h = tt
-ends_by_payload (Some because.PayloadRead) asked file front journal old new e h = tt
-ends_by_payload (Some because.Write) asked file front journal old new e h = writes_of_front asked file front journal old new e h
-ends_by_payload (Some (because.Payload f)) asked file front journal old new e h = refuses_of_front asked file front f e h
-ends_by_payload (Some because.Script) asked file front journal old new e h = tt
-ends_by_payload (Some because.NoMemory) asked file front journal old new e h =
-    ⊎_elim (λ (same : new ≡ old). inl same) (λ (w : (js : List Entry) × WritesFront asked front js old new). inr (w.0, writes_of_front asked file front w.0 old new e w.1)) h
+  script_end : (end : End) (old new : Option (List ℕ)) → JudgesScript end old new part → JudgesScript end old new file
+  script_end end old new j = judged_alike _ end _ _ _ _ _ script_of_part (λ no s. no (part_of_script s)) j
 
-pub payload_told : (told : Option (List ℕ)) (r : Option Refusal) (asked : Asked) (front : List ℕ) (journal : List Entry) (old new : Option (List ℕ)) → IfSome told (λ file. front ≡ take (file_limit + 1) file) → EndsByPayload r asked front journal old new → IfSome told (λ file. EndsByPayload r asked file journal old new)
-payload_told None r asked front journal old new e h = tt
-payload_told (Some file) r asked front journal old new e h = ends_by_payload r asked file front journal old new e h
+  payload_end : (end : End) (fault : Option Fault) (old new : Option (List ℕ)) (asked : Asked) → JudgesPayload end fault old new asked part → JudgesPayload end fault old new asked file
+  payload_end end fault old new asked j =
+      judged_alike _ end _ _ _ _ _ (accepts_of_part asked) (λ (r : RefusesWith fault asked part). (r.0, (r.1.0, refuses_of_part asked r.0 r.1.1))) j
+
+  text_end : (end : End) (journal : List Entry) (old new : Option (List ℕ)) (asked : Asked) → Writes end journal old new asked part → Writes end journal old new asked file
+  text_end end journal old new asked w = record {
+    done = λ p. let x = w.done p in (x.0, (owes_of_part asked journal x.0 x.1.0, x.1.1));
+    cut = λ p. prefix_of_part asked journal old new (w.cut p);
+    memory = λ p. most_of_part asked old new (w.memory p);
+  }
+
+-- ---- where the file is told
+
+-- what was read of a file
+abbrev pub IsRead : Option (List ℕ) → List ℕ → Type 0
+IsRead told part = IfSome told (λ file. part ≡ take (file_limit + 1) file)
+
+pub script_told : (told : Option (List ℕ)) (part : List ℕ) (end : End) (old new : Option (List ℕ)) → IsRead told part → JudgesScript end old new part → IfSome told (JudgesScript end old new)
+script_told None part end old new e j = tt
+script_told (Some file) part end old new e j = script_end file part e end old new j
+
+pub payload_told : (told : Option (List ℕ)) (part : List ℕ) (end : End) (fault : Option Fault) (old new : Option (List ℕ)) (asked : Asked) → IsRead told part → JudgesPayload end fault old new asked part → IfSome told (JudgesPayload end fault old new asked)
+payload_told None part end fault old new asked e j = tt
+payload_told (Some file) part end fault old new asked e j = payload_end file part e end fault old new asked j
+
+pub text_told : (told : Option (List ℕ)) (part : List ℕ) (end : End) (journal : List Entry) (old new : Option (List ℕ)) (asked : Asked) → IsRead told part → Writes end journal old new asked part → IfSome told (Writes end journal old new asked)
+text_told None part end journal old new asked e w = tt
+text_told (Some file) part end journal old new asked e w = text_end file part e end journal old new asked w

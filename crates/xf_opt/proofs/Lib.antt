@@ -4,5 +4,6 @@ pub mod FormFacts
 pub mod FormKept
 pub mod FormLists
 pub mod FormParts
+pub mod Headline
 pub mod Runs
 pub mod Statuses

@@ -77,7 +77,8 @@ is_one_block (region args ops rest) = is_plain_block args ops && has_no_regions 
 
 -- a function that has a body, gives one value, and has a symbol of fewer bytes than a number of 32 bits can count
 abbrev pub is_plain_head : Kind → Bool
-is_plain_head (kind.Func symbol private results) = not private && (is_one_i32 results && nat_lt (length symbol) (2 ^ 32))
+is_plain_head (kind.Func symbol private results) =
+    not private && (is_one_i32 results && nat_lt (length symbol) (2 ^ 32))
 is_plain_head _ = false
 
 abbrev pub is_plain_function : Kind → List Attr → Regions → Bool

@@ -1,5 +1,10 @@
 pub mod Words
+pub mod Paths
 pub mod Form
 pub mod Run
-pub mod Ends
-pub mod Ended
+pub mod Stages
+pub mod Statuses
+pub mod Files
+pub mod Owes
+pub mod Told
+pub mod Refusals

@@ -6,19 +6,26 @@ use Rattle.xf_ir.specs.Choices.{Choice, choice_numbered, dead_code, Applies, cho
 use Rattle.xf_opt.specs.declared.journal.Entry.{Entry}
 use Rattle.xf_opt.specs.declared.journal.Entry.TheVariants.{Choose, EndScope}
 
--- the step at one target, with the choices that it may take: each applies where it is taken, and the scope ends only where
--- none does. It takes its entries from the front of the journal and leaves the rest
+-- the step at one target, with the choices that it may take: each applies where it is taken, and the scope ends only
+-- where none does. It takes its entries from the front of the journal and leaves the rest
 abbrev pub ScopeRuns : List Choice → OpName → Module → List Entry → Module → List Entry → Type 0
 ScopeRuns choices target m [] after rest = ⊥
-ScopeRuns choices target m (EndScope ∷ entries) after rest = IsNormal choices m target × ((after ≡ m) × (rest ≡ entries))
+ScopeRuns choices target m (EndScope ∷ entries) after rest =
+    IsNormal choices m target × ((after ≡ m) × (rest ≡ entries))
 ScopeRuns choices target m (Choose kind name ∷ entries) after rest =
-    (choice : Choice) × (choice_numbered kind choices ≡ Some choice) × Applies choice m target name × ScopeRuns choices target (chosen choice m name) entries after rest
+    (choice : Choice)
+    × (choice_numbered kind choices ≡ Some choice)
+    × Applies choice m target name
+    × ScopeRuns choices target (chosen choice m name) entries after rest
 
 -- the step at each target in turn
 abbrev pub TargetsRun : List Choice → List OpName → Module → List Entry → Module → List Entry → Type 0
 TargetsRun choices [] m entries after rest = (after ≡ m) × (rest ≡ entries)
 TargetsRun choices (target ∷ targets) m entries after rest =
-    (between : Module) × (left : List Entry) × ScopeRuns choices target m entries between left × TargetsRun choices targets between left after rest
+    (between : Module)
+    × (left : List Entry)
+    × ScopeRuns choices target m entries between left
+    × TargetsRun choices targets between left after rest
 
 -- what the main argument is bound to: the list of operation 0, the module itself
 abbrev pub main_argument : List OpName

@@ -23,25 +23,34 @@ is_path word = not (begins_with_dash word)
 
 -- a command that takes a payload alone
 abbrev pub payload_command : List ℕ → List ℕ → Option Asked
-payload_command command payload = if bytes_eq command (codes "verify") then Some (verify payload) else if bytes_eq command (codes "print") then Some (print payload) else None
+payload_command command payload =
+    if bytes_eq command (codes "verify") then Some (verify payload)
+    else if bytes_eq command (codes "print") then Some (print payload)
+    else None
 
 -- the command and the names of its options
 abbrev pub are_run : List ℕ → List ℕ → List ℕ → Bool
-are_run command script_option payload_option = bytes_eq command (codes "run") && (bytes_eq script_option (codes "--script") && bytes_eq payload_option (codes "--payload"))
+are_run command script_option payload_option =
+    bytes_eq command (codes "run")
+    && (bytes_eq script_option (codes "--script") && bytes_eq payload_option (codes "--payload"))
 
 -- `verify --payload P` or `print --payload P`, where the path does not begin with `-`
 abbrev pub payload_words : List ℕ → List ℕ → List ℕ → Option Asked
-payload_words command option payload = if bytes_eq option (codes "--payload") && is_path payload then payload_command command payload else None
+payload_words command option payload =
+    if bytes_eq option (codes "--payload") && is_path payload then payload_command command payload else None
 
 -- `run --script S --payload P`, where neither path begins with `-`
 abbrev pub run_words : List ℕ → List ℕ → List ℕ → List ℕ → List ℕ → Option Asked
 run_words command script_option script payload_option payload =
-    if are_run command script_option payload_option then (if is_path script && is_path payload then Some (run script payload) else None) else None
+    if are_run command script_option payload_option
+    then (if is_path script && is_path payload then Some (run script payload) else None)
+    else None
 
 -- the words of one of the commands
 abbrev pub command_of : List (List ℕ) → Option Asked
 command_of (command ∷ option ∷ payload ∷ []) = payload_words command option payload
-command_of (command ∷ script_option ∷ script ∷ payload_option ∷ payload ∷ []) = run_words command script_option script payload_option payload
+command_of (command ∷ script_option ∷ script ∷ payload_option ∷ payload ∷ []) =
+    run_words command script_option script payload_option payload
 command_of words = None
 
 -- ---- paths

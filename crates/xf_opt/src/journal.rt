@@ -7,7 +7,7 @@ use xf_ir::OpName;
 use xf_type::{ListOf, NoMemory};
 
 /// One step of a run that its script leaves open.
-#[derive(Clone, Copy, Debug, PartialEq, Eq)]
+#[derive(Drop)]
 pub enum Entry {
     /// A rewriting choice: its kind and the operation that it changes.
     Choose { kind: u8, op: OpName },
@@ -16,7 +16,7 @@ pub enum Entry {
 }
 
 /// The entries of a run, in order.
-#[derive(Debug, Drop)]
+#[derive(Drop)]
 pub struct Journal {
     entries: ListOf<Entry>,
 }

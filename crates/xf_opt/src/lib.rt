@@ -3,7 +3,6 @@
 
 mod form;
 mod journal;
-mod judged;
 mod outcome;
 mod run;
 mod schedule;

@@ -1,8 +1,9 @@
 //! How a call ends.
 ghost use Rattle.std.specs.Prelude.{◌≡◌, ℕ, List};
+ghost use Rattle.xf_span.specs.Fault.{plain_fault};
 ghost use Rattle.xf_span.specs.Line.{line_of, HasLine};
-ghost use Rattle.xf_opt.specs.Ended.{status_of, path_of, fault_of};
-ghost use Rattle.xf_opt.specs.Ends.{TellsLine};
+ghost use Rattle.xf_opt.specs.Refusals.{row, row_of, status_of, path_of, fault_of};
+ghost use Rattle.xf_opt.specs.Told.{TellsLine};
 
 use crate::journal::Journal;
 use xf_host::sink::{Sink, SinkFail};
@@ -17,7 +18,7 @@ pub enum Told {
 }
 
 /// The end of a call.
-#[derive(Debug, Drop)]
+#[derive(Drop)]
 pub struct Outcome {
     /// 0: the text was written; 1: words; 2: a read failed; 3: a write failed; 4: the payload is
     /// refused; 5: the script is refused; 9: want of memory.
@@ -36,56 +37,83 @@ pub enum Refusal {
     Words,
     ScriptRead,
     PayloadRead,
-    Write,
-    /// The payload's file has this fault.
-    Payload(Fault),
     /// The script is no schedule of the form that is supported.
     Script,
+    /// The payload's file has this fault.
+    Payload(Fault),
+    Write,
     NoMemory,
 }
 
+/// The file whose path a line names.
+#[derive(Clone, Copy, Debug)]
+enum File {
+    Neither,
+    Script,
+    Payload,
+}
+
+/// What a call that is refused tells.
+#[derive(Clone, Copy, Debug)]
+struct Row {
+    status: u8,
+    fault: Fault,
+    file: File,
+}
+
+/// The row of a refusal that has no more to it than its code.
+fn plain_row(status: u8, code: Code, file: File) -> Row
+    ensures { result ≡ row status (plain_fault code) file }
+{
+    Row {
+        status,
+        fault: Fault::plain(code),
+        file,
+    }
+}
+
 impl Refusal {
+    /// The status of a call that ends so, its fault, and the file that the line names.
+    fn row(self) -> Row
+        ensures { result ≡ row_of self }
+    {
+        match self {
+            Refusal::Words => plain_row(1, Code::Words, File::Neither),
+            Refusal::ScriptRead => plain_row(2, Code::ReadFailed, File::Script),
+            Refusal::PayloadRead => plain_row(2, Code::ReadFailed, File::Payload),
+            Refusal::Script => plain_row(5, Code::N1, File::Script),
+            Refusal::Payload(fault) => Row {
+                status: 4,
+                fault,
+                file: File::Payload,
+            },
+            Refusal::Write => plain_row(3, Code::WriteFailed, File::Neither),
+            Refusal::NoMemory => plain_row(9, Code::OutOfMemory, File::Neither),
+        }
+    }
+
     /// The status of a call that ends so.
     pub fn status(self) -> u8
         ensures { result ≡ status_of self }
     {
-        match self {
-            Refusal::Words => 1,
-            Refusal::ScriptRead => 2,
-            Refusal::PayloadRead => 2,
-            Refusal::Write => 3,
-            Refusal::Payload(_) => 4,
-            Refusal::Script => 5,
-            Refusal::NoMemory => 9,
-        }
-    }
-
-    /// The path that the line begins with; nothing where it names none.
-    pub fn path<'w>(self, script: &'w str, payload: &'w str) -> &'w str
-        ensures { result.now ≡ path_of self script.now payload.now }
-    {
-        match self {
-            Refusal::Words => "",
-            Refusal::ScriptRead => script,
-            Refusal::PayloadRead => payload,
-            Refusal::Write => "",
-            Refusal::Payload(_) => payload,
-            Refusal::Script => script,
-            Refusal::NoMemory => "",
-        }
+        self.row().status
     }
 
     /// The fault that ends the call.
     pub fn fault(self) -> Fault
         ensures { result ≡ fault_of self }
     {
-        match self {
-            Refusal::Words => Fault::plain(Code::Words),
-            Refusal::ScriptRead | Refusal::PayloadRead => Fault::plain(Code::ReadFailed),
-            Refusal::Write => Fault::plain(Code::WriteFailed),
-            Refusal::Payload(fault) => fault,
-            Refusal::Script => Fault::plain(Code::N1),
-            Refusal::NoMemory => Fault::plain(Code::OutOfMemory),
+        self.row().fault
+    }
+
+    /// The path that the line begins with; nothing where it names none.
+    pub fn path<'w>(self, script: &'w str, payload: &'w str) -> &'w str
+        ensures { result.now ≡ path_of self script.now payload.now }
+    {
+        match self.row().file {
+            File::Neither => "",
+            File::Script => script,
+            File::Payload => payload,
         }
     }
 }
@@ -93,7 +121,8 @@ impl Refusal {
 /// Writes the line of a refusal, whose fault has what the line tells; the path is empty where the line names none.
 pub fn tell<E: Sink>(err: &mut E, path: &str, refusal: Refusal) -> Told
     requires { HasLine (fault_of refusal) }
-    ensures { TellsLine result (line_of path.now (fault_of refusal)) (E.written err.old) (E.written err.new) (E.faults err.old) (E.faults err.new) }
+    ensures { TellsLine result (line_of path.now (fault_of refusal))
+        (E.written err.old) (E.written err.new) (E.faults err.old) (E.faults err.new) }
 {
     match write_fault(err, path, &refusal.fault()) {
         Ok(()) => Told::Whole,

@@ -1,10 +1,17 @@
 //! The top call.
-ghost use Rattle.std.specs.Prelude.{◌≡◌, ◌≢◌, ◌≤◌, ◌↔◌, ◌+◌, ℕ, List, [], Some, None, IsNone, IfOk, IfSome, IsErrOf, take};
+ghost use Rattle.std.specs.Prelude.{◌≡◌, ◌≢◌, ◌≤◌, ◌↔◌, ◌+◌, ℕ, List, [], Some, None, IsNone, IfOk, IfErr, IfSome, IsErrOf, take};
 ghost use Rattle.xf_host.specs.Count.{HasRisen};
+ghost use Rattle.xf_span.specs.Line.{HasLine};
 ghost use Rattle.xf_span.specs.Limit.{file_limit};
 ghost use Rattle.xf_opt.specs.Words.{texts, run, verify, print, command_of};
-ghost use Rattle.xf_opt.specs.Ended.{asked_by, refusal_at, EndsPlainly, EndsByScript, EndsByPayload, EndsByReads};
-ghost use Rattle.xf_opt.specs.Ends.{IsStatus, RunsNoScript, OnScript, OnPayload, HasReadFault, JudgesScript, JudgesPayload, Finishes, WritesFront, WritesAtMost, OthersStay, FaultIs, TellsEnd};
+ghost use Rattle.xf_opt.specs.Paths.{RunsNoScript, OnScript, OnPayload, HasReadFault, OthersStay};
+ghost use Rattle.xf_opt.specs.Stages.{EndsAt, EndsBefore};
+ghost use Rattle.xf_opt.specs.Stages as stage;
+ghost use Rattle.xf_opt.specs.Statuses.{IsStatus, ending, FaultIs};
+ghost use Rattle.xf_opt.specs.Files.{JudgesScript, JudgesPayload};
+ghost use Rattle.xf_opt.specs.Owes.{Writes};
+ghost use Rattle.xf_opt.specs.Refusals.{asked_by, end_of, stage_of, fault_in, fault_of, file_of, HasFile, HasRisenOf};
+ghost use Rattle.xf_opt.specs.Told.{TellsEnd};
 
 use crate::journal::Journal;
 use crate::outcome::{Outcome, Refusal, Told, tell};
@@ -19,8 +26,10 @@ use xf_span::FILE_LIMIT;
 /// Reads a file, and at most one byte past the greatest length.
 fn read_file<F: Files>(alloc: Global, files: &mut F, path: &str) -> Result<Vec<u8>, FileFail>
     ensures told { (q : List ℕ) → F.holds files.new q ≡ F.holds files.old q }
-    ensures bytes { IfOk result (λ bytes. IfSome (F.holds files.old path.now) (λ file. bytes.items ≡ take (file_limit + 1) file)) }
-    ensures cause { IsErrOf result FileFail.Failed → HasRisen (F.faults files.old path.now) (F.faults files.new path.now) }
+    ensures bytes { IfOk result (λ bytes. IfSome (F.holds files.old path.now)
+        (λ file. bytes.items ≡ take (file_limit + 1) file)) }
+    ensures cause { IsErrOf result FileFail.Failed
+        → HasRisen (F.faults files.old path.now) (F.faults files.new path.now) }
     ensures grows { F.faults files.old path.now ≤ F.faults files.new path.now }
     ensures others { (q : List ℕ) → q ≢ path.now → F.faults files.new q ≡ F.faults files.old q }
 {
@@ -43,10 +52,20 @@ fn run<F: Files, S: Sink>(
     requires fresh { journal.old ≡ [] }
     ensures holds { (q : List ℕ) → F.holds files.new q ≡ F.holds files.old q }
     ensures others { OthersStay (Some (run script.now payload.now)) (F.faults files.old) (F.faults files.new) }
-    ensures reads { EndsByReads (refusal_at result) (run script.now payload.now) (F.faults files.old) (F.faults files.new) }
-    ensures plain { EndsPlainly (refusal_at result) journal.new (out.new ≡ out.old) (S.faults out.old) (S.faults out.new) }
-    ensures script { IfSome (F.holds files.old script.now) (λ file. EndsByScript (refusal_at result) file (S.written out.old) (S.written out.new)) }
-    ensures payload { IfSome (F.holds files.old payload.now) (λ file. EndsByPayload (refusal_at result) (run script.now payload.now) file journal.new (S.written out.old) (S.written out.new)) }
+    ensures past_words { EndsBefore stage.reads (end_of result) → ⊥ }
+    ensures file { IfErr result (λ r. HasFile (file_of r) (run script.now payload.now)) }
+    ensures reads { IfErr result (λ r. EndsAt stage.reads (stage_of r)
+        → HasRisenOf (file_of r) (run script.now payload.now) (F.faults files.old) (F.faults files.new)) }
+    ensures script { IfSome (F.holds files.old script.now) (JudgesScript (end_of result)
+        (S.written out.old) (S.written out.new)) }
+    ensures payload { IfSome (F.holds files.old payload.now) (JudgesPayload (end_of result) (fault_in result)
+        (S.written out.old) (S.written out.new) (run script.now payload.now)) }
+    ensures text { IfSome (F.holds files.old payload.now) (Writes (end_of result) journal.new
+        (S.written out.old) (S.written out.new) (run script.now payload.now)) }
+    ensures write { EndsAt stage.write (end_of result) → HasRisen (S.faults out.old) (S.faults out.new) }
+    ensures untouched { EndsBefore stage.write (end_of result) → out.new ≡ out.old }
+    ensures line { IfErr result (λ r. HasLine (fault_of r)) }
+    ensures unrun { EndsBefore stage.run (end_of result) → journal.new ≡ [] }
 {
     let script = match read_file(alloc, files, script) {
         Ok(bytes) => bytes,
@@ -70,9 +89,17 @@ fn verify<F: Files, S: Sink>(
 ) -> Result<(), Refusal>
     ensures holds { (q : List ℕ) → F.holds files.new q ≡ F.holds files.old q }
     ensures others { OthersStay (Some (verify payload.now)) (F.faults files.old) (F.faults files.new) }
-    ensures reads { EndsByReads (refusal_at result) (verify payload.now) (F.faults files.old) (F.faults files.new) }
-    ensures plain { EndsPlainly (refusal_at result) [] (out.new ≡ out.old) (S.faults out.old) (S.faults out.new) }
-    ensures payload { IfSome (F.holds files.old payload.now) (λ file. EndsByPayload (refusal_at result) (verify payload.now) file [] (S.written out.old) (S.written out.new)) }
+    ensures past_words { EndsBefore stage.reads (end_of result) → ⊥ }
+    ensures file { IfErr result (λ r. HasFile (file_of r) (verify payload.now)) }
+    ensures reads { IfErr result (λ r. EndsAt stage.reads (stage_of r)
+        → HasRisenOf (file_of r) (verify payload.now) (F.faults files.old) (F.faults files.new)) }
+    ensures payload { IfSome (F.holds files.old payload.now) (JudgesPayload (end_of result) (fault_in result)
+        (S.written out.old) (S.written out.new) (verify payload.now)) }
+    ensures text { IfSome (F.holds files.old payload.now) (Writes (end_of result) []
+        (S.written out.old) (S.written out.new) (verify payload.now)) }
+    ensures write { EndsAt stage.write (end_of result) → HasRisen (S.faults out.old) (S.faults out.new) }
+    ensures untouched { EndsBefore stage.write (end_of result) → out.new ≡ out.old }
+    ensures line { IfErr result (λ r. HasLine (fault_of r)) }
 {
     let bytes = match read_file(alloc, files, payload) {
         Ok(bytes) => bytes,
@@ -91,9 +118,17 @@ fn print<F: Files, S: Sink>(
 ) -> Result<(), Refusal>
     ensures holds { (q : List ℕ) → F.holds files.new q ≡ F.holds files.old q }
     ensures others { OthersStay (Some (print payload.now)) (F.faults files.old) (F.faults files.new) }
-    ensures reads { EndsByReads (refusal_at result) (print payload.now) (F.faults files.old) (F.faults files.new) }
-    ensures plain { EndsPlainly (refusal_at result) [] (out.new ≡ out.old) (S.faults out.old) (S.faults out.new) }
-    ensures payload { IfSome (F.holds files.old payload.now) (λ file. EndsByPayload (refusal_at result) (print payload.now) file [] (S.written out.old) (S.written out.new)) }
+    ensures past_words { EndsBefore stage.reads (end_of result) → ⊥ }
+    ensures file { IfErr result (λ r. HasFile (file_of r) (print payload.now)) }
+    ensures reads { IfErr result (λ r. EndsAt stage.reads (stage_of r)
+        → HasRisenOf (file_of r) (print payload.now) (F.faults files.old) (F.faults files.new)) }
+    ensures payload { IfSome (F.holds files.old payload.now) (JudgesPayload (end_of result) (fault_in result)
+        (S.written out.old) (S.written out.new) (print payload.now)) }
+    ensures text { IfSome (F.holds files.old payload.now) (Writes (end_of result) []
+        (S.written out.old) (S.written out.new) (print payload.now)) }
+    ensures write { EndsAt stage.write (end_of result) → HasRisen (S.faults out.old) (S.faults out.new) }
+    ensures untouched { EndsBefore stage.write (end_of result) → out.new ≡ out.old }
+    ensures line { IfErr result (λ r. HasLine (fault_of r)) }
 {
     let bytes = match read_file(alloc, files, payload) {
         Ok(bytes) => bytes,
@@ -114,10 +149,20 @@ fn execute<F: Files, S: Sink>(
     requires fresh { journal.old ≡ [] }
     ensures holds { (q : List ℕ) → F.holds files.new q ≡ F.holds files.old q }
     ensures others { OthersStay (Some (asked_by command.entry)) (F.faults files.old) (F.faults files.new) }
-    ensures reads { EndsByReads (refusal_at result) (asked_by command.entry) (F.faults files.old) (F.faults files.new) }
-    ensures plain { EndsPlainly (refusal_at result) journal.new (out.new ≡ out.old) (S.faults out.old) (S.faults out.new) }
-    ensures script { OnScript (Some (asked_by command.entry)) (F.holds files.old) (λ file. EndsByScript (refusal_at result) file (S.written out.old) (S.written out.new)) }
-    ensures payload { OnPayload (Some (asked_by command.entry)) (F.holds files.old) (λ asked file. EndsByPayload (refusal_at result) asked file journal.new (S.written out.old) (S.written out.new)) }
+    ensures past_words { EndsBefore stage.reads (end_of result) → ⊥ }
+    ensures file { IfErr result (λ r. HasFile (file_of r) (asked_by command.entry)) }
+    ensures reads { IfErr result (λ r. EndsAt stage.reads (stage_of r)
+        → HasRisenOf (file_of r) (asked_by command.entry) (F.faults files.old) (F.faults files.new)) }
+    ensures script { OnScript (Some (asked_by command.entry)) (F.holds files.old)
+        (JudgesScript (end_of result) (S.written out.old) (S.written out.new)) }
+    ensures payload { OnPayload (Some (asked_by command.entry)) (F.holds files.old)
+        (JudgesPayload (end_of result) (fault_in result) (S.written out.old) (S.written out.new)) }
+    ensures text { OnPayload (Some (asked_by command.entry)) (F.holds files.old)
+        (Writes (end_of result) journal.new (S.written out.old) (S.written out.new)) }
+    ensures write { EndsAt stage.write (end_of result) → HasRisen (S.faults out.old) (S.faults out.new) }
+    ensures untouched { EndsBefore stage.write (end_of result) → out.new ≡ out.old }
+    ensures line { IfErr result (λ r. HasLine (fault_of r)) }
+    ensures unrun { EndsBefore stage.run (end_of result) → journal.new ≡ [] }
     ensures journal { RunsNoScript (Some (asked_by command.entry)) → journal.new ≡ [] }
 {
     match command {
@@ -144,31 +189,28 @@ pub fn transform_main<F: Files, S: Sink, E: Sink>(
     out: &mut S,
     err: &mut E,
 ) -> Outcome
-    // When each status comes.
+    // When each status comes: past a stage its condition held, and a call that ended there has the cause.
     ensures known { IsStatus result.status }
-    ensures words { (result.status ≡ 1) ↔ IsNone (command_of (texts words.now)) }
-    ensures read { result.status ≡ 2 → HasReadFault (command_of (texts words.now)) (F.faults files.old) (F.faults files.new) }
-    ensures write { result.status ≡ 3 → HasRisen (S.faults out.old) (S.faults out.new) }
+    ensures words { EndsAt stage.words (ending result.status) ↔ IsNone (command_of (texts words.now)) }
+    ensures reads { EndsAt stage.reads (ending result.status)
+        → HasReadFault (command_of (texts words.now)) (F.faults files.old) (F.faults files.new) }
     ensures script { OnScript (command_of (texts words.now)) (F.holds files.old)
-        (JudgesScript result.status (S.written out.old) (S.written out.new)) }
+        (JudgesScript (ending result.status) (S.written out.old) (S.written out.new)) }
     ensures payload { OnPayload (command_of (texts words.now)) (F.holds files.old)
-        (JudgesPayload result.status result.fault) }
+        (JudgesPayload (ending result.status) result.fault (S.written out.old) (S.written out.new)) }
+    ensures write { EndsAt stage.write (ending result.status) → HasRisen (S.faults out.old) (S.faults out.new) }
 
     // What was written.
-    ensures done { result.status ≡ 0 → OnPayload (command_of (texts words.now)) (F.holds files.old)
-        (λ asked file. Finishes asked file result.journal (S.written out.old) (S.written out.new)) }
-    ensures front { result.status ≡ 3 → OnPayload (command_of (texts words.now)) (F.holds files.old)
-        (λ asked file. WritesFront asked file result.journal (S.written out.old) (S.written out.new)) }
-    ensures memory { result.status ≡ 9 → OnPayload (command_of (texts words.now)) (F.holds files.old)
-        (λ asked file. WritesAtMost asked file (S.written out.old) (S.written out.new)) }
-    ensures untouched { result.status ≢ 0 → result.status ≢ 3 → result.status ≢ 9
-        → (out.new ≡ out.old) × (result.journal ≡ []) }
+    ensures text { OnPayload (command_of (texts words.now)) (F.holds files.old)
+        (Writes (ending result.status) result.journal (S.written out.old) (S.written out.new)) }
+    ensures untouched { EndsBefore stage.write (ending result.status) → out.new ≡ out.old }
+    ensures unrun { EndsBefore stage.run (ending result.status) → result.journal ≡ [] }
     ensures journal { RunsNoScript (command_of (texts words.now)) → result.journal ≡ [] }
 
     // What was read.
     ensures holds { (path : List ℕ) → F.holds files.new path ≡ F.holds files.old path }
     ensures others { OthersStay (command_of (texts words.now)) (F.faults files.old) (F.faults files.new) }
-    ensures unread { result.status ≡ 1 → files.new ≡ files.old }
+    ensures unread { EndsAt stage.words (ending result.status) → files.new ≡ files.old }
 
     // What was told.
     ensures fault { FaultIs result.status result.fault }

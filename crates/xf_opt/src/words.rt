@@ -2,7 +2,7 @@
 ghost use Rattle.std.specs.Prelude.{◌≡◌};
 ghost use Rattle.std.specs.Option.{option_map};
 ghost use Rattle.xf_opt.specs.Words.{texts, is_path, are_run, payload_command, payload_words, run_words, command_of, script_of, payload_of};
-ghost use Rattle.xf_opt.specs.Ended.{asked_by, path_or_none};
+ghost use Rattle.xf_opt.specs.Refusals.{asked_by, path_or_none};
 
 /// A command, with the paths that it names.
 #[derive(Clone, Copy, Debug)]
@@ -84,7 +84,8 @@ fn run_words<'w>(
     payload_option: &str,
     payload: &'w str,
 ) -> Option<Command<'w>>
-    ensures { option_map asked_by result ≡ run_words command.now script_option.now script.now payload_option.now payload.now }
+    ensures { option_map asked_by result
+        ≡ run_words command.now script_option.now script.now payload_option.now payload.now }
 {
     if !are_run(command, script_option, payload_option) {
         return None;

@@ -62,8 +62,8 @@ place_or_first (Some p) = p
 abbrev pub rule_fault : List Place → Violation → Fault
 rule_fault places v = fault_at (rule_code v.rule) (place_or_first (slice_get places v.op.0))
 
--- the module that its bytes spell is not valid; the first operation in the text that breaks a rule has the fault of the first
--- rule that it breaks
+-- the module that its bytes spell is not valid; the first operation in the text that breaks a rule has the fault of the
+-- first rule that it breaks
 pub record BreaksARule (file : List ℕ) (f : Fault) : Type 0 where
   pub fits : length file ≤ file_limit
   pub before : Module

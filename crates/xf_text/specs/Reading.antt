@@ -1,5 +1,6 @@
 -- How the reader of schedules goes over tokens, from the front on: what it reads, and the tokens that are left.
--- Contracts of private functions cite it; what is read is exactly what `script_tokens` writes, which is proved beside it.
+-- Contracts of private functions cite it; what is read is exactly what `script_tokens` writes, which is proved beside
+-- it.
 use Rattle.std.specs.Prelude.{◌≡◌, List, [], ◌∷◌, Option, Some, None, Bool, false, ◌&&◌, if◌then◌else◌, codes}
 use Rattle.xf_ir.specs.Lists.{same_bytes}
 use Rattle.xf_text.specs.contracts.token.TokenKindPartialEq.TheImpl as kind_eq
@@ -61,8 +62,11 @@ at_end x (t ∷ ts) = None
 -- the module and the main sequence, up to its `{`: the name of the argument
 unfoldable pub sequence_front : List Token → Front Name
 sequence_front ts = do
-  module_body ← behind_all (word (codes "module") ∷ word (codes "attributes") ∷ mark 123 ∷ word (codes "transform.with_named_sequence") ∷ mark 125 ∷ mark 123 ∷ []) ts
-  params ← behind_all (word (codes "transform.named_sequence") ∷ token kind.Symbol (codes "@__transform_main") ∷ mark 40 ∷ []) module_body
+  module_body ← behind_all
+      (word (codes "module") ∷ word (codes "attributes")
+      ∷ mark 123 ∷ word (codes "transform.with_named_sequence") ∷ mark 125 ∷ mark 123 ∷ []) ts
+  params ← behind_all
+      (word (codes "transform.named_sequence") ∷ token kind.Symbol (codes "@__transform_main") ∷ mark 40 ∷ []) module_body
   argument ← bytes_front kind.Value params
   after ← behind_all (colon ∷ any_op ∷ mark 41 ∷ mark 123 ∷ []) argument.1
   Some (argument.0, after)
@@ -77,7 +81,8 @@ step_front ts = do
 
 -- the optional end of the sequence
 unfoldable pub yield_front : List Token → Option (List Token)
-yield_front ts = if begins (word (codes "transform.yield")) ts then behind (word (codes "transform.yield")) ts else Some ts
+yield_front ts =
+    if begins (word (codes "transform.yield")) ts then behind (word (codes "transform.yield")) ts else Some ts
 
 unfoldable pub script_front : List Token → Front Name
 script_front ts = do

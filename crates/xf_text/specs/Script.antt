@@ -16,8 +16,10 @@ yield_tokens false = []
 -- the main sequence, its argument of this name, and `transform.apply_dce to` it
 abbrev pub script_tokens : Name → Bool → List Token
 script_tokens argument yields =
-    word (codes "module") ∷ word (codes "attributes") ∷ mark 123 ∷ word (codes "transform.with_named_sequence") ∷ mark 125 ∷ mark 123
-    ∷ word (codes "transform.named_sequence") ∷ token kind.Symbol (codes "@__transform_main") ∷ mark 40 ∷ value argument ∷ colon ∷ any_op ∷ mark 41 ∷ mark 123
+    word (codes "module") ∷ word (codes "attributes")
+    ∷ mark 123 ∷ word (codes "transform.with_named_sequence") ∷ mark 125 ∷ mark 123
+    ∷ word (codes "transform.named_sequence") ∷ token kind.Symbol (codes "@__transform_main")
+    ∷ mark 40 ∷ value argument ∷ colon ∷ any_op ∷ mark 41 ∷ mark 123
     ∷ word (codes "transform.apply_dce") ∷ word (codes "to") ∷ value argument ∷ colon ∷ any_op
     ∷ (yield_tokens yields ++ (mark 125 ∷ mark 125 ∷ []))
 

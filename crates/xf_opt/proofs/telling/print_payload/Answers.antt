@@ -1,10 +1,20 @@
 use Rattle.std.proofs.Common.{refl}
 use Rattle.xf_ir.specs.PrintedForm.{printed_form}
 use Rattle.xf_opt.specs.Words.{print}
-use Rattle.xf_opt.proofs.Ending.{front_told}
+use Rattle.xf_opt.proofs.Ending.{wrote_all, wrote_prefix, wrote_some}
 use Rattle.xf_opt.proofs.telling.print_payload.Goals as goal
 
-pub returns-clause-payload : goal.returns-clause-payload
-returns-clause-payload g c = λ p.
-    front_told (print p) c.args.bytes.now (printed_form c.in-Ok.module) c.in-Err-print.fail c.write_refusal.result _ _ c.write_refusal.ensures
-    (record { payload = c.in-Ok.module; holds = c.in-Ok.ensures.ok; is = refl }) c.in-Err-print.ensures.text
+pub returns-in-Ok-print-clause-text : goal.returns-in-Ok-print-clause-text
+returns-in-Ok-print-clause-text g c = λ p.
+    wrote_all (print p) _ _ _ _
+    (printed_form c.in-Ok.module, (record { payload = c.in-Ok.module; holds = c.in-Ok.ensures.ok; is = refl }, c.in-Ok-print.ensures.text))
+
+pub returns-in-Err-Failed-clause-text : goal.returns-in-Err-Failed-clause-text
+returns-in-Err-Failed-clause-text g c = λ p.
+    wrote_prefix (print p) _ _ _ _
+    (printed_form c.in-Ok.module, (record { payload = c.in-Ok.module; holds = c.in-Ok.ensures.ok; is = refl }, c.in-Err-Failed.ensures.text))
+
+pub returns-in-Err-NoMemory-print-clause-text : goal.returns-in-Err-NoMemory-print-clause-text
+returns-in-Err-NoMemory-print-clause-text g c = λ p.
+    wrote_some (print p) _ _ _ _
+    (printed_form c.in-Ok.module, (record { payload = c.in-Ok.module; holds = c.in-Ok.ensures.ok; is = refl }, c.in-Err-NoMemory-print.ensures.text))

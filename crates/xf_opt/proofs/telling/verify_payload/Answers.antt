@@ -1,9 +1,19 @@
 use Rattle.std.proofs.Common.{refl, codes}
 use Rattle.xf_opt.specs.Words.{verify}
-use Rattle.xf_opt.proofs.Ending.{front_told}
+use Rattle.xf_opt.proofs.Ending.{wrote_all, wrote_prefix, wrote_some}
 use Rattle.xf_opt.proofs.telling.verify_payload.Goals as goal
 
-pub returns-clause-payload : goal.returns-clause-payload
-returns-clause-payload g c = λ p.
-    front_told (verify p) c.args.bytes.now (codes "ok\n") c.in-Err-write.fail c.write_refusal.result _ _ c.write_refusal.ensures
-    (record { payload = c.in-Ok.module; holds = c.in-Ok.ensures.ok; is = refl }) c.in-Err-write.ensures.text
+pub returns-in-Ok-write-clause-text : goal.returns-in-Ok-write-clause-text
+returns-in-Ok-write-clause-text g c = λ p.
+    wrote_all (verify p) _ _ _ _
+    (codes "ok\n", (record { payload = c.in-Ok.module; holds = c.in-Ok.ensures.ok; is = refl }, c.in-Ok-write.ensures.text))
+
+pub returns-in-Err-Failed-clause-text : goal.returns-in-Err-Failed-clause-text
+returns-in-Err-Failed-clause-text g c = λ p.
+    wrote_prefix (verify p) _ _ _ _
+    (codes "ok\n", (record { payload = c.in-Ok.module; holds = c.in-Ok.ensures.ok; is = refl }, c.in-Err-Failed.ensures.text))
+
+pub returns-in-Err-NoMemory-write-clause-text : goal.returns-in-Err-NoMemory-write-clause-text
+returns-in-Err-NoMemory-write-clause-text g c = λ p.
+    wrote_some (verify p) _ _ _ _
+    (codes "ok\n", (record { payload = c.in-Ok.module; holds = c.in-Ok.ensures.ok; is = refl }, c.in-Err-NoMemory-write.ensures.text))
