@@ -1,11 +1,10 @@
 -- What a tree defines, it defines with other operands, with a tree put into it, and without a tree that does not define it.
-use Rattle.std.proofs.Common.{◌≡◌, ℕ, zero, suc, ◌||◌, length, Bool, true, false, eqb, Some, is_some, refl}
+use Rattle.std.proofs.Common.{◌≡◌, ℕ, zero, suc, List, ◌||◌, length, Bool, true, false, eqb, Some, is_some, refl}
 use Rattle.std.proofs.lemmas.Bool.{or_parts}
 use Rattle.xf_ir.specs.declared.name.OpName.{OpName}
 use Rattle.xf_ir.specs.declared.name.ValueName.{ValueName}
 use Rattle.xf_ir.specs.declared.change.Change.{Change}
 use Rattle.xf_ir.specs.declared.spot.Spot.{Spot}
-use Rattle.std.specs.Prelude.{List}
 use Rattle.xf_ir.specs.Tree.{Ops, no_ops, op, Regions, no_regions, region, Tree}
 use Rattle.xf_ir.specs.Walk.{tree_names, regions_find}
 use Rattle.xf_ir.specs.Lists.{Once}

@@ -9,7 +9,7 @@ use Rattle.xf_ir.specs.Walk.{ops_names, regions_names, tree_names, ops_find, reg
 use Rattle.xf_ir.specs.Lists.{Each, same_name, is_among, Once}
 use Rattle.xf_ir.specs.Spots.{tree_locate, ops_insert, regions_insert, ops_put, regions_put, tree_put, ops_length, regions_get, IsSpot}
 use Rattle.xf_ir.specs.Edits.{ops_at, regions_at, tail, tree_erased}
-use Rattle.xf_ir.proofs.Lists.{not_left, not_right, not_both, once_left, once_right, once_apart, absent_before, apart_names, Part, none, skip, keep, part_none, not_part, once_part}
+use Rattle.xf_ir.proofs.Lists.{not_left, not_right, not_both, once_left, once_right, once_apart, absent_before, apart_names, Part, none, skip, keep, part_all, part_none, not_part, once_part}
 use Rattle.xf_ir.proofs.Found.{tree, first_cases, some_or_none, tree_none_name, OpsWhere, RegionsWhere, where_found_regions}
 use Rattle.xf_ir_laws.proofs.Erased.{names_part, names_part_regions}
 use Rattle.xf_ir_laws.proofs.PutBack.{put_lacking_regions, erased_back, among_own, among_behind}
@@ -25,10 +25,6 @@ part_before ys (keep p) = keep (part_before ys p)
 part_after : {A : Type 0} {us ys : List A} (xs : List A) → Part us ys → Part us (xs ++ ys)
 part_after [] p = p
 part_after (x ∷ xs) p = skip (part_after xs p)
-
-part_itself : {A : Type 0} (xs : List A) → Part xs xs
-part_itself [] = none
-part_itself (x ∷ xs) = keep (part_itself xs)
 
 among_part : (n : OpName) {ys xs : List OpName} → Part ys xs → is_among n ys ≡ true → is_among n xs ≡ true
 among_part n none h = h
@@ -46,7 +42,7 @@ mutual
         | inl e ↦ (
             let h' = rw e at h in
             let q : tree m k ds os ts rs ≡ t = cc in
-            subst (λ x. Part (tree_names x) (m ∷ (ms ++ ns))) q (keep (part_before ns (part_itself ms))))
+            subst (λ x. Part (tree_names x) (m ∷ (ms ++ ns))) q (keep (part_before ns (part_all ms))))
         | inr e ↦ elim (first_cases (regions_find n rs) (ops_find n rest) t (rw e at h)) [
           | inl g ↦ skip (part_before ns (found_part n rs t g))
           | inr g ↦ skip (part_after ms (found_part_ops n rest t g.1))

@@ -36,7 +36,8 @@ pub fn inverse_leads_back()
     ensures { InverseLeadsBack }
 {}
 
-/// Where names occur once and each use is of a visible value, the inverse of an edit that fits the module fits the edited one.
+/// Where names occur once and each use is of a visible value, the inverse of an edit that fits the module fits the
+/// edited one.
 pub fn inverse_fits()
     ensures { InverseFits }
 {}
