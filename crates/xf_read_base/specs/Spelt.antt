@@ -47,16 +47,20 @@ is_row opening.Nothing = false
 abbrev pub begins_row : Seen → Bool
 begins_row x = is_row (opening_of (word_of x))
 
--- what reading says of a head: none where no operation of this reader begins, and else the fault at the first token that fits no
--- head
-abbrev pub stopped : List Token → ℕ → Due → Result (Option Head) Fault
-stopped all at due.OtherReader = Ok None
-stopped all at due.Operation = if begins_row (seen all at) then Err (due_fault all at due.Operation) else Ok None
-stopped all at d = Err (due_fault all at d)
+-- why no head is read: nothing where no operation of this reader begins, and else the fault at the first token that fits no head
+abbrev pub stopped : List Token → ℕ → Due → Option Fault
+stopped all at due.OtherReader = None
+stopped all at due.Operation = if begins_row (seen all at) then Some (due_fault all at due.Operation) else None
+stopped all at d = Some (due_fault all at d)
 
+abbrev pub none_or : Option Fault → Result (Option Head) Fault
+none_or None = Ok None
+none_or (Some f) = Err f
+
+-- what reading says of a head
 abbrev pub head_told : List Token → Read → Result (Option Head) Fault
 head_told all (Ok x) = Ok (Some (head_of all x.0 x.1))
-head_told all (Err e) = stopped all e.0 e.1
+head_told all (Err e) = none_or (stopped all e.0 e.1)
 
 -- the head of the operation at a token, wherever it may stand
 abbrev pub head_spelt : List Token → ℕ → Result (Option Head) Fault

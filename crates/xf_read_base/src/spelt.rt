@@ -71,14 +71,14 @@ fn begins_row(tokens: &[Token], at: usize) -> bool
     matches!(opening_of(word_at(tokens, at)), Opening::Row(_))
 }
 
-/// Why no head is read: no operation of this reader begins there, or the fault at a token.
-fn stopped(tokens: &[Token], at: usize, due: Due) -> Result<Option<Head>, Fault>
+/// The fault of a reading that stops at a token; none where no operation of this reader begins.
+fn stopped(tokens: &[Token], at: usize, due: Due) -> Option<Fault>
     ensures { result ≡ stopped tokens.now at due }
 {
     match due {
-        Due::OtherReader => Ok(None),
-        Due::Operation if !begins_row(tokens, at) => Ok(None),
-        due => Err(due_fault(tokens, at, due)),
+        Due::OtherReader => None,
+        Due::Operation if !begins_row(tokens, at) => None,
+        due => Some(due_fault(tokens, at, due)),
     }
 }
 
@@ -100,8 +100,8 @@ pub fn head(alloc: Global, tokens: &TokenList, at: usize) -> Result<Option<Head>
         Ok((parts, next)) => Ok(Some(head_of(alloc, tokens, parts, next)?)),
         Err(HeadFault::NoMemory) => Err(ReadFault::NoMemory),
         Err(HeadFault::At(stop, due)) => match stopped(tokens, stop, due) {
-            Ok(none) => Ok(none),
-            Err(fault) => Err(ReadFault::At(fault)),
+            None => Ok(None),
+            Some(fault) => Err(ReadFault::At(fault)),
         },
     }
 }
