@@ -12,10 +12,10 @@ use Rattle.xf_span.specs.Limit.{file_limit}
 use Rattle.xf_payload.specs.Payload.{IsPayload, IsNoPayload}
 use Rattle.xf_opt.specs.declared.journal.Entry.{Entry}
 use Rattle.xf_opt.specs.Words.{Asked, run, verify, print}
-use Rattle.xf_opt.specs.Stages.{End}
+use Rattle.xf_opt.specs.Stages.{End, anywhere}
 use Rattle.xf_opt.specs.Files.{IsScriptFile, IsRunnable, Refuses, Accepts, RefusesWith, JudgesScript, JudgesPayload}
 use Rattle.xf_opt.specs.Owes.{Reaches, Headline, TellsOf, Owes, WritesPrefix, WritesAtMost, Writes}
-use Rattle.xf_opt.proofs.Ending.{judged_alike}
+use Rattle.xf_opt.proofs.Ending.{judged_alike, judged_nowhere}
 
 -- ---- counts
 
@@ -135,6 +135,11 @@ script_told (Some file) part end old new e j = script_end file part e end old ne
 pub payload_told : (told : Option (List ℕ)) (part : List ℕ) (end : End) (fault : Option Fault) (old new : Option (List ℕ)) (asked : Asked) → IsRead told part → JudgesPayload end fault old new asked part → IfSome told (JudgesPayload end fault old new asked)
 payload_told None part end fault old new asked e j = tt
 payload_told (Some file) part end fault old new asked e j = payload_end file part e end fault old new asked j
+
+-- nothing is said of a file that was not read, for want of memory
+pub unread_told : (told : Option (List ℕ)) (fault : Option Fault) (old : Option (List ℕ)) (asked : Asked) → IfSome told (JudgesPayload anywhere fault old old asked)
+unread_told None fault old asked = tt
+unread_told (Some file) fault old asked = judged_nowhere _ _ _ _ refl
 
 pub text_told : (told : Option (List ℕ)) (part : List ℕ) (end : End) (journal : List Entry) (old new : Option (List ℕ)) (asked : Asked) → IsRead told part → Writes end journal old new asked part → IfSome told (Writes end journal old new asked)
 text_told None part end journal old new asked e w = tt

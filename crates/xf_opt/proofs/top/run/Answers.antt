@@ -3,7 +3,7 @@ use Rattle.xf_opt.specs.Files.{JudgesScript, JudgesPayload}
 use Rattle.xf_opt.specs.Owes.{Writes}
 use Rattle.xf_opt.specs.Refusals.{end_of, fault_in}
 use Rattle.xf_opt.specs.Words.{run}
-use Rattle.xf_opt.proofs.Files.{rises_later, count_kept, IsRead, script_told, payload_told, text_told}
+use Rattle.xf_opt.proofs.Files.{rises_later, count_kept, IsRead, script_told, payload_told, unread_told, text_told}
 use Rattle.xf_opt.proofs.Statuses.{run_has, none_failed, words_read}
 use Rattle.xf_opt.proofs.top.run.Goals as goal
 
@@ -12,6 +12,10 @@ returns-in-Err-Failed-read_file-clause-reads g c = λ at_reads.
     rises_later _ (g.F.Files.faults c.read_file.new.files c.args.payload.now) _
     (count_kept (g.F.Files.faults c.args.files.now) (g.F.Files.faults c.read_file.new.files) c.args.script.now c.args.payload.now c.in-Ok.ensures.grows c.in-Ok.ensures.others)
     (c.in-Err-Failed-read_file.ensures.cause (ap Err c.in-Err-Failed-read_file.field-0-is))
+
+pub returns-in-Err-NoMemory-read_file-clause-payload : goal.returns-in-Err-NoMemory-read_file-clause-payload
+returns-in-Err-NoMemory-read_file-clause-payload g c =
+    unread_told (g.F.Files.holds c.args.files.now c.args.payload.now) _ _ (run c.args.script.now c.args.payload.now)
 
 pub returns-clause-past_words : goal.returns-clause-past_words
 returns-clause-past_words g c = words_read (end_of c.carry_out.result) c.carry_out.ensures.past_reads
