@@ -70,7 +70,7 @@ fn write_returned(types: &[PayloadType], line: &mut Vec<u8>) -> Result<(), NoMem
 
 /// What a function is, beside its body.
 #[derive(Clone, Copy)]
-pub struct Signature<'a> {
+pub struct FunctionHead<'a> {
     pub symbol: &'a [u8],
     pub private: bool,
     pub first: u64,
@@ -79,7 +79,7 @@ pub struct Signature<'a> {
 }
 
 /// Appends the head of a function.
-pub fn write_func(of: &Signature<'_>, attrs: &[Attr], line: &mut Vec<u8>) -> Result<(), NoMemory>
+pub fn write_func(of: &FunctionHead<'_>, attrs: &[Attr], line: &mut Vec<u8>) -> Result<(), NoMemory>
     ensures { OnOk result (line.new.items ≡ line.old.items ++ row_text no_names of.now.first
         of.now.args.now (kind.Func of.now.symbol.now of.now.private of.now.results.now)
         attrs.now [] []) }

@@ -6,10 +6,10 @@ ghost use Rattle.xf_print.specs.Names.{first_args, first_of, param_texts};
 ghost use Rattle.xf_print.specs.Printed.{line_at, op_text};
 ghost use Rattle.xf_print.specs.Words.{listed, arrow_types};
 
-use crate::index::{Index, first_args};
+use crate::index::Index;
 use crate::row::write_op;
 use crate::values::{write_arrow_results, write_op_attrs, write_params};
-use xf_ir::Op;
+use xf_ir::{Op, first_args};
 use xf_type::NoMemory;
 
 /// Begins a line: two blanks for each level.

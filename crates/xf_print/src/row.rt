@@ -6,8 +6,8 @@ ghost use Rattle.xf_print.specs.Printed.{op_text};
 ghost use Rattle.xf_print.specs.Rows.{row_text};
 
 use crate::arith_rows::{write_compare, write_constant, write_convert, write_dense, write_simple};
-use crate::func_rows::{Signature, write_call, write_func, write_giving, write_module};
-use crate::index::{Index, first_args};
+use crate::func_rows::{FunctionHead, write_call, write_func, write_giving, write_module};
+use crate::index::Index;
 use crate::linalg_rows::{write_generic, write_named};
 use crate::scf_rows::{write_for, write_if};
 use crate::tensor_rows::{
@@ -15,7 +15,7 @@ use crate::tensor_rows::{
     write_insert_slice,
 };
 use crate::values::write_results;
-use xf_ir::{Kind, Op};
+use xf_ir::{Kind, Op, first_args};
 use xf_type::NoMemory;
 
 /// Appends an operation without its results; `first` is the first number of its block's arguments.
@@ -32,7 +32,7 @@ fn write_row(names: &Index<'_>, first: u64, op: &Op, line: &mut Vec<u8>) -> Resu
             private,
             results,
         } => {
-            let of = Signature {
+            let of = FunctionHead {
                 symbol: symbol.as_slice(),
                 private: *private,
                 first,

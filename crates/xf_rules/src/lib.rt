@@ -11,9 +11,9 @@ mod types;
 
 pub use attributes::{attributes_fit, conversion_fits, fits_bits, is_word, is_word_or_none};
 pub use blocks::{blocks_end, fits_body, regions_fit, stands_at_end};
-pub use given::{Gives, Signature};
+pub use given::Gives;
 pub use rows::{are_inputs, callee_agrees, gives_row, is_bare, loop_row, scalar_row};
 pub use types::{
-    are_scalars, behind_first, element_of, first_type, has_no_operands, have_scalars, is_scalar_operand,
-    is_tensor_of, last_type, same_width,
+    are_scalars, behind_first, element_of, first_type, has_no_operands, have_scalars,
+    is_scalar_operand, is_tensor_of, last_type, same_width,
 };

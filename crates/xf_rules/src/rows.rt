@@ -7,11 +7,12 @@ ghost use Rattle.xf_type.specs.declared.payload_type.PayloadType.TheVariants.{Sc
 ghost use Rattle.xf_rules.specs.Given.{callee_seen, gives_seen};
 ghost use Rattle.xf_rules.specs.OperandTypes.{operand_types, scalars};
 
-use crate::given::{Gives, Signature};
+use crate::given::Gives;
 use crate::types::{
-    are_scalars, has_no_operands, has_no_results, have_scalars, have_types, is_scalar_operand, same_types,
+    are_scalars, has_no_operands, has_no_results, have_scalars, have_types, is_scalar_operand,
+    same_types,
 };
-use xf_ir::Kind;
+use xf_ir::{Kind, Signature};
 use xf_type::{PayloadType, Width};
 
 /// Whether there are no operands and no results.
@@ -79,11 +80,7 @@ pub fn loop_row(width: Width, types: &[Option<&PayloadType>], results: &[Payload
 /// Whether a call has a callee, and its results are what the callee returns. Any other operation passes.
 ///
 /// Takes time in the number of results and the length of their types.
-pub fn callee_agrees(
-    kind: &Kind,
-    callee: Option<Signature<'_>>,
-    results: &[PayloadType],
-) -> bool
+pub fn callee_agrees(kind: &Kind, callee: Option<Signature<'_>>, results: &[PayloadType]) -> bool
     ensures { result ≡ callee_agrees (λ symbol. callee_seen callee.entry) kind.now results.now }
 {
     match kind {

@@ -9,9 +9,9 @@ use crate::linalg_rows::{named_row, out_row};
 use crate::tensor_rows::{
     cast_row, dim_row, empty_row, extract_row, extract_slice_row, insert_row, insert_slice_row,
 };
-use xf_ir::Kind;
+use xf_ir::{Kind, Signature};
 use xf_rules::{
-    Gives, Signature, are_inputs, gives_row, has_no_operands, have_scalars, is_bare, is_tensor_of, loop_row,
+    Gives, are_inputs, gives_row, has_no_operands, have_scalars, is_bare, is_tensor_of, loop_row,
     scalar_row,
 };
 use xf_type::{PayloadType, Shape, Width};
