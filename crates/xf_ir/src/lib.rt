@@ -34,7 +34,7 @@ pub use name::{OpName, ValueName};
 pub use name_set::NameSet;
 pub use op::{Block, BlockList, Module, Op, OpList};
 pub use rule::Rule;
-pub use signature::{Signature, first_args, returned_types, signature};
+pub use signature::{Signature, first_args, returned_types, signature_of};
 pub use snippet::Snippet;
 pub use spot::{Located, Spot};
 pub use values::ValueList;

@@ -37,7 +37,7 @@ pub fn returned_types(kind: &Kind) -> &[PayloadType]
 }
 
 /// The signature of a function.
-pub fn signature(function: &Op) -> Signature<'_>
+pub fn signature_of(function: &Op) -> Signature<'_>
     ensures { Some (signature_seen result) ≡ signature (Some function.now) }
 {
     Signature {

@@ -10,7 +10,7 @@ ghost use Rattle.xf_rules.specs.Given.{callee_of, callee_seen};
 use crate::functions::functions_of;
 use std::alloc::Global;
 use std::collections::BTreeMap;
-use xf_ir::{Kind, Module, Op, Signature, signature};
+use xf_ir::{Kind, Module, Op, Signature, signature_of};
 use xf_type::{ListOf, NoMemory};
 
 /// The numbers of functions in their block, by their symbols.
@@ -184,7 +184,7 @@ impl<'a> Calls<'a> {
     {
         match kind {
             Kind::Call { callee } => match self.function(callee.as_slice()) {
-                Some(function) => Some(signature(function)),
+                Some(function) => Some(signature_of(function)),
                 None => None,
             },
             _ => None,
