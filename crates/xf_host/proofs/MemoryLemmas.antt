@@ -1,9 +1,9 @@
 use Rattle.std.proofs.Common.{◌≡◌, ◌≤◌, ℕ, List, [], ◌++◌, Option, Some, None, Result, Ok, Err, OnOk, OnErr, IsSome, IfSome, IsErrOf, IsSomeAnd, take, refl, sym, ap, ◌∙◌, append-nil, arith}
 use Rattle.std.proofs.lemmas.Grind.{common_steps}
-use Rattle.xf_host.proofs.WriteLemmas.{front_nothing, gains_taken}
+use Rattle.xf_host.proofs.WriteLemmas.{prefix_nothing, gains_taken}
 use Rattle.xf_host.specs.Count.{HasRisen}
 use Rattle.xf_host.specs.Memory.{read_faults_after, write_faults_after}
-use Rattle.xf_host.specs.Reads.{AppendsAtMost, AppendsFront}
+use Rattle.xf_host.specs.Reads.{AppendsAtMost, AppendsPrefix}
 use Rattle.xf_host.specs.Writes.{WritesText, FailsByCount}
 use Rattle.xf_host.specs.declared.files.FileFail.{FileFail}
 use Rattle.xf_host.specs.declared.files.FileFail.TheVariants as file
@@ -18,10 +18,10 @@ module _ {T : Type 0} where
   reads_at_most (Err e) bytes max old new there is same = record { text = []; fits = omega arith; is = same ∙ sym (append-nil old) }
 
   -- what appends nothing appends a prefix
-  pub reads_front : (r : Result T FileFail) (bytes : Option (List ℕ)) (old new : List ℕ) → OnErr r (new ≡ old) → OnErr r (IfSome bytes (λ b. AppendsFront b old new))
-  reads_front (Ok x) bytes old new same = tt
-  reads_front (Err e) None old new same = tt
-  reads_front (Err e) (Some b) old new same = (0, same ∙ sym (append-nil old))
+  pub reads_prefix : (r : Result T FileFail) (bytes : Option (List ℕ)) (old new : List ℕ) → OnErr r (new ≡ old) → OnErr r (IfSome bytes (λ b. AppendsPrefix b old new))
+  reads_prefix (Ok x) bytes old new same = tt
+  reads_prefix (Err e) None old new same = tt
+  reads_prefix (Err e) (Some b) old new same = (0, same ∙ sym (append-nil old))
 
   -- the count of a path rose where a read failed
   pub read_fails_by_count : (r : Result T FileFail) (old new : ℕ) → new ≡ read_faults_after r old → IsErrOf r file.Failed → HasRisen old new
@@ -40,7 +40,7 @@ module _ {T : Type 0} where
   writes_text (Ok x) planned old new piece ok memory failed = ap Some ok
   writes_text (Err stream.Failed) None old new piece ok memory failed = absurd (failed refl)
   writes_text (Err stream.Failed) (Some kept) old new piece ok memory failed = gains_taken old new piece kept (failed refl)
-  writes_text (Err stream.NoMemory) planned old new piece ok memory failed = rw (memory refl) (front_nothing (Some old) piece)
+  writes_text (Err stream.NoMemory) planned old new piece ok memory failed = rw (memory refl) (prefix_nothing (Some old) piece)
 
   -- the count rose where a write failed
   pub write_fails_by_count : (r : Result T SinkFail) (old new : ℕ) → new ≡ write_faults_after r old → old ≤ new → FailsByCount r old new

@@ -1,8 +1,8 @@
 use Rattle.std.specs.Prelude.{◌≡◌, ◌≤◌, ℕ, List, ◌++◌, length, take}
 
 -- new is old followed by a prefix of the text
-abbrev pub AppendsFront : List ℕ → List ℕ → List ℕ → Type 0
-AppendsFront text old new = (n : ℕ) × (new ≡ old ++ take n text)
+abbrev pub AppendsPrefix : List ℕ → List ℕ → List ℕ → Type 0
+AppendsPrefix text old new = (n : ℕ) × (new ≡ old ++ take n text)
 
 -- new is old followed by at most max bytes
 pub record AppendsAtMost (max : ℕ) (old new : List ℕ) : Type 0 where

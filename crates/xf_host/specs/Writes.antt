@@ -9,7 +9,7 @@ Gains None text new = new ≡ None
 Gains (Some old) text new = new ≡ Some (old ++ text)
 
 -- what was written, where it is told, gained a prefix of these bytes
-pub record GainsFront (old : Option (List ℕ)) (text : List ℕ) (new : Option (List ℕ)) : Type 0 where
+pub record GainsPrefix (old : Option (List ℕ)) (text : List ℕ) (new : Option (List ℕ)) : Type 0 where
   pub got : List ℕ
   pub rest : List ℕ
   pub is : text ≡ got ++ rest
@@ -17,7 +17,7 @@ pub record GainsFront (old : Option (List ℕ)) (text : List ℕ) (new : Option 
 
 -- a call that is to write this text wrote it, or a prefix of it where the call failed
 abbrev pub WritesText : {T : Type 0} → Result T SinkFail → List ℕ → Option (List ℕ) → Option (List ℕ) → Type 0
-WritesText result text old new = MatchResult result (λ _. Gains old text new) (λ _. GainsFront old text new)
+WritesText result text old new = MatchResult result (λ _. Gains old text new) (λ _. GainsPrefix old text new)
 
 -- the count of faults does not fall, and rose where a write failed
 abbrev pub FailsByCount : {T : Type 0} → Result T SinkFail → ℕ → ℕ → Type 0

@@ -1,7 +1,7 @@
 //! What a program reads files through.
 ghost use Rattle.std.specs.Prelude.{◌≡◌, ◌≢◌, ◌≤◌, ◌++◌, ℕ, List, Option, take, OnOk, OnErr, IfSome, IsErrOf};
 ghost use Rattle.xf_host.specs.Count.{HasRisen};
-ghost use Rattle.xf_host.specs.Reads.{AppendsFront, AppendsAtMost};
+ghost use Rattle.xf_host.specs.Reads.{AppendsPrefix, AppendsAtMost};
 
 use std::alloc::AllocError;
 use thiserror::Error;
@@ -43,7 +43,7 @@ pub trait Files {
         ensures ok { OnOk result (IfSome (holds self.old path.now) (λ bytes.
             into.new.items ≡ into.old.items ++ take max bytes)) }
         ensures err { OnErr result (IfSome (holds self.old path.now) (λ bytes.
-            AppendsFront bytes into.old.items into.new.items)) }
+            AppendsPrefix bytes into.old.items into.new.items)) }
         ensures bounded { AppendsAtMost max into.old.items into.new.items }
         ensures told { (q : List ℕ) → holds self.new q ≡ holds self.old q }
 

@@ -33,7 +33,7 @@ impl<'a, R: std::rt::Files> RealFiles<'a, R> {
 }
 
 /// Appends the first `max` bytes that a reader gives, or all if they are fewer.
-fn read_front<S: Read>(reader: &mut S, max: usize, into: &mut Vec<u8>) -> Result<(), FileFail>
+fn read_prefix<S: Read>(reader: &mut S, max: usize, into: &mut Vec<u8>) -> Result<(), FileFail>
     ensures { AppendsAtMost max into.old.items into.new.items }
 {
     let mut buffer = [0u8; BUFFER];
@@ -60,7 +60,7 @@ impl<'a, R: std::rt::Files> Files for RealFiles<'a, R> {
     fn read(&mut self, path: &str, max: usize, into: &mut Vec<u8>) -> Result<(), FileFail> {
         self.faults.prepare(path)?;
         let result = match fs::open(self.rt, path) {
-            Ok(mut file) => read_front(&mut file, max, into),
+            Ok(mut file) => read_prefix(&mut file, max, into),
             Err(_) => Err(FileFail::Failed),
         };
         if let Err(FileFail::Failed) = &result {

@@ -1,16 +1,16 @@
--- Trees without the bodies of linalg.generic: what is found in them, and where it stands in the whole.
-use Rattle.std.proofs.Common.{◌≡◌, ◌∷◌, ◌++◌, true, false, eqb, Option, Some, inl, inr, refl, sym, subst}
-use Rattle.std.proofs.lemmas.Bool.{cases_Bool, or_parts}
+-- Trees without the bodies of linalg.generic: what is found in them is found in the whole, and so is what is found in a scope.
+use Rattle.std.proofs.Common.{◌≡◌, ◌∷◌, ◌++◌, true, false, eqb, Option, None, Some, inl, inr, refl, sym, ap, ◌∙◌}
+use Rattle.std.proofs.lemmas.Bool.{cases_Bool}
 use Rattle.xf_ir.specs.declared.name.OpName.{OpName}
+use Rattle.xf_ir.specs.declared.op.Module.{Module}
 use Rattle.xf_ir.specs.Tree.{Ops, no_ops, op, Regions, no_regions, region, Tree}
-use Rattle.xf_ir.specs.Walk.{ops_names, regions_names, ops_find, regions_find}
+use Rattle.xf_ir.specs.Walk.{ops_names, regions_names, ops_find, regions_find, tree_find}
 use Rattle.xf_ir.specs.Kinds.{is_generic}
-use Rattle.xf_ir.specs.Lists.{Once, same_name, is_among}
-use Rattle.xf_ir.specs.Edits.{ops_at, regions_at, tail, tree_erased}
-use Rattle.xf_ir.specs.Choices.{ops_bare, regions_bare, bare}
-use Rattle.xf_ir.proofs.Lists.{at_cases, not_left, not_right, once_left, once_right, once_apart, absent_before, Part, none, keep, part_none, part_append, not_part, once_part, name_is}
-use Rattle.xf_ir.proofs.Found.{tree, first_cases, found_name, found_name_regions, lost_name, lost_name_regions}
-use Rattle.xf_ir.proofs.Kept.{OpsApart, RegionsApart}
+use Rattle.xf_ir.specs.Lists.{Once, is_among}
+use Rattle.xf_ir.specs.Choices.{ops_bare, regions_bare, bare, scope_of, scope_at}
+use Rattle.xf_ir.specs.Valid.{IsNamedOnce}
+use Rattle.xf_ir.proofs.Lists.{at_cases, once_left, once_right, absent_before, Part, none, keep, part_none, part_append, not_part, once_part}
+use Rattle.xf_ir.proofs.Found.{tree, first_cases, found_name, found_name_regions, lost_name, lost_name_regions, find_inside_regions}
 
 -- ---- names
 
@@ -27,14 +27,14 @@ mutual
   bare_names_regions (region args ops rest) = part_append (bare_names ops) (bare_names_regions rest)
 
 -- what is found without bodies has a name of the whole
-among_whole : (name : OpName) (rs : Regions) (t : Tree) → regions_find name (regions_bare rs) ≡ Some t → is_among name (regions_names rs) ≡ true
+pub among_whole : (name : OpName) (rs : Regions) (t : Tree) → regions_find name (regions_bare rs) ≡ Some t → is_among name (regions_names rs) ≡ true
 among_whole name rs t h =
     elim (cases_Bool (is_among name (regions_names rs))) [
       | inl e ↦ e
       | inr e ↦ absurd (let a = not_part name (bare_names_regions rs) e in let b = found_name_regions name t (regions_bare rs) h in cc)
     ]
 
-among_whole_ops : (name : OpName) (ops : Ops) (t : Tree) → ops_find name (ops_bare ops) ≡ Some t → is_among name (ops_names ops) ≡ true
+pub among_whole_ops : (name : OpName) (ops : Ops) (t : Tree) → ops_find name (ops_bare ops) ≡ Some t → is_among name (ops_names ops) ≡ true
 among_whole_ops name ops t h =
     elim (cases_Bool (is_among name (ops_names ops))) [
       | inl e ↦ e
@@ -92,90 +92,6 @@ mutual
             (w.0, rw (l, x) refl, w.2))
       ]
 
--- ---- and stands in no body
-
-mutual
-  apart_absent : (name : OpName) (ops : Ops) → is_among name (ops_names ops) ≡ false → OpsApart name ops
-  apart_absent name no_ops h = tt
-  apart_absent name (op n k ds os ts rs rest) h =
-      let ms = regions_names rs in
-      let ns = ops_names rest in
-      let p = or_parts (same_name n name) (is_among name (ms ++ ns)) h in
-      (λ _. not_left name ms ns p.1, (apart_absent_regions name rs (not_left name ms ns p.1), apart_absent name rest (not_right name ms ns p.1)))
-
-  apart_absent_regions : (name : OpName) (rs : Regions) → is_among name (regions_names rs) ≡ false → RegionsApart name rs
-  apart_absent_regions name no_regions h = tt
-  apart_absent_regions name (region args ops rest) h =
-      let ms = ops_names ops in
-      let ns = regions_names rest in
-      (apart_absent name ops (not_left name ms ns h), apart_absent_regions name rest (not_right name ms ns h))
-
-mutual
-  found_apart_ops : (ops : Ops) (name : OpName) (t : Tree) → Once (ops_names ops) → ops_find name (ops_bare ops) ≡ Some t → OpsApart name ops
-  found_apart_ops no_ops name t o h = absurd (cc)
-  found_apart_ops (op n k ds os ts rs rest) name t o h =
-      let ms = regions_names rs in
-      let ns = ops_names rest in
-      elim (cases_Bool (eqb n.0 name.0)) [
-        | inl e ↦ (
-            let a : is_among name (ms ++ ns) ≡ false = subst (λ x. is_among x (ms ++ ns) ≡ false) (name_is n name e) o.0 in
-            let b = not_left name ms ns a in
-            (λ _. b, (apart_absent_regions name rs b, apart_absent name rest (not_right name ms ns a))))
-        | inr e ↦ elim (cases_Bool (is_generic k)) [
-          | inl g ↦ (
-              let f : ops_find name (ops_bare rest) ≡ Some t = rw (e, g) at h in
-              let b = absent_before name ms ns o.1 (among_whole_ops name rest t f) in
-              (λ _. b, (apart_absent_regions name rs b, found_apart_ops rest name t (once_right ms ns o.1) f)))
-          | inr g ↦ elim (first_cases (regions_find name (regions_bare rs)) (ops_find name (ops_bare rest)) t (rw (e, g) at h)) [
-            | inl f ↦ (
-              λ yes. absurd (cc),
-              (
-                found_apart rs name t (once_left ms ns o.1) f,
-                apart_absent name rest (once_apart name ms ns o.1 (among_whole name rs t f)),
-              ),
-            )
-            | inr f ↦ (
-                let b = absent_before name ms ns o.1 (among_whole_ops name rest t f.1) in
-                (λ _. b, (apart_absent_regions name rs b, found_apart_ops rest name t (once_right ms ns o.1) f.1)))
-          ]
-        ]
-      ]
-
-  pub found_apart : (rs : Regions) (name : OpName) (t : Tree) → Once (regions_names rs) → regions_find name (regions_bare rs) ≡ Some t → RegionsApart name rs
-  found_apart no_regions name t o h = absurd (cc)
-  found_apart (region args ops rest) name t o h =
-      let ms = ops_names ops in
-      let ns = regions_names rest in
-      elim (first_cases (ops_find name (ops_bare ops)) (regions_find name (regions_bare rest)) t h) [
-        | inl f ↦ (found_apart_ops ops name t (once_left ms ns o) f, apart_absent_regions name rest (once_apart name ms ns o (among_whole_ops name ops t f)))
-        | inr f ↦ (apart_absent name ops (absent_before name ms ns o (among_whole name rest t f.1)), found_apart rest name t (once_right ms ns o) f.1)
-      ]
-
--- ---- without bodies and without an operation
-
-mutual
-  bare_at : (name : OpName) (ops : Ops) → ops_bare (ops_at name tail ops) ≡ ops_at name tail (ops_bare ops)
-  bare_at name no_ops = refl
-  bare_at name (op n k ds os ts rs rest) =
-      elim (cases_Bool (eqb n.0 name.0)) [
-        | inl e ↦ rw e refl
-        | inr e ↦ elim (cases_Bool (is_generic k)) [
-          | inl g ↦ (let b = bare_at name rest in rw (e, g, b) refl)
-          | inr g ↦ (let a = bare_at_regions name rs in let b = bare_at name rest in rw (e, g, a, b) refl)
-        ]
-      ]
-
-  bare_at_regions : (name : OpName) (rs : Regions) → regions_bare (regions_at name tail rs) ≡ regions_at name tail (regions_bare rs)
-  bare_at_regions name no_regions = refl
-  bare_at_regions name (region args ops rest) = (let a = bare_at name ops in let b = bare_at_regions name rest in rw (a, b) refl)
-
-pub bare_erased : (name : OpName) (t : Tree) → bare (tree_erased name t) ≡ tree_erased name (bare t)
-bare_erased name t =
-    elim (cases_Bool (is_generic t.kind)) [
-      | inl g ↦ rw g refl
-      | inr g ↦ (let a = bare_at_regions name t.regions in rw (g, a) refl)
-    ]
-
 -- ---- the root
 
 -- what is found below the root without bodies is found without bodies in what the root holds
@@ -186,3 +102,19 @@ below_bare root t name h =
 pub once_bare : (root : Tree) → Once (regions_names root.regions) → Once (regions_names (bare root).regions)
 once_bare root o =
     at_cases (is_generic root.kind) no_regions (regions_bare root.regions) (λ rs. Once (regions_names rs)) (λ _. tt) (λ _. once_part (bare_names_regions root.regions) o)
+
+-- ---- what is found in a scope is found in the module
+
+pub in_scope : (t : Tree) (target name : OpName) (s : Tree) → Once (regions_names t.regions) → regions_find name (scope_of (tree_find target t)) ≡ Some s → regions_find name t.regions ≡ Some s
+in_scope t target name s o h =
+    at_cases (eqb t.name.0 target.0) (Some t) (regions_find target t.regions) (λ u. regions_find name (scope_of u) ≡ Some s → regions_find name t.regions ≡ Some s)
+    (λ _ g. g) (λ _ g. deeper (regions_find target t.regions) refl g) h
+  where
+    deeper : (u : Option Tree) → regions_find target t.regions ≡ u → regions_find name (scope_of u) ≡ Some s → regions_find name t.regions ≡ Some s
+    deeper None e g = absurd (cc)
+    deeper (Some x) e g = find_inside_regions t.regions target name x s o e g
+
+-- an operation of the scope, as the module holds it
+pub found_inside : (m : Module) (target name : OpName) (t : Tree) → IsNamedOnce m → regions_find name (scope_at m target) ≡ Some t → Whole (regions_find name m.root.regions) t
+found_inside m target name t o h =
+    found_whole m.root.regions name t o.once.1 (below_bare m.root t name (in_scope (bare m.root) target name t (once_bare m.root o.once.1) h))

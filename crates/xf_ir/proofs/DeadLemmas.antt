@@ -14,15 +14,13 @@ use Rattle.xf_ir.specs.Lists.{Each, Once, same_name, is_among}
 use Rattle.xf_ir.specs.Places.{Seen, done, inside, results_of, args_of, sees, AllSeen}
 use Rattle.xf_ir.specs.Kinds.{is_container, ends}
 use Rattle.xf_ir.specs.Uses.{ops_operands, regions_operands, tree_operands}
-use Rattle.xf_ir.specs.Choices.{bare, scope_of, scope_at, stands_before, MayErase, IsDead, IsNormal, IsFirstDead}
+use Rattle.xf_ir.specs.Choices.{bare, scope_of, scope_at, stands_before, MayErase, IsDead, IsNormal, dead_code, IsFirstDead}
 use Rattle.xf_ir.specs.Used.{with_uses, goes_unused, ops_first, regions_first}
 use Rattle.xf_ir.specs.Valid.{IsValid, block_of, OpsSee, RegionsSee, FunctionsSee}
 use Rattle.xf_ir.proofs.Lists.{name_is, own_name, not_left, not_right, once_left, once_right, absent_before, apart_names, each_both}
-use Rattle.xf_ir.proofs.Found.{tree, none_of, first_cases, found_name, found_name_regions, found_named_regions, lost_name, lost_name_regions, OpsWhere, RegionsWhere, where_found_regions}
-use Rattle.xf_ir.proofs.ErasedUses.{Gives, Outside}
+use Rattle.xf_ir.proofs.Found.{tree, none_of, first_cases, found_in, found_name, found_name_regions, found_named_regions, lost_name, lost_name_regions, OpsWhere, RegionsWhere, where_found_regions, block_where, Gives, Outside}
 use Rattle.xf_ir.proofs.Root.{one_block}
-use Rattle.xf_ir.proofs.Bare.{once_bare}
-use Rattle.xf_ir.proofs.ErasingLaws.{found_inside, block_where}
+use Rattle.xf_ir.proofs.Bare.{once_bare, found_inside}
 
 -- ---- the operations that are used
 
@@ -348,33 +346,43 @@ module _ (m : Module) (target : OpName) (v : IsValid m) where
   pub first_may : (name : OpName) → regions_first (goes_unused (used_of m)) (scope_at m target) ≡ Some name → MayErase m target name
   first_may name h =
       let r = first_found_regions (goes_unused (used_of m)) (scope_at m target) name (once_scope (bare m.root) target (once_bare m.root v.names.once.1)) h in
-      let t = r.0 in
-      let q = passes (is_container t.kind) (ends t.kind) (set.contains (used_of m) t.name.0) r.2 in
+      let w = found_inside m target name r.0 v.names r.1 in
+      let t = w.0 in
+      let p : goes_unused (used_of m) t ≡ true = subst (λ x. goes_unused (used_of m) x ≡ true) w.2 r.2 in
+      let q = passes (is_container t.kind) (ends t.kind) (set.contains (used_of m) t.name.0) p in
       record {
+        within = found_name_regions name r.0 (scope_at m target) r.1;
         tree = t;
-        inside = r.1;
-        dead = record {
+        inside = w.1;
+        suits = record {
           inner = q.0;
           goes = q.1.0;
           unused = outside_all t.name (length t.results) (tree_operands m.root) (none_used t.name (tree_operands m.root) set.empty q.1.1).1;
         };
       }
 
-  -- what may be erased passes
-  may_pass : (name : OpName) → (e : MayErase m target name) → goes_unused (used_of m) e.tree ≡ false → ⊥
-  may_pass name e h =
-      let w = found_inside m target name v.names e in
-      let t = w.0 in
-      let n = found_named_regions name t m.root.regions w.1 in
-      let g = subst (λ x. regions_find x m.root.regions ≡ Some t) (sym n) w.1 in
-      let b : IsDead m (bare t) = subst (IsDead m) w.2 e.dead in
-      let d : IsDead m t = record { inner = b.inner; goes = b.goes; unused = b.unused } in
-      let k : goes_unused (used_of m) t ≡ false = subst (λ x. goes_unused (used_of m) x ≡ false) w.2 h in
-      fails (is_container t.kind) (ends t.kind) (set.contains (used_of m) t.name.0) k d.inner d.goes (dead_not_used m t v g d)
+  -- what may be erased passes, as it stands in the scope
+  may_pass : (name : OpName) (t : Tree) (e : MayErase m target name) → regions_find name (scope_at m target) ≡ Some t → goes_unused (used_of m) t ≡ false → ⊥
+  may_pass name t e f h =
+      let w = found_inside m target name t v.names f in
+      let same : Some w.0 ≡ Some e.tree = sym w.1 ∙ e.inside in
+      let s : w.0 ≡ e.tree = cc in
+      let n = found_named_regions name e.tree m.root.regions e.inside in
+      let g = subst (λ x. regions_find x m.root.regions ≡ Some e.tree) (sym n) e.inside in
+      let a : goes_unused (used_of m) w.0 ≡ false = subst (λ x. goes_unused (used_of m) x ≡ false) w.2 h in
+      let k : goes_unused (used_of m) e.tree ≡ false = subst (λ x. goes_unused (used_of m) x ≡ false) s a in
+      fails (is_container e.tree.kind) (ends e.tree.kind) (set.contains (used_of m) e.tree.name.0) k e.suits.inner e.suits.goes (dead_not_used m e.tree v g e.suits)
 
-  pub none_may : regions_first (goes_unused (used_of m)) (scope_at m target) ≡ None → IsNormal m target
-  none_may h name e = may_pass name e (first_none_regions (goes_unused (used_of m)) (scope_at m target) name e.tree h e.inside)
+  none_applies : regions_first (goes_unused (used_of m)) (scope_at m target) ≡ None → (name : OpName) → MayErase m target name → ⊥
+  none_applies h name e =
+      let f = found_in name (scope_at m target) e.within in
+      may_pass name f.0 e f.1 (first_none_regions (goes_unused (used_of m)) (scope_at m target) name f.0 h f.1)
+
+  pub none_may : regions_first (goes_unused (used_of m)) (scope_at m target) ≡ None → IsNormal dead_code m target
+  none_may h = (none_applies h, tt)
 
   pub first_is : (name : OpName) → regions_first (goes_unused (used_of m)) (scope_at m target) ≡ Some name → IsFirstDead m target name
   first_is name h other b e =
-      may_pass other e (first_before_regions (goes_unused (used_of m)) (scope_at m target) name other e.tree (once_scope (bare m.root) target (once_bare m.root v.names.once.1)) h b e.inside)
+      let f = found_in other (scope_at m target) e.within in
+      let once = once_scope (bare m.root) target (once_bare m.root v.names.once.1) in
+      may_pass other f.0 e f.1 (first_before_regions (goes_unused (used_of m)) (scope_at m target) name other f.0 once h b f.1)

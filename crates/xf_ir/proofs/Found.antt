@@ -1,5 +1,5 @@
 -- What look-ups by name find where names occur once.
-use Rattle.std.proofs.Common.{◌≡◌, List, ◌++◌, true, false, eqb, Option, None, Some, ◌⊎◌, inl, inr, refl, sym, subst, ◌∙◌}
+use Rattle.std.proofs.Common.{◌≡◌, ℕ, List, length, ◌++◌, true, false, eqb, Option, None, Some, ◌⊎◌, inl, inr, refl, sym, subst, ◌∙◌}
 use Rattle.std.proofs.lemmas.Bool.{cases_Bool, or_from, or_parts}
 use Rattle.xf_ir.specs.declared.name.OpName.{OpName}
 use Rattle.xf_type.specs.declared.payload_type.PayloadType.{PayloadType}
@@ -9,6 +9,8 @@ use Rattle.xf_ir.specs.declared.kind.Attr.{Attr}
 use Rattle.xf_ir.specs.Tree.{Ops, no_ops, op, Regions, no_regions, region, Tree}
 use Rattle.xf_ir.specs.Walk.{ops_names, regions_names, tree_names, first_of, ops_find, regions_find, tree_find}
 use Rattle.xf_ir.specs.Lists.{same_name, is_among, Once}
+use Rattle.xf_ir.specs.Places.{Place}
+use Rattle.xf_ir.specs.Valid.{block_of}
 use Rattle.xf_ir.proofs.Lists.{not_both, name_is, not_left, not_right, once_left, once_right, once_apart, among_left, among_right, absent_before, apart_names}
 
 -- one operation, as a tree
@@ -216,6 +218,14 @@ mutual
       let p = none_of (ops_find name ops) (regions_find name rest) h in
       not_both name (ops_names ops) (regions_names rest) (none_name name ops p.0) (none_name_regions name rest p.1)
 
+-- a name that stands among them is found
+pub found_in : (name : OpName) (rs : Regions) → is_among name (regions_names rs) ≡ true → (t : Tree) × (regions_find name rs ≡ Some t)
+found_in name rs i =
+    elim (some_or_none (regions_find name rs)) [
+      | inl f ↦ f
+      | inr n ↦ absurd (let a = none_name_regions name rs n in cc)
+    ]
+
 pub tree_none_name : (name : OpName) (t : Tree) → tree_find name t ≡ None → is_among name (tree_names t) ≡ false
 tree_none_name name t h =
     elim (cases_Bool (eqb t.name.0 name.0)) [
@@ -228,3 +238,16 @@ tree_lost_name name t h =
     let p = or_parts (same_name t.name name) (is_among name (regions_names t.regions)) h in
     let l = lost_name_regions name t.regions p.1 in
     rw (p.0, l) refl
+
+-- ---- the first block, and the values of an operation
+
+pub block_where : (name : OpName) (Q : Tree → Type 0) (rs : Regions) → RegionsWhere name Q rs → OpsWhere name Q (block_of rs)
+block_where name Q no_regions w = tt
+block_where name Q (region args ops rest) w = w.0
+
+abbrev pub Gives : ℕ → Tree → Type 0
+Gives count t = length t.results ≡ count
+
+-- a value that the place does not define
+abbrev pub Outside : Place → ValueName → Type 0
+Outside p v = p v ≡ None

@@ -1,9 +1,9 @@
 -- Lists of names, parts of lists, and tests.
-use Rattle.std.proofs.Common.{◌≡◌, ℕ, List, [], ◌∷◌, ◌++◌, Bool, true, false, eqb, inl, inr, refl, ap, subst}
+use Rattle.std.proofs.Common.{◌≡◌, ℕ, List, [], ◌∷◌, ◌++◌, Option, None, Some, Bool, true, false, eqb, inl, inr, refl, ap, subst}
 use Rattle.std.specs.Prelude.{if◌then◌else◌}
 use Rattle.std.proofs.lemmas.Bool.{cases_Bool, eqb-true, eq-eqb, or_from, or_parts}
 use Rattle.xf_ir.specs.declared.name.OpName.{OpName}
-use Rattle.xf_ir.specs.Lists.{Each, same_name, is_among, Once, same_bytes, is_text_among, TextsOnce}
+use Rattle.xf_ir.specs.Lists.{Each, same_name, is_among, Once, same_bytes, is_text_among, TextsOnce, item_before}
 
 -- ---- tests
 
@@ -94,6 +94,15 @@ pub part_append : {A : Type 0} {us vs xs ys : List A} → Part us xs → Part vs
 part_append none q = q
 part_append (skip p) q = skip (part_append p q)
 part_append (keep p) q = keep (part_append p q)
+
+-- a part stays one behind an item, and together with it
+pub item_skip : {A : Type 0} {xs ys : List A} (o : Option A) → Part ys xs → Part ys (item_before o xs)
+item_skip None p = p
+item_skip (Some x) p = skip p
+
+pub item_keep : {A : Type 0} {xs ys : List A} (o : Option A) → Part ys xs → Part (item_before o ys) (item_before o xs)
+item_keep None p = p
+item_keep (Some x) p = keep p
 
 -- what stands behind is a part
 pub part_behind : {A : Type 0} (xs ys : List A) → Part ys (xs ++ ys)

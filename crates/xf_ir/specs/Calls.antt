@@ -5,16 +5,15 @@ use Rattle.xf_ir.specs.declared.kind.Kind.{Kind}
 use Rattle.xf_ir.specs.declared.kind.Kind.TheVariants as kind
 use Rattle.xf_ir.specs.declared.op.Module.{Module}
 use Rattle.xf_ir.specs.Tree.{Ops, no_ops, op, Regions, no_regions, region, Tree}
-use Rattle.xf_ir.specs.Kinds.{returned_types}
-use Rattle.xf_ir.specs.Lists.{every, same_bytes}
+use Rattle.xf_ir.specs.Kinds.{symbol_of, callee_of, returned_types}
+use Rattle.xf_ir.specs.Lists.{every, is_text, option_passes, item_before}
 use Rattle.xf_ir.specs.Types.{same_types}
 use Rattle.xf_ir.specs.Placed.{Placed, functions_of}
 
 -- ---- what a symbol names
 
 abbrev pub has_symbol : List ℕ → Kind → Bool
-has_symbol s (kind.Func symbol private results) = same_bytes symbol s
-has_symbol s _ = false
+has_symbol s k = is_text s (symbol_of k)
 
 -- the function of a symbol
 abbrev pub function_of : List ℕ → Ops → Option Tree
@@ -58,8 +57,7 @@ has_its_callee sigs p = callee_agrees sigs p.tree.kind p.tree.results
 -- ---- V9: no call lies on a cycle of calls, and no chain of calls passes 32 functions
 
 abbrev pub callee_before : Kind → List (List ℕ) → List (List ℕ)
-callee_before (kind.Call callee) more = callee ∷ more
-callee_before _ more = more
+callee_before k more = item_before (callee_of k) more
 
 -- the symbols that operations call, in preorder
 abbrev mutual
@@ -81,11 +79,14 @@ abbrev pub chains_end : Ops → ℕ → List ℕ → Bool
 chains_end fs zero s = is_none (function_of s fs)
 chains_end fs (suc k) s = every (chains_end fs k) (callees_of (function_of s fs))
 
+-- whether the callee's chains end, where it is a call
+abbrev pub callee_ends : (List ℕ → Bool) → Kind → Bool
+callee_ends ends k = option_passes ends (callee_of k)
+
 -- a chain of calls passes at most 32 functions: the caller, and 31 from the callee on. So no call lies on a cycle or leads to one,
 -- since from there a chain passes any number, and a call of a function that is not there ends its chain.
 abbrev pub chain_ends : Ops → Kind → Bool
-chain_ends fs (kind.Call callee) = chains_end fs 31 callee
-chain_ends fs _ = true
+chain_ends fs k = callee_ends (chains_end fs 31) k
 
 abbrev pub has_short_chains : Ops → Placed → Bool
 has_short_chains fs p = chain_ends fs p.tree.kind

@@ -1,22 +1,31 @@
 -- What the kinds of operations are among one another (MLIR: the pages of builtin, func, arith, scf, tensor and linalg).
-use Rattle.std.specs.Prelude.{List, [], Bool, true, false}
+use Rattle.std.specs.Prelude.{ℕ, List, [], Option, Some, None, Bool, true, false, ◌||◌, is_some}
 use Rattle.xf_type.specs.declared.payload_type.PayloadType.{PayloadType}
 use Rattle.xf_ir.specs.declared.kind.Kind.{Kind}
 use Rattle.xf_ir.specs.declared.kind.Kind.TheVariants as kind
 
--- a module or a function
-abbrev pub is_container : Kind → Bool
-is_container (kind.Module symbol) = true
-is_container (kind.Func symbol private results) = true
-is_container _ = false
+-- ---- projections: rules and laws go by these, so that a kind stands only in the tables of the facts that it has
+
+-- the symbol of a function
+abbrev pub symbol_of : Kind → Option (List ℕ)
+symbol_of (kind.Func symbol private results) = Some symbol
+symbol_of _ = None
+
+-- the symbol that a call names
+abbrev pub callee_of : Kind → Option (List ℕ)
+callee_of (kind.Call callee) = Some callee
+callee_of _ = None
 
 abbrev pub is_module : Kind → Bool
 is_module (kind.Module symbol) = true
 is_module _ = false
 
 abbrev pub is_function : Kind → Bool
-is_function (kind.Func symbol private results) = true
-is_function _ = false
+is_function k = is_some (symbol_of k)
+
+-- a module or a function
+abbrev pub is_container : Kind → Bool
+is_container k = is_module k || is_function k
 
 -- whether an operation ends a block
 abbrev pub ends : Kind → Bool

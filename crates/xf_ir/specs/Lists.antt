@@ -1,5 +1,5 @@
 -- Facts on each item of a list, and lists without repeats.
-use Rattle.std.specs.Prelude.{◌≡◌, ℕ, List, [], ◌∷◌, Bool, true, false, ◌==◌, ◌&&◌, ◌||◌, not}
+use Rattle.std.specs.Prelude.{◌≡◌, ℕ, List, [], ◌∷◌, Option, Some, None, Bool, true, false, ◌==◌, ◌&&◌, ◌||◌, not}
 use Rattle.xf_ir.specs.declared.name.OpName.{OpName}
 
 -- each item has the property
@@ -29,6 +29,16 @@ abbrev pub is_empty : {A : Type 0} → List A → Bool
 is_empty [] = true
 is_empty (x ∷ xs) = false
 
+-- whether what is there passes
+abbrev pub option_passes : {A : Type 0} → (A → Bool) → Option A → Bool
+option_passes p None = true
+option_passes p (Some x) = p x
+
+-- with an item before others, where there is one
+abbrev pub item_before : {A : Type 0} → Option A → List A → List A
+item_before None more = more
+item_before (Some x) more = x ∷ more
+
 -- what stands behind the first item
 abbrev pub behind_first : {A : Type 0} → List A → List A
 behind_first [] = []
@@ -45,6 +55,11 @@ same_bytes [] [] = true
 same_bytes [] (y ∷ ys) = false
 same_bytes (x ∷ xs) [] = false
 same_bytes (x ∷ xs) (y ∷ ys) = (x == y) && same_bytes xs ys
+
+-- whether there is a text, and it is this one
+abbrev pub is_text : List ℕ → Option (List ℕ) → Bool
+is_text s None = false
+is_text s (Some t) = same_bytes t s
 
 -- whether a text is one of these
 abbrev pub is_text_among : List ℕ → List (List ℕ) → Bool

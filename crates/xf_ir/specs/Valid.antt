@@ -2,12 +2,11 @@
 use Rattle.std.specs.Prelude.{◌≡◌, ℕ, suc, ◌<◌, List, [], ◌∷◌, ◌++◌, length, true, false}
 use Rattle.xf_ir.specs.declared.name.OpName.{OpName}
 use Rattle.xf_ir.specs.declared.kind.Kind.{Kind}
-use Rattle.xf_ir.specs.declared.kind.Kind.TheVariants as kind
 use Rattle.xf_ir.specs.declared.op.Module.{Module}
 use Rattle.xf_ir.specs.Tree.{Ops, no_ops, op, Regions, no_regions, region}
 use Rattle.xf_ir.specs.Walk.{tree_names}
-use Rattle.xf_ir.specs.Kinds.{is_container, is_module, is_function}
-use Rattle.xf_ir.specs.Lists.{Each, Once, TextsOnce}
+use Rattle.xf_ir.specs.Kinds.{symbol_of, is_container, is_module, is_function}
+use Rattle.xf_ir.specs.Lists.{Each, Once, TextsOnce, item_before}
 use Rattle.xf_ir.specs.Places.{Seen, done, inside, AllSeen}
 use Rattle.xf_ir.specs.Calls.{signatures, has_its_callee, has_short_chains}
 use Rattle.xf_ir.specs.RuleBlocks.{has_its_regions, ends_its_blocks}
@@ -50,8 +49,7 @@ BlocksAlone no_regions = Unit {0}
 BlocksAlone (region args ops rest) = FunctionsAlone ops × BlocksAlone rest
 
 abbrev pub symbols_before : Kind → List (List ℕ) → List (List ℕ)
-symbols_before (kind.Func symbol private results) more = symbol ∷ more
-symbols_before _ more = more
+symbols_before k more = item_before (symbol_of k) more
 
 -- the symbols of functions, in order
 abbrev pub symbols_of : Ops → List (List ℕ)

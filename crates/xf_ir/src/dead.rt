@@ -2,7 +2,7 @@
 ghost use Rattle.std.specs.Prelude.{◌≡◌, IsNone, IfSome, IfOk, OnOk, option_map, option_copied};
 ghost use Rattle.xf_ir.specs.declared.name.OpName.{OpName};
 ghost use Rattle.xf_ir.specs.Valid.{IsValid};
-ghost use Rattle.xf_ir.specs.Choices.{bare, MayErase, IsNormal, IsFirstDead};
+ghost use Rattle.xf_ir.specs.Choices.{bare, dead_code, MayErase, IsNormal, IsFirstDead};
 ghost use Rattle.xf_ir.specs.Uses.{tree_operands};
 ghost use Rattle.xf_ir.specs.Walk.{tree_find};
 ghost use Rattle.xf_ir.specs.Used.{with_uses, goes_unused, regions_first};
@@ -95,7 +95,7 @@ pub fn first_dead(alloc: Global, m: &Module, target: OpName) -> Result<Option<Op
     requires { IsValid m.now }
     ensures found { IfOk result (λ o. IfSome o (λ name. MayErase m.now target name)) }
     ensures first { IfOk result (λ o. IfSome o (λ name. IsFirstDead m.now target name)) }
-    ensures none { IfOk result (λ o. IsNone o → IsNormal m.now target) }
+    ensures none { IfOk result (λ o. IsNone o → IsNormal dead_code m.now target) }
 {
     let mut used = NameSet::new(alloc);
     add_uses_inside(&m.root, &mut used)?;

@@ -7,7 +7,6 @@ mod copy;
 mod dead;
 mod edit;
 mod kind;
-mod laws;
 mod name;
 mod name_set;
 mod op;
@@ -26,10 +25,6 @@ pub use kind::{
     Attr, AttrList, IteratorKind, IteratorList, Kind, MapList, NamedKind, NumberList, SliceIndex,
     SliceIndexList,
 };
-pub use laws::{
-    erasing_fits, erasing_keeps_valid, erasing_lowers_count, erasing_lowers_weight,
-    inverse_leads_back, setting_keeps_sorted, valid_has_no_violation, valid_is_scoped,
-};
 pub use name::{OpName, ValueName};
 pub use name_set::NameSet;
 pub use op::{Block, BlockList, Module, Op, OpList};
@@ -39,6 +34,3 @@ pub use snippet::Snippet;
 pub use spot::{Located, Spot};
 pub use values::ValueList;
 pub use walk::{NameList, count, walk_post};
-
-#[cfg(test)]
-mod tests;

@@ -7,7 +7,8 @@ use Rattle.xf_lex.specs.declared.token.Token.{Token}
 use Rattle.xf_lex.specs.declared.front.Front.TheVariants as front
 use Rattle.xf_lex.specs.Bytes.{gap}
 use Rattle.xf_lex.specs.Fronts.{token_at}
-use Rattle.xf_lex.specs.Lexes.{place_after, first_place, Position, text_at, place_at, front_of, is_tensor, IsFirst, behind, Tokens}
+use Rattle.xf_span.specs.Place.{place_after, first_place}
+use Rattle.xf_lex.specs.Lexes.{Position, text_at, place_at, front_of, is_tensor, IsFirst, behind, Tokens}
 use Rattle.xf_lex.specs.Laid.{plain, Piece, AllBlank, laid, AllStay}
 use Rattle.xf_lex.specs.Laws.{LaidAgain}
 

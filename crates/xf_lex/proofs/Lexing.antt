@@ -13,7 +13,8 @@ use Rattle.xf_lex.specs.declared.token.Token.{Token}
 use Rattle.xf_lex.specs.declared.front.Front.TheVariants as front
 use Rattle.xf_lex.specs.Bytes.{gap}
 use Rattle.xf_lex.specs.Fronts.{token_at}
-use Rattle.xf_lex.specs.Lexes.{place_after, first_place, Position, start, text_at, front_of, is_tensor, IsFirst, behind, Tokens, bytes_before, place_inside, BreaksAt, IsIllFormed}
+use Rattle.xf_span.specs.Place.{place_after, first_place}
+use Rattle.xf_lex.specs.Lexes.{Position, start, text_at, front_of, is_tensor, IsFirst, behind, Tokens, bytes_before, place_inside, BreaksAt, IsIllFormed}
 use Rattle.xf_lex.specs.Laws.{OneReading, OneFault, NeverBoth}
 
 -- ---- one more token

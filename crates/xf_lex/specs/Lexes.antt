@@ -1,5 +1,5 @@
 -- The tokens of a text, in order, with their bytes and places; or its first fault.
-use Rattle.std.specs.Prelude.{◌≡◌, ◌⊎◌, ⊤, ℕ, ◌+◌, ◌-◌, ◌^◌, ◌<◌, ◌≤◌, min, List, [], ◌∷◌, length, take, drop, Bool, false, ◌==◌, if◌then◌else◌, codes}
+use Rattle.std.specs.Prelude.{◌≡◌, ◌⊎◌, ⊤, ℕ, ◌+◌, ◌-◌, ◌<◌, ◌≤◌, List, [], ◌∷◌, length, take, drop, Bool, false, codes}
 use Rattle.std.specs.Str.{IsUtf8, bytes_eq}
 use Rattle.std.specs.Str.Lossy.{utf8_valid_len}
 use Rattle.xf_span.specs.declared.place.Place.{Place}
@@ -9,6 +9,7 @@ use Rattle.xf_span.specs.declared.fault.Fault.{Fault}
 use Rattle.xf_span.specs.declared.fault.TextFault.{TextFault}
 use Rattle.xf_span.specs.declared.fault.TextFault.TheVariants as text_fault
 use Rattle.xf_span.specs.Fault.{fault_at}
+use Rattle.xf_span.specs.Place.{place_after, first_place}
 use Rattle.xf_lex.specs.declared.token.TokenKind.{TokenKind}
 use Rattle.xf_lex.specs.declared.token.TokenKind.TheVariants as kind
 use Rattle.xf_lex.specs.declared.token.Token.{Token}
@@ -16,25 +17,6 @@ use Rattle.xf_lex.specs.declared.front.Front.{Front}
 use Rattle.xf_lex.specs.declared.front.Front.TheVariants as front
 use Rattle.xf_lex.specs.Bytes.{gap}
 use Rattle.xf_lex.specs.Fronts.{token_at}
-
--- ---- places
-
--- a line or a column behind a line or a column, as far as a place can tell
-abbrev pub counted : ℕ → ℕ
-counted n = min (n + 1) (2 ^ 32 - 1)
-
--- the place behind a byte, which a line feed ends the line with
-abbrev pub next_place : Place → ℕ → Place
-next_place p b = if b == 10 then record { line = counted p.line; col = 1 } else record { line = p.line; col = counted p.col }
-
--- the place behind some bytes
-abbrev pub place_after : Place → List ℕ → Place
-place_after p [] = p
-place_after p (b ∷ bs) = place_after (next_place p b) bs
-
--- the place of the first byte of a text
-abbrev pub first_place : Place
-first_place = record { line = 1; col = 1 }
 
 -- ---- tokens
 

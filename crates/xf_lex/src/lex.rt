@@ -4,18 +4,15 @@ ghost use Rattle.std.specs.Str.{IsUtf8};
 ghost use Rattle.std.specs.Str.Lossy.{utf8_valid_len};
 ghost use Rattle.xf_span.specs.Fault.{fault_at};
 ghost use Rattle.xf_span.specs.declared.code.Code.TheVariants.{L4};
-ghost use Rattle.xf_lex.specs.Lexes.{place_after, first_place, is_tensor, Lexes, IsRefused};
+ghost use Rattle.xf_span.specs.Place.{place_after, first_place};
+ghost use Rattle.xf_lex.specs.Lexes.{is_tensor, Lexes, IsRefused};
 
 use crate::byte_class::gap;
 use crate::front::{Front, token_at};
-use crate::place::place_after;
 use crate::token::{Token, TokenKind, TokenList};
 use std::alloc::Global;
-use xf_span::{Code, Fault, LexFault, Place};
+use xf_span::{Code, FIRST_PLACE, Fault, LexFault, place_after};
 use xf_type::{ByteList, ListOf};
-
-/// The place where a text begins.
-const FIRST: Place = Place { line: 1, col: 1 };
 
 /// How many bytes stand before the first that is not UTF-8, or else in all.
 fn valid_len(bytes: &[u8]) -> usize
@@ -44,7 +41,7 @@ fn ill_formed(bytes: &[u8], valid: usize) -> Fault
     requires { valid ≤ length bytes.now }
     ensures { result ≡ fault_at L4 (place_after first_place (take valid bytes.now)) }
 {
-    Fault::at(Code::L4, place_after(FIRST, &bytes[..valid]))
+    Fault::at(Code::L4, place_after(FIRST_PLACE, &bytes[..valid]))
 }
 
 /// The tokens of a text, in order, with their bytes and places. It refuses a text with a fault, and
@@ -57,7 +54,7 @@ pub fn tokens(alloc: Global, bytes: &[u8]) -> Result<TokenList, LexFault>
     let valid = valid_len(bytes);
     let mut tokens = ListOf::new(alloc);
     let mut after_tensor = false;
-    let mut place = FIRST;
+    let mut place = FIRST_PLACE;
     let mut rest = bytes;
     'tokens: loop {
         let (blanks, text) = rest.split_at(gap(rest));

@@ -5,7 +5,6 @@ mod byte_class;
 mod front;
 mod law;
 mod lex;
-mod place;
 mod quoted;
 #[cfg(test)]
 mod tests;

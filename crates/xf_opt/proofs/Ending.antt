@@ -6,13 +6,13 @@ use Rattle.xf_host.specs.declared.sink.SinkFail.TheVariants as failed
 use Rattle.xf_span.specs.declared.code.Code.TheVariants.{N1}
 use Rattle.xf_span.specs.declared.fault.Fault.{Fault}
 use Rattle.xf_span.specs.Fault.{fault_at}
-use Rattle.xf_lex.specs.Lexes.{first_place}
+use Rattle.xf_span.specs.Place.{first_place}
 use Rattle.xf_ir.specs.declared.op.Module.{Module}
 use Rattle.xf_ir.specs.Valid.{IsValid}
 use Rattle.xf_ir.specs.Choices.{weight_at}
 use Rattle.xf_sem.specs.Keeps.{KeepsMeaning}
 use Rattle.xf_sem.proofs.Keeping.{keeping_composes}
-use Rattle.xf_print.specs.Printed.{printed_form}
+use Rattle.xf_ir.specs.PrintedForm.{printed_form}
 use Rattle.xf_read.specs.Names.{op_name}
 use Rattle.xf_roundtrip.proofs.ValidAgain.{printed_is_valid_again}
 use Rattle.xf_payload.specs.Payload.{IsPayload}
@@ -25,7 +25,7 @@ use Rattle.xf_opt.specs.Words.{Asked, run, verify}
 use Rattle.xf_opt.specs.Ends.{IsRunnable, Reaches, Headline, Due, Refuses, Finishes, WritesFront}
 use Rattle.xf_opt.specs.Ended.{EndsPlainly, EndsByPayload, IsPastPayload, RefusesBy, write_refusal}
 use Rattle.xf_opt.proofs.FormFacts.{form_is_core, form_is_stored, form_is_within}
-use Rattle.xf_opt.proofs.Renaming.{renaming_keeps}
+use Rattle.xf_sem.proofs.Renaming.{renaming_keeps}
 
 -- there are few choices
 abbrev pub IsFew : Module → List Entry → Type 0
@@ -48,7 +48,7 @@ headline_is payload journal m after s r n k g =
       spells = again.1.0;
       renamed = again.1.1.0;
       valid = again.1.1.1;
-      same = keeping_composes m after again.0 k (renaming_keeps after again.0 g.valid again.1.1.1 again.1.1.0);
+      same = keeping_composes m after again.0 k (renaming_keeps after again.0 g.valid again.1.1.0);
     }
 
 pub whole_is : (payload script path : List ℕ) (journal : List Entry) (m after : Module) (old new : Option (List ℕ)) → IsRunnable payload m → Runs m journal after → IsFew m journal → KeepsMeaning m after → IsFirstForm after → Gains old (printed_form after) new → Finishes (run script path) payload journal old new

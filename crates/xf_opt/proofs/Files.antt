@@ -11,7 +11,8 @@ use Rattle.xf_ir.specs.declared.op.Module.{Module}
 use Rattle.xf_opt.specs.declared.journal.Entry.{Entry}
 use Rattle.xf_opt.specs.declared.outcome.Refusal.{Refusal}
 use Rattle.xf_opt.specs.declared.outcome.Refusal.TheVariants as because
-use Rattle.xf_payload.specs.Payload.{file_limit, IsPayload, IsNoPayload}
+use Rattle.xf_span.specs.Limit.{file_limit}
+use Rattle.xf_payload.specs.Payload.{IsPayload, IsNoPayload}
 use Rattle.xf_opt.specs.Words.{Asked, run, verify, print}
 use Rattle.xf_opt.specs.Ends.{IsScriptFile, IsRunnable, Reaches, Headline, TellsOf, Due, Refuses, WritesFront}
 use Rattle.xf_opt.specs.Ended.{EndsByScript, EndsByPayload}

@@ -18,7 +18,7 @@ use Rattle.xf_ir.specs.Walk.{regions_find}
 use Rattle.xf_ir.specs.Kinds.{is_container}
 use Rattle.xf_ir.specs.Edits.{edited, ops_at, regions_at, tail}
 use Rattle.xf_ir.specs.Choices.{MayErase}
-use Rattle.xf_ir.proofs.ErasingLaws.{found_inside, valid_kept}
+use Rattle.xf_ir_laws.proofs.ErasingLaws.{valid_kept}
 use Rattle.xf_read.specs.Syntax.{most_operations}
 use Rattle.xf_opt.specs.Form.{is_step, are_steps, are_parameters, is_plain_block, has_no_regions, is_one_block, is_plain_head, is_plain_function, is_one_function, is_plain_module, holds_one_function, is_first_form, IsFirstForm}
 
@@ -113,10 +113,9 @@ functions_kept name (region args (op n k ds os ts rs rest) more) t f i h =
 
 shape_kept : (m : Module) (target name : OpName) → IsFirstForm m → MayErase m target name → is_first_form (edited m (Erase name)) ≡ true
 shape_kept m target name f e =
-    let found = found_inside m target name f.valid.names e in
     let p = and_parts (is_plain_module m.root.kind) (is_empty m.root.attrs && holds_one_function m.root.regions) f.shape in
     let q = and_parts (is_empty m.root.attrs) (holds_one_function m.root.regions) p.1 in
-    let after = functions_kept name m.root.regions found.0 found.1 (subst (λ (t : Tree). is_container t.kind ≡ false) found.2 e.dead.inner) q.1 in
+    let after = functions_kept name m.root.regions e.tree e.inside e.suits.inner q.1 in
     and_from (is_plain_module m.root.kind) (is_empty m.root.attrs && holds_one_function (regions_at name tail m.root.regions)) p.0
     (and_from (is_empty m.root.attrs) (holds_one_function (regions_at name tail m.root.regions)) q.0 after)
 

@@ -4,6 +4,5 @@ pub mod FormFacts
 pub mod FormKept
 pub mod FormLists
 pub mod FormParts
-pub mod Renaming
 pub mod Runs
 pub mod Statuses

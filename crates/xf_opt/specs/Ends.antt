@@ -10,12 +10,13 @@ use Rattle.xf_ir.specs.declared.op.Module.{Module}
 use Rattle.xf_ir.specs.Valid.{IsValid}
 use Rattle.xf_ir.specs.Choices.{weight_at}
 use Rattle.xf_sem.specs.Keeps.{KeepsMeaning}
-use Rattle.xf_lex.specs.Lexes.{first_place}
+use Rattle.xf_span.specs.Place.{first_place}
 use Rattle.xf_text.specs.Script.{IsScript}
-use Rattle.xf_print.specs.Printed.{printed_form}
+use Rattle.xf_ir.specs.PrintedForm.{printed_form}
 use Rattle.xf_read.specs.Spells.{Spells}
-use Rattle.xf_roundtrip.specs.Renamed.{IsRenamed}
-use Rattle.xf_payload.specs.Payload.{file_limit, IsPayload, IsNoPayload}
+use Rattle.xf_ir.specs.Renamed.{IsRenamed}
+use Rattle.xf_span.specs.Limit.{file_limit}
+use Rattle.xf_payload.specs.Payload.{IsPayload, IsNoPayload}
 use Rattle.xf_opt.specs.declared.journal.Entry.{Entry}
 use Rattle.xf_opt.specs.declared.outcome.Told.{Told}
 use Rattle.xf_opt.specs.declared.outcome.Told.TheVariants.{Whole, Failed, NoMemory}

@@ -1,9 +1,9 @@
 //! The command `run`: a schedule carried out on a payload, both as their bytes.
 ghost use Rattle.std.specs.Prelude.{◌≡◌, ◌⊎◌, ◌≤◌, ◌↔◌, ℕ, List, [], length, true, IsTrue, IfOk, IfErr, IsErrOf, OnOk};
-ghost use Rattle.xf_lex.specs.Lexes.{first_place};
+ghost use Rattle.xf_span.specs.Place.{first_place};
 ghost use Rattle.xf_span.specs.declared.code.Code.TheVariants as code;
 ghost use Rattle.xf_span.specs.Fault.{fault_at};
-ghost use Rattle.xf_payload.specs.Payload.{file_limit};
+ghost use Rattle.xf_span.specs.Limit.{file_limit};
 ghost use Rattle.xf_opt.specs.Words.{run};
 ghost use Rattle.xf_opt.specs.Ended.{refusal_at, EndsPlainly, EndsByScript, EndsByPayload, IsPastReads, RefusesBy};
 ghost use Rattle.xf_opt.specs.Ends.{IsScriptFile, IsRunnable};
@@ -16,9 +16,8 @@ use crate::run::erase_dead;
 use std::alloc::Global;
 use xf_host::sink::{Sink, SinkFail};
 use xf_ir::Module;
-use xf_payload::FILE_LIMIT;
 use xf_print::print;
-use xf_span::{Code, Fault, Place};
+use xf_span::{Code, FILE_LIMIT, FIRST_PLACE, Fault};
 use xf_text::is_script;
 
 /// Whether a file of these bytes is not too long.
@@ -48,7 +47,7 @@ fn judge_script(alloc: Global, bytes: &[u8]) -> Result<(), Refusal>
 fn outside() -> Refusal
     ensures { result ≡ Refusal.Payload (fault_at code.N1 first_place) }
 {
-    Refusal::Payload(Fault::at(Code::N1, Place { line: 1, col: 1 }))
+    Refusal::Payload(Fault::at(Code::N1, FIRST_PLACE))
 }
 
 /// The payload of a run: a valid module of the form that it takes.

@@ -1,7 +1,7 @@
 //! The top call.
 ghost use Rattle.std.specs.Prelude.{◌≡◌, ◌≢◌, ◌≤◌, ◌↔◌, ◌+◌, ℕ, List, [], Some, None, IsNone, IfOk, IfSome, IsErrOf, take};
 ghost use Rattle.xf_host.specs.Count.{HasRisen};
-ghost use Rattle.xf_payload.specs.Payload.{file_limit};
+ghost use Rattle.xf_span.specs.Limit.{file_limit};
 ghost use Rattle.xf_opt.specs.Words.{texts, run, verify, print, command_of};
 ghost use Rattle.xf_opt.specs.Ended.{asked_by, refusal_at, EndsPlainly, EndsByScript, EndsByPayload, EndsByReads};
 ghost use Rattle.xf_opt.specs.Ends.{IsStatus, RunsNoScript, OnScript, OnPayload, HasReadFault, JudgesScript, JudgesPayload, Finishes, WritesFront, WritesAtMost, OthersStay, FaultIs, TellsEnd};
@@ -14,7 +14,7 @@ use crate::words::{Command, parse};
 use std::alloc::Global;
 use xf_host::files::{FileFail, Files};
 use xf_host::sink::Sink;
-use xf_payload::FILE_LIMIT;
+use xf_span::FILE_LIMIT;
 
 /// Reads a file, and at most one byte past the greatest length.
 fn read_file<F: Files>(alloc: Global, files: &mut F, path: &str) -> Result<Vec<u8>, FileFail>

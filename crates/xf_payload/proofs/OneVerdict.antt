@@ -8,7 +8,7 @@ use Rattle.xf_grammar.specs.Reading.{Out}
 use Rattle.xf_ir.specs.declared.op.Module.{Module}
 use Rattle.xf_ir.specs.Valid.{IsValid}
 use Rattle.xf_ir.specs.Violations.{Violation, first_violation}
-use Rattle.xf_ir.proofs.ViolationLaw.{valid_has_no_violation}
+use Rattle.xf_ir_laws.proofs.ViolationLaw.{valid_has_no_violation}
 use Rattle.xf_read.specs.declared.fault.Cause.{Cause}
 use Rattle.xf_read.specs.declared.tree.File.{File}
 use Rattle.xf_read.specs.Laws.{IsText}

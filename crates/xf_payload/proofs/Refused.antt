@@ -14,7 +14,8 @@ use Rattle.xf_verify.specs.declared.fault.VerifyFault.{VerifyFault}
 use Rattle.xf_verify.specs.declared.fault.VerifyFault.TheVariants as verify_fault
 use Rattle.xf_verify.specs.Verdict.{fault_of}
 use Rattle.xf_read.specs.Spells.{Spells, HasPlaces, IsUnread}
-use Rattle.xf_payload.specs.Payload.{file_limit, rule_fault, IsRefused, IsJudged}
+use Rattle.xf_span.specs.Limit.{file_limit}
+use Rattle.xf_payload.specs.Payload.{rule_fault, IsRefused, IsJudged}
 
 -- its bytes spell no module
 pub unread_refused : (file : List ℕ) (e : TextFault) → length file ≤ file_limit → IsUnread file e → IsRefused file e

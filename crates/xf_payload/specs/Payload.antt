@@ -7,18 +7,15 @@ use Rattle.xf_span.specs.declared.fault.Fault.{Fault}
 use Rattle.xf_span.specs.declared.fault.TextFault.{TextFault}
 use Rattle.xf_span.specs.declared.fault.TextFault.TheVariants as text_fault
 use Rattle.xf_span.specs.Fault.{fault_at}
+use Rattle.xf_span.specs.Limit.{file_limit}
 use Rattle.xf_span.specs.Line.{HasLine}
-use Rattle.xf_lex.specs.Lexes.{first_place}
+use Rattle.xf_span.specs.Place.{first_place}
 use Rattle.xf_ir.specs.declared.op.Module.{Module}
 use Rattle.xf_ir.specs.declared.rule.Rule.{Rule}
 use Rattle.xf_ir.specs.declared.rule.Rule.TheVariants as rule
 use Rattle.xf_ir.specs.Valid.{IsValid}
 use Rattle.xf_ir.specs.Violations.{Violation, first_violation}
 use Rattle.xf_read.specs.Spells.{Spells, HasPlaces, Misspells}
-
--- the greatest length of a file
-abbrev pub file_limit : ℕ
-file_limit = 8388608
 
 -- a file holds a valid module
 pub record IsPayload (file : List ℕ) (m : Module) : Type 0 where

@@ -5,4 +5,4 @@ mod law;
 mod payload;
 
 pub use law::one_verdict;
-pub use payload::{FILE_LIMIT, read_payload};
+pub use payload::read_payload;

@@ -2,19 +2,14 @@
 ghost use Rattle.std.specs.Prelude.{◌≡◌, ◌≤◌, ◌↔◌, length, IfOk, IfErr, IsTrue, Some};
 ghost use Rattle.xf_ir.specs.Valid.{IsValid};
 ghost use Rattle.xf_ir.specs.Violations.{first_violation};
-ghost use Rattle.xf_payload.specs.Payload.{file_limit, rule_code, rule_fault, place_or_first, IsPayload, IsRefused, IsTellable, IsJudged};
+ghost use Rattle.xf_span.specs.Limit.{file_limit};
+ghost use Rattle.xf_payload.specs.Payload.{rule_code, rule_fault, place_or_first, IsPayload, IsRefused, IsTellable, IsJudged};
 
 use std::alloc::Global;
 use xf_ir::{Module, OpName, Rule};
 use xf_read::{PlaceOfList, ReadModule, read_module};
-use xf_span::{Code, Fault, Place, TextFault};
+use xf_span::{Code, FILE_LIMIT, FIRST_PLACE, Fault, TextFault};
 use xf_verify::{VerifyFault, verify};
-
-/// The greatest length of a file.
-pub const FILE_LIMIT: usize = 8_388_608;
-
-/// The place where a text begins.
-const FIRST_PLACE: Place = Place { line: 1, col: 1 };
 
 /// The code of a rule.
 fn rule_code(rule: Rule) -> Code

@@ -17,7 +17,7 @@ use Rattle.xf_ir.specs.declared.kind.Kind.{Kind}
 use Rattle.xf_ir.specs.declared.kind.Kind.TheVariants as kind
 use Rattle.xf_ir.specs.declared.op.Module.{Module}
 use Rattle.xf_ir.specs.Tree.{Ops, no_ops, op, no_regions, region}
-use Rattle.xf_print.specs.Printed.{printed_form}
+use Rattle.xf_ir.specs.PrintedForm.{printed_form}
 
 abbrev op_name : ℕ → OpName
 op_name n = record { 0 = n }

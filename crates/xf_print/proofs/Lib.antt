@@ -1,6 +1,5 @@
 mod Examples
 pub mod RowLemmas
-pub mod ListLemmas
 pub mod DimensionLemmas
 pub mod MapLemmas
 pub mod StrideLemmas

@@ -8,11 +8,11 @@ use Rattle.xf_ir.specs.Placed.{functions_of}
 use Rattle.xf_ir.specs.Tree.{Tree, Body, Ops}
 use Rattle.xf_ir.specs.View.{ops_of, regions_of, tree_size, ops_size, regions_size, body_size}
 use Rattle.xf_ir.proofs.EraseLemmas.{size_at, body_size_at}
-use Rattle.xf_print.specs.Names.{Names, no_names}
+use Rattle.xf_ir.specs.PrintedNames.{Names, no_names}
 use Rattle.xf_print.specs.Lines.{lines_text, tree_lines, else_lines, else_block_lines, rest_lines, function_lines}
-use Rattle.xf_print.specs.Printed.{line_at, op_text, is_empty_yield, body_head, head_lines, ops_lines, regions_lines, end_lines, functions_lines, printed_form}
-use Rattle.xf_host.specs.Writes.{Gains, GainsFront, WritesText}
-use Rattle.xf_host.proofs.WriteLemmas.{gains_nothing, gains-append, front-append, gains-front, writes_same}
+use Rattle.xf_ir.specs.PrintedForm.{line_at, op_text, is_empty_yield, body_head, head_lines, ops_lines, regions_lines, end_lines, functions_lines, printed_form}
+use Rattle.xf_host.specs.Writes.{Gains, GainsPrefix, WritesText}
+use Rattle.xf_host.proofs.WriteLemmas.{gains_nothing, gains-append, prefix-append, gains-prefix, writes_same}
 use Rattle.xf_host.specs.declared.sink.SinkFail.{SinkFail}
 
 -- a part of the text was written, and the rest is still to be written
@@ -33,8 +33,8 @@ pub going_same : (old now : Option (List ℕ)) (text rest rest' : List ℕ) → 
 going_same old now text rest rest' e g = subst (λ x. Going old text x now) e g
 
 -- a part that failed
-pub going_fails : (old now new : Option (List ℕ)) (text part rest : List ℕ) → Going old text (part ++ rest) now → GainsFront now part new → GainsFront old text new
-going_fails old now new text part rest g f = subst (λ t. GainsFront old t new) (sym g.is) (gains-front old now new g.done (part ++ rest) g.gains (front-append now new part rest f))
+pub going_fails : (old now new : Option (List ℕ)) (text part rest : List ℕ) → Going old text (part ++ rest) now → GainsPrefix now part new → GainsPrefix old text new
+going_fails old now new text part rest g f = subst (λ t. GainsPrefix old t new) (sym g.is) (gains-prefix old now new g.done (part ++ rest) g.gains (prefix-append now new part rest f))
 
 -- nothing is left
 pub going_ends : (old now : Option (List ℕ)) (text : List ℕ) → Going old text [] now → Gains old text now
@@ -43,13 +43,13 @@ going_ends old now text g = subst (λ t. Gains old t now) (sym (g.is ∙ append-
 -- ---- a text of two parts
 
 -- the first part failed
-pub first_fails : (old new : Option (List ℕ)) (text a b : List ℕ) → text ≡ a ++ b → GainsFront old a new → GainsFront old text new
-first_fails old new text a b e f = subst (λ t. GainsFront old t new) (sym e) (front-append old new a b f)
+pub first_fails : (old new : Option (List ℕ)) (text a b : List ℕ) → text ≡ a ++ b → GainsPrefix old a new → GainsPrefix old text new
+first_fails old new text a b e f = subst (λ t. GainsPrefix old t new) (sym e) (prefix-append old new a b f)
 
 -- the first part was written, and the second is written last
 pub second_last : {T : Type 0} (r : Result T SinkFail) (old mid new : Option (List ℕ)) (text a b : List ℕ) → text ≡ a ++ b → Gains old a mid → WritesText r b mid new → WritesText r text old new
 second_last (Ok x) old mid new text a b e g w = subst (λ t. Gains old t new) (sym e) (gains-append old mid new a b g w)
-second_last (Err y) old mid new text a b e g w = subst (λ t. GainsFront old t new) (sym e) (gains-front old mid new a b g w)
+second_last (Err y) old mid new text a b e g w = subst (λ t. GainsPrefix old t new) (sym e) (gains-prefix old mid new a b g w)
 
 -- lines behind lines
 pub lines_append : (xs ys : List (List ℕ)) → lines_text (xs ++ ys) ≡ lines_text xs ++ lines_text ys
@@ -69,7 +69,7 @@ pub tree_written : (old now new : Option (List ℕ)) (text : List ℕ) (names : 
 tree_written old now new text names level ts i t lt is g h = going_on old now new text _ _ (going_same old now text _ _ (first_tree names level ts i t lt is) g) h
 
 pub tree_failed : (old now new : Option (List ℕ)) (text : List ℕ) (names : Names) (level : ℕ) (ts : List Tree) (i : ℕ) (t : Tree) → i < length ts → t ≡ get_or ts i t
-    → Going old text (lines_text (ops_lines names level (ops_of (drop i ts)))) now → GainsFront now (lines_text (tree_lines names level t)) new → GainsFront old text new
+    → Going old text (lines_text (ops_lines names level (ops_of (drop i ts)))) now → GainsPrefix now (lines_text (tree_lines names level t)) new → GainsPrefix old text new
 tree_failed old now new text names level ts i t lt is g f = going_fails old now new text _ _ (going_same old now text _ _ (first_tree names level ts i t lt is) g) f
 
 -- ---- blocks behind the first
@@ -86,7 +86,7 @@ pub else_written : (old now new : Option (List ℕ)) (text : List ℕ) (names : 
 else_written old now new text names level bs i b lt is g h = going_on old now new text _ _ (going_same old now text _ _ (first_else names level bs i b lt is) g) h
 
 pub else_failed : (old now new : Option (List ℕ)) (text : List ℕ) (names : Names) (level : ℕ) (bs : List Body) (i : ℕ) (b : Body) → i < length bs → b ≡ get_or bs i b
-    → Going old text (lines_text (else_lines names level (regions_of (drop i bs)))) now → GainsFront now (lines_text (else_block_lines names level b.ops)) new → GainsFront old text new
+    → Going old text (lines_text (else_lines names level (regions_of (drop i bs)))) now → GainsPrefix now (lines_text (else_block_lines names level b.ops)) new → GainsPrefix old text new
 else_failed old now new text names level bs i b lt is g f = going_fails old now new text _ _ (going_same old now text _ _ (first_else names level bs i b lt is) g) f
 
 -- the first block, and the others
@@ -99,7 +99,7 @@ first_block names level inner (x ∷ xs) b lt is f =
     rw (is, e, q) (lines_append (ops_lines names (suc level) x.ops) (else_lines names level (regions_of xs)))
 
 pub block_fails : (old new : Option (List ℕ)) (names : Names) (level inner : ℕ) (bs : List Body) (b : Body) → 1 ≤ length bs → b ≡ get_or bs 0 b → inner ≡ level + 1
-    → GainsFront old (lines_text (ops_lines names inner b.ops)) new → GainsFront old (lines_text (regions_lines names level (regions_of bs))) new
+    → GainsPrefix old (lines_text (ops_lines names inner b.ops)) new → GainsPrefix old (lines_text (regions_lines names level (regions_of bs))) new
 block_fails old new names level inner bs b lt is q f = first_fails old new _ _ _ (first_block names level inner bs b lt is q) f
 
 pub block_written : (old new : Option (List ℕ)) (names : Names) (level inner : ℕ) (bs : List Body) (b : Body) → 1 ≤ length bs → b ≡ get_or bs 0 b → inner ≡ level + 1
@@ -156,7 +156,7 @@ pub function_written : (old now new : Option (List ℕ)) (text : List ℕ) (fs :
 function_written old now new text fs i t lt is g h = going_on old now new text _ _ (going_same old now text _ _ (first_function fs i t lt is) g) h
 
 pub function_failed : (old now new : Option (List ℕ)) (text : List ℕ) (fs : List Tree) (i : ℕ) (t : Tree) → i < length fs → t ≡ get_or fs i t
-    → Going old text (lines_text (functions_lines (ops_of (drop i fs)))) now → GainsFront now (lines_text (function_lines t)) new → GainsFront old text new
+    → Going old text (lines_text (functions_lines (ops_of (drop i fs)))) now → GainsPrefix now (lines_text (function_lines t)) new → GainsPrefix old text new
 function_failed old now new text fs i t lt is g f = going_fails old now new text _ _ (going_same old now text _ _ (first_function fs i t lt is) g) f
 
 -- ---- the module

@@ -2,8 +2,8 @@
 use Rattle.std.specs.Prelude.{ℕ, suc, List, [], ◌∷◌, ◌++◌, codes, Bool, true, false}
 use Rattle.std.specs.List.{flat_map}
 use Rattle.xf_ir.specs.Tree.{Ops, no_ops, Regions, Tree, cons}
-use Rattle.xf_print.specs.Names.{Names, no_names, with_ops}
-use Rattle.xf_print.specs.Printed.{line_at, head_lines, regions_lines, between_lines, end_lines, ops_lines}
+use Rattle.xf_ir.specs.PrintedNames.{Names, no_names, with_ops}
+use Rattle.xf_ir.specs.PrintedForm.{line_at, head_lines, regions_lines, between_lines, end_lines, ops_lines}
 
 -- lines, each with its line feed
 abbrev pub lines_text : List (List ℕ) → List ℕ

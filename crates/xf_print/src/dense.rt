@@ -1,11 +1,15 @@
-//! The bodies of dense constants, appended to the line so far. They refuse for want of memory alone.
-ghost use Rattle.std.specs.Prelude.{◌≡◌, ◌∷◌, ◌++◌, ◌/◌, OnOk, IfOk, map, take, drop};
+//! Dense constants, appended to the line so far. They refuse for want of memory alone.
+ghost use Rattle.std.specs.Prelude.{◌≡◌, [], ◌∷◌, ◌++◌, ◌/◌, OnOk, IfOk, map, take, drop};
 ghost use Rattle.xf_type.specs.declared.payload_type.Dim.TheVariants.{Fixed};
-ghost use Rattle.xf_print.specs.Dense.{rows, nested, body_text};
-ghost use Rattle.xf_print.specs.Numbers.{number_text};
-ghost use Rattle.xf_print.specs.Words.{listed};
+ghost use Rattle.xf_ir.specs.declared.kind.Kind.TheVariants as kind;
+ghost use Rattle.xf_ir.specs.PrintedDense.{rows, nested, body_text};
+ghost use Rattle.xf_ir.specs.PrintedNames.{no_names};
+ghost use Rattle.xf_ir.specs.PrintedNumbers.{number_text};
+ghost use Rattle.xf_ir.specs.PrintedRows.{row_text};
+ghost use Rattle.xf_ir.specs.PrintedWords.{listed};
 
-use crate::number::write_number_of;
+use xf_ir::Attr;
+use xf_print_base::{write_attrs, write_number_of, write_shape};
 use xf_type::{Dim, NoMemory, Shape, Width};
 
 fn write_numbers(width: Width, numbers: &[u128], line: &mut Vec<u8>) -> Result<(), NoMemory>
@@ -116,7 +120,7 @@ fn write_nested(
 }
 
 /// Appends the body of a dense constant: nothing for no numbers, a number for one, and else nested lists.
-pub fn write_body(shape: &Shape, numbers: &[u128], line: &mut Vec<u8>) -> Result<(), NoMemory>
+fn write_body(shape: &Shape, numbers: &[u128], line: &mut Vec<u8>) -> Result<(), NoMemory>
     ensures { OnOk result (line.new.items ≡ line.old.items ++ body_text shape.now numbers.now) }
 {
     match numbers {
@@ -124,4 +128,23 @@ pub fn write_body(shape: &Shape, numbers: &[u128], line: &mut Vec<u8>) -> Result
         [number] => write_number_of(shape.elem, *number, line),
         _ => write_nested(shape.elem, shape.dims.as_slice(), numbers, line),
     }
+}
+
+/// Appends a constant tensor.
+pub fn write_dense(
+    shape: &Shape,
+    numbers: &[u128],
+    attrs: &[Attr],
+    line: &mut Vec<u8>,
+) -> Result<(), NoMemory>
+    ensures { OnOk result (line.new.items ≡ line.old.items
+        ++ row_text no_names 0 [] (kind.Dense shape.now numbers.now) attrs.now [] []) }
+{
+    line.extend_from_slice(b"arith.constant")?;
+    write_attrs(attrs, line)?;
+    line.extend_from_slice(b" dense<")?;
+    write_body(shape, numbers, line)?;
+    line.extend_from_slice(b"> : ")?;
+    write_shape(shape, line)?;
+    Ok(())
 }

@@ -1,20 +1,14 @@
-//! The printed form of modules.
+//! The printed form of modules of every kind: the rows of tensor and linalg, lines, and `print`,
+//! which writes the printed form of a module, or a front of it where the sink fails or memory is
+//! refused. What all rows need, and the rows of builtin, func, arith and scf, stand in `xf_print_base`.
 #![tactic(auto)]
 
-mod arith_rows;
-mod attributes;
 mod dense;
-mod func_rows;
-mod index;
 mod linalg_rows;
 mod line;
-mod number;
 mod printer;
 mod row;
-mod scf_rows;
 mod tensor_rows;
-mod values;
-mod words;
 
 pub use printer::print;
 

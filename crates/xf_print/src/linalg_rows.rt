@@ -1,17 +1,35 @@
 //! The rows of linalg, appended to the line so far. They refuse for want of memory alone.
 ghost use Rattle.std.specs.Prelude.{◌≡◌, ◌++◌, OnOk, [], map, codes};
 ghost use Rattle.xf_ir.specs.declared.kind.Kind.TheVariants as kind;
-ghost use Rattle.xf_print.specs.Attributes.{attrs_text, dictionary_behind};
-ghost use Rattle.xf_print.specs.Index.{names_of};
-ghost use Rattle.xf_print.specs.Rows.{ins_text, outs_text, structured_text, dimension_texts, map_text, generic_text, row_text};
-ghost use Rattle.xf_print.specs.Words.{listed, arrow_types, dimension_text, iterator_text};
+ghost use Rattle.xf_ir.specs.PrintedAttributes.{attrs_text, dictionary_behind};
+ghost use Rattle.xf_print_base.specs.Index.{names_of};
+ghost use Rattle.xf_ir.specs.PrintedRows.{ins_text, outs_text, structured_text, dimension_texts, map_text, generic_text, row_text};
+ghost use Rattle.xf_ir.specs.PrintedWords.{listed, arrow_types, dimension_text, iterator_text};
 
-use crate::attributes::write_dictionary;
-use crate::index::Index;
-use crate::values::{write_arrow_results, write_op_attrs, write_value_types, write_values};
-use crate::words::{write_dimension, write_iterator};
 use xf_ir::{IteratorKind, Op, ValueName};
+use xf_print_base::{
+    Index, write_arrow_results, write_dictionary, write_number, write_op_attrs, write_value_types,
+    write_values,
+};
 use xf_type::{AffineMap, NoMemory};
+
+/// Appends an iterator type with its quotes.
+fn write_iterator(kind: IteratorKind, line: &mut Vec<u8>) -> Result<(), NoMemory>
+    ensures { OnOk result (line.new.items ≡ line.old.items ++ iterator_text kind) }
+{
+    match kind {
+        IteratorKind::Parallel => line.extend_from_slice(b"\"parallel\""),
+        IteratorKind::Reduction => line.extend_from_slice(b"\"reduction\""),
+    }
+}
+
+/// Appends the dimension of a map with that number.
+fn write_dimension(at: u32, line: &mut Vec<u8>) -> Result<(), NoMemory>
+    ensures { OnOk result (line.new.items ≡ line.old.items ++ dimension_text at) }
+{
+    line.push(b'd')?;
+    write_number(u128::from(at), line)
+}
 
 fn write_ins(names: &Index<'_>, values: &[ValueName], line: &mut Vec<u8>) -> Result<(), NoMemory>
     ensures { OnOk result (line.new.items

@@ -1,15 +1,14 @@
 //! Whole lines, each made in a buffer that is used again. They refuse for want of memory alone.
 ghost use Rattle.std.specs.Prelude.{◌≡◌, ◌*◌, ◌-◌, ◌++◌, OnOk, [], ◌∷◌, replicate, codes};
-ghost use Rattle.xf_print.specs.Attributes.{attrs_text};
-ghost use Rattle.xf_print.specs.Index.{names_of};
-ghost use Rattle.xf_print.specs.Names.{first_args, first_of, param_texts};
-ghost use Rattle.xf_print.specs.Printed.{line_at, op_text};
-ghost use Rattle.xf_print.specs.Words.{listed, arrow_types};
+ghost use Rattle.xf_ir.specs.PrintedAttributes.{attrs_text};
+ghost use Rattle.xf_print_base.specs.Index.{names_of};
+ghost use Rattle.xf_ir.specs.PrintedNames.{first_args, first_of, param_texts};
+ghost use Rattle.xf_ir.specs.PrintedForm.{line_at, op_text};
+ghost use Rattle.xf_ir.specs.PrintedWords.{listed, arrow_types};
 
-use crate::index::Index;
 use crate::row::write_op;
-use crate::values::{write_arrow_results, write_op_attrs, write_params};
 use xf_ir::{Op, first_args};
+use xf_print_base::{Index, write_arrow_results, write_op_attrs, write_params};
 use xf_type::NoMemory;
 
 /// Begins a line: two blanks for each level.

@@ -3,16 +3,16 @@ ghost use Rattle.std.specs.Prelude.{◌≡◌, ◌+◌, ◌++◌, IfOk, [], ◌�
 ghost use Rattle.xf_host.specs.Writes.{WritesText, FailsByCount};
 ghost use Rattle.xf_ir.specs.Placed.{functions_of};
 ghost use Rattle.xf_ir.specs.View.{ops_of, regions_of};
-ghost use Rattle.xf_print.specs.Index.{names_of};
+ghost use Rattle.xf_print_base.specs.Index.{names_of};
 ghost use Rattle.xf_print.specs.Lines.{lines_text, tree_lines, function_lines, rest_lines, else_block_lines, end_text};
-ghost use Rattle.xf_print.specs.Names.{no_names};
-ghost use Rattle.xf_print.specs.Printed.{line_at, op_text, is_empty_yield, body_head, head_lines, end_lines, ops_lines, regions_lines, functions_lines, printed_form};
+ghost use Rattle.xf_ir.specs.PrintedNames.{no_names};
+ghost use Rattle.xf_ir.specs.PrintedForm.{line_at, op_text, is_empty_yield, body_head, head_lines, end_lines, ops_lines, regions_lines, functions_lines, printed_form};
 
-use crate::index::{Index, sum};
 use crate::line::{body_end_line, body_line, end_line, op_line, word_line};
 use std::alloc::Global;
 use xf_host::sink::{Sink, SinkFail};
 use xf_ir::{Block, Kind, Module, Op};
+use xf_print_base::{Index, sum};
 use xf_type::NoMemory;
 
 /// Whether an operation is a yield that is left out: without operands and attributes.

@@ -1,21 +1,21 @@
 //! The row of an operation, by its kind.
 ghost use Rattle.std.specs.Prelude.{◌≡◌, ◌++◌, OnOk};
-ghost use Rattle.xf_print.specs.Index.{names_of};
-ghost use Rattle.xf_print.specs.Names.{first_args, first_of, number_of, results_text};
-ghost use Rattle.xf_print.specs.Printed.{op_text};
-ghost use Rattle.xf_print.specs.Rows.{row_text};
+ghost use Rattle.xf_print_base.specs.Index.{names_of};
+ghost use Rattle.xf_ir.specs.PrintedNames.{first_args, first_of, number_of, results_text};
+ghost use Rattle.xf_ir.specs.PrintedForm.{op_text};
+ghost use Rattle.xf_ir.specs.PrintedRows.{row_text};
 
-use crate::arith_rows::{write_compare, write_constant, write_convert, write_dense, write_simple};
-use crate::func_rows::{FunctionHead, write_call, write_func, write_giving, write_module};
-use crate::index::Index;
+use crate::dense::write_dense;
 use crate::linalg_rows::{write_generic, write_named};
-use crate::scf_rows::{write_for, write_if};
 use crate::tensor_rows::{
     write_cast, write_dim, write_empty, write_extract, write_extract_slice, write_insert,
     write_insert_slice,
 };
-use crate::values::write_results;
 use xf_ir::{Kind, Op, first_args};
+use xf_print_base::{
+    FunctionHead, Index, write_call, write_compare, write_constant, write_convert, write_for,
+    write_func, write_giving, write_if, write_module, write_results, write_simple,
+};
 use xf_type::NoMemory;
 
 /// Appends an operation without its results; `first` is the first number of its block's arguments.

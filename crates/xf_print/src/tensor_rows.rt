@@ -1,17 +1,15 @@
 //! The rows of tensor, appended to the line so far. They refuse for want of memory alone.
 ghost use Rattle.std.specs.Prelude.{◌≡◌, ◌++◌, OnOk, IfOk, [], map, drop};
 ghost use Rattle.xf_ir.specs.declared.kind.Kind.TheVariants as kind;
-ghost use Rattle.xf_print.specs.Index.{names_of};
-ghost use Rattle.xf_print.specs.Rows.{place_text, behind_place, place_texts, behind_places, stride_text, window_text, row_text};
-ghost use Rattle.xf_print.specs.Words.{listed};
+ghost use Rattle.xf_print_base.specs.Index.{names_of};
+ghost use Rattle.xf_ir.specs.PrintedRows.{place_text, behind_place, place_texts, behind_places, stride_text, window_text, row_text};
+ghost use Rattle.xf_ir.specs.PrintedWords.{listed};
 
-use crate::index::Index;
-use crate::values::{
-    operands_behind, write_behind, write_nth, write_nth_type, write_op_attrs, write_operand,
-    write_operands, write_result_types,
-};
-use crate::words::write_integer;
 use xf_ir::{Op, SliceIndex, ValueName};
+use xf_print_base::{
+    Index, operands_behind, write_behind, write_integer, write_nth, write_nth_type, write_op_attrs,
+    write_operand, write_operands, write_result_types,
+};
 use xf_type::NoMemory;
 
 /// Appends an empty tensor.

@@ -3,7 +3,7 @@
 use Rattle.std.specs.Prelude.{ℕ, ◌+◌, List, [], ◌∷◌, ◌++◌, map, Option, Some, None, if◌then◌else◌, slice_get}
 use Rattle.xf_span.specs.declared.place.Place.{Place}
 use Rattle.xf_lex.specs.declared.token.Token.{Token}
-use Rattle.xf_lex.specs.Lexes.{first_place}
+use Rattle.xf_span.specs.Place.{first_place}
 use Rattle.xf_read_base.specs.declared.parts.Parts.{Parts}
 use Rattle.xf_read_base.specs.declared.parts.Ref.{Ref}
 use Rattle.xf_ir.specs.declared.name.ValueName.{ValueName}

@@ -13,7 +13,7 @@ use crate::walk::{PlaceOfList, Walk, operation, place_of};
 use std::alloc::Global;
 use xf_ir::Module;
 use xf_lex::{Token, tokens};
-use xf_span::{Place, ReadFault};
+use xf_span::{FIRST_PLACE, Place, ReadFault};
 use xf_type::NoMemory;
 
 /// A module, and the place of each of its operations by its name's number.
@@ -38,7 +38,7 @@ fn module_place(tokens: &[Token], file: &File) -> Place
     if file.written {
         place_of(tokens, file.root.first)
     } else {
-        Place { line: 1, col: 1 }
+        FIRST_PLACE
     }
 }
 

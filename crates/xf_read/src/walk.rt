@@ -19,7 +19,7 @@ use std::alloc::Global;
 use xf_ir::{AttrList, Block, Kind, Op, OpName, ValueList};
 use xf_lex::Token;
 use xf_read_base::Parts;
-use xf_span::Place;
+use xf_span::{FIRST_PLACE, Place};
 use xf_type::{Duplicate, ListOf, NoMemory, TypeList};
 
 /// The places of operations, by their numbers.
@@ -42,7 +42,7 @@ pub fn place_of(tokens: &[Token], at: usize) -> Place
     if at < tokens.len() {
         tokens[at].place
     } else {
-        Place { line: 1, col: 1 }
+        FIRST_PLACE
     }
 }
 

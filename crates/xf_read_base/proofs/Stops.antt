@@ -2,7 +2,7 @@
 use Rattle.std.proofs.Common.{◌≡◌, ℕ, zero, suc, ◌-◌, ◌≤◌, List, [], ◌∷◌, length, refl, sym, ap, ◌∙◌, arith, slice_index_or}
 use Rattle.xf_span.specs.declared.place.Place.{Place}
 use Rattle.xf_lex.specs.declared.token.Token.{Token}
-use Rattle.xf_lex.specs.Lexes.{first_place, place_after}
+use Rattle.xf_span.specs.Place.{first_place, place_after}
 use Rattle.std.specs.Prelude.{slice_get}
 use Rattle.xf_read_base.specs.Stops.{end_place, place_or_end, stop_place}
 

@@ -5,7 +5,7 @@ use Rattle.xf_span.specs.declared.code.Code.TheVariants.{A1, A6, A7, N1}
 use Rattle.xf_span.specs.declared.fault.Fault.{Fault}
 use Rattle.xf_span.specs.Fault.{fault_at, numbered_fault}
 use Rattle.xf_lex.specs.declared.token.Token.{Token}
-use Rattle.xf_lex.specs.Lexes.{first_place, place_after}
+use Rattle.xf_span.specs.Place.{first_place, place_after}
 use Rattle.xf_grammar.specs.Tokens.{seen}
 use Rattle.xf_read_base.specs.declared.due.Due.{Due}
 use Rattle.xf_read_base.specs.declared.verdict.Verdict.{Verdict}

@@ -1,40 +1,11 @@
 //! The place and the code of a fault of the syntax.
 ghost use Rattle.std.specs.Prelude.{◌≡◌};
-ghost use Rattle.xf_lex.specs.Lexes.{next_place, place_after};
 ghost use Rattle.xf_read_base.specs.Stops.{stop_place, judged, due_fault};
 
 use crate::due::Due;
 use crate::verdict::{Verdict, judge};
 use xf_lex::Token;
-use xf_span::{Code, Fault, Place};
-
-/// The place behind a byte.
-fn next_place(place: Place, b: u8) -> Place
-    ensures { result ≡ next_place place b }
-{
-    if b == b'\n' {
-        Place {
-            line: place.line.saturating_add(1),
-            col: 1,
-        }
-    } else {
-        Place {
-            line: place.line,
-            col: place.col.saturating_add(1),
-        }
-    }
-}
-
-/// The place behind some bytes.
-fn place_after(place: Place, bytes: &[u8]) -> Place
-    ensures { result ≡ place_after place bytes.now }
-{
-    let mut at = place;
-    for b in bytes {
-        at = next_place(at, *b);
-    }
-    at
-}
+use xf_span::{Code, FIRST_PLACE, Fault, Place, place_after};
 
 /// The place of a token, of which the end of the text is one.
 pub fn stop_place(tokens: &[Token], at: usize) -> Place
@@ -45,7 +16,7 @@ pub fn stop_place(tokens: &[Token], at: usize) -> Place
     }
     match tokens {
         [.., last] => place_after(last.place, last.bytes.as_slice()),
-        [] => Place { line: 1, col: 1 },
+        [] => FIRST_PLACE,
     }
 }
 

@@ -13,15 +13,15 @@ use Rattle.xf_ir.specs.declared.name.ValueName.{ValueName}
 use Rattle.xf_ir.specs.Places.{Seen, done, inside, AllSeen}
 use Rattle.xf_ir.specs.Tree.{Ops, no_ops, op, Regions, no_regions, region, cons}
 use Rattle.xf_ir.specs.Valid.{OpsSee, RegionsSee}
-use Rattle.xf_roundtrip.specs.Renamed.{ops_renamed, regions_renamed}
+use Rattle.xf_ir.specs.Renamed.{ops_renamed, regions_renamed}
 use Rattle.xf_read.specs.Meant.{joined, yield_tree}
 use Rattle.xf_read.specs.Names.{op_name}
 use Rattle.xf_read.specs.Scopes.{Scope}
 use Rattle.xf_read.specs.Syntax.{ends_open}
 use Rattle.xf_read.specs.Types.{operands_by, stated_by, fits}
 use Rattle.xf_read.specs.Written.{SaidNodes, node_said, SaidBodies, says_yield_last, operations, left_out, operations_inside}
-use Rattle.xf_print.specs.Names.{Names, first_args, next_number, number_of, first_of, type_of}
-use Rattle.xf_print.specs.Printed.{is_empty_yield}
+use Rattle.xf_ir.specs.PrintedNames.{Names, first_args, next_number, number_of, first_of, type_of}
+use Rattle.xf_ir.specs.PrintedForm.{is_empty_yield}
 use Rattle.xf_roundtrip.specs.Saying.{use_type, shape, result_types, argument_types, attrs_said, kind_said, with_arguments, with_defines, with_function, function_named}
 use Rattle.xf_roundtrip.specs.Saying.{inside as inside_said, behind as behind_said}
 use Rattle.xf_roundtrip.specs.SaidMeant.{yield_said, ops_said, regions_said}

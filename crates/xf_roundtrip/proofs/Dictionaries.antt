@@ -19,11 +19,11 @@ use Rattle.xf_ir.specs.Attributes.{bytes_before}
 use Rattle.xf_ir.specs.Lists.{Each, every}
 use Rattle.xf_ir.specs.RuleAttributes.{value_fits, attributes_fit}
 use Rattle.xf_ir.specs.Words.{is_word}
-use Rattle.xf_ir.proofs.SortedAttributes.{not_itself}
+use Rattle.xf_ir.proofs.BytesOrder.{not_itself}
 use Rattle.xf_read_base.specs.Attributes.{also}
 use Rattle.xf_read_base.specs.Strings.{decoded}
 use Rattle.xf_read_base.specs.Values.{with_attr}
-use Rattle.xf_print.specs.Attributes.{hex_digit, is_plain, byte_text, string_text}
+use Rattle.xf_ir.specs.PrintedAttributes.{hex_digit, is_plain, byte_text, string_text}
 use Rattle.xf_roundtrip.specs.Printable.{HasBytes}
 use Rattle.xf_roundtrip.specs.Saying.{attr_value, attr_said, with_said, attrs_said}
 use Rattle.xf_roundtrip.specs.SaidWell.{entries_once}

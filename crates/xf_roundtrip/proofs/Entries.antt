@@ -1,13 +1,13 @@
 -- Operations by their places in preorder, and the numbers that their names are printed with.
-use Rattle.std.proofs.Common.{◌≡◌, ℕ, suc, ◌+◌, Bool, true, false, List, [], ◌∷◌, ◌++◌, length, Some, refl, ap, subst, ◌∙◌, arith, length-append}
+use Rattle.std.proofs.Common.{◌≡◌, ◌⊎◌, ℕ, suc, ◌+◌, Bool, true, false, List, [], ◌∷◌, ◌++◌, length, Some, inl, inr, refl, sym, ap, subst, ◌∙◌, arith, length-append}
 use Rattle.std.specs.Prelude.{◌==◌, ◌||◌, if◌then◌else◌}
 use Rattle.std.proofs.lemmas.Bool.{or_parts}
 use Rattle.xf_ir.specs.declared.name.OpName.{OpName}
 use Rattle.xf_ir.specs.Lists.{Each, same_name, is_among, Once}
 use Rattle.xf_ir.specs.Tree.{Ops, no_ops, op, Regions, no_regions, region}
 use Rattle.xf_ir.specs.Walk.{ops_names, regions_names}
-use Rattle.xf_ir.proofs.Lists.{own_name, other_way, not_left, not_right, once_left, once_right, once_apart, each_left, each_right}
-use Rattle.xf_print.specs.Names.{Entry, Names, first_args, next_number, with_op, with_ops, with_regions}
+use Rattle.xf_ir.proofs.Lists.{name_is, own_name, other_way, not_left, not_right, once_left, once_right, once_apart, each_left, each_right}
+use Rattle.xf_ir.specs.PrintedNames.{Entry, Names, first_args, next_number, with_op, with_ops, with_regions}
 use Rattle.xf_roundtrip.proofs.Again.{ops_count, regions_count, ops_number, regions_number, ops_argument, regions_argument}
 use Rattle.xf_roundtrip.proofs.Names.{HasEntry}
 
@@ -17,6 +17,22 @@ use Rattle.xf_roundtrip.proofs.Names.{HasEntry}
 pub index_of : OpName → List OpName → ℕ
 index_of n [] = 0
 index_of n (m ∷ ms) = if same_name m n then 0 else suc (index_of n ms)
+
+same_head : (x y : Bool) (i j : ℕ) → (if x then 0 else suc i) ≡ (if y then 0 else suc j) → ((x ≡ true) × (y ≡ true)) ⊎ ((x ≡ false) × ((y ≡ false) × (i ≡ j)))
+same_head true true i j e = inl (refl, refl)
+same_head true false i j e = absurd (omega (arith, e))
+same_head false true i j e = absurd (omega (arith, e))
+same_head false false i j e = inr (refl, (refl, omega (arith, e)))
+
+-- names with one place are one name
+pub same_place : (ns : List OpName) (a b : OpName) → is_among a ns ≡ true → is_among b ns ≡ true → index_of a ns ≡ index_of b ns → a ≡ b
+unfolding index_of
+same_place [] a b h k e = absurd cc
+same_place (m ∷ ns) a b h k e =
+    elim (same_head (same_name m a) (same_name m b) (index_of a ns) (index_of b ns) e) [
+      | inl t ↦ sym (name_is m a t.0) ∙ name_is m b t.1
+      | inr f ↦ same_place ns a b (rw f.0 at h) (rw f.1.0 at k) f.1.1
+    ]
 
 -- these names have numbers from here on
 abbrev pub Counts : (OpName → ℕ) → ℕ → List OpName → Type 0

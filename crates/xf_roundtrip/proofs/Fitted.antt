@@ -25,11 +25,11 @@ use Rattle.xf_ir.specs.Types.{same_types, have_types}
 use Rattle.xf_ir.specs.Valid.{OpsInner, RegionsInner, FunctionsAlone, BlocksAlone, OpsSee, RegionsSee, FunctionsSee, IsValid}
 use Rattle.xf_ir.specs.Walk.{ops_names, regions_names}
 use Rattle.xf_ir.proofs.Lists.{once_left, once_right}
-use Rattle.xf_ir.proofs.Obeys.{OpsObey, RegionsObey, FunctionsObey, BlocksObey, blocks_obey}
+use Rattle.xf_ir_laws.proofs.Obeys.{OpsObey, RegionsObey, FunctionsObey, BlocksObey, blocks_obey}
 use Rattle.xf_ir.proofs.Root.{one_block}
 use Rattle.xf_read.specs.Short.{HasShortLists}
 use Rattle.xf_read.specs.Syntax.{most_operations}
-use Rattle.xf_print.specs.Names.{Entry, Names, no_names, with_ops, first_args, next_number, number_of, first_of}
+use Rattle.xf_ir.specs.PrintedNames.{Entry, Names, no_names, with_ops, first_args, next_number, number_of, first_of}
 use Rattle.xf_roundtrip.specs.Printing.{is_core, all_scalar, is_core_op, IsCore}
 use Rattle.xf_roundtrip.specs.Printable.{AllBytes, FunctionsNumber}
 use Rattle.xf_roundtrip.proofs.Needs.{Known, IsScalar, Fits, OpsFit, RegionsFit, FunctionsFit, ModuleFits}

@@ -21,7 +21,7 @@ use Rattle.xf_ir.specs.RuleTypes.{row_of as type_row}
 use Rattle.xf_ir.specs.Tree.{Ops, Regions, no_regions, region}
 use Rattle.xf_ir.specs.Types.{same_items, same_type, same_types, have_types, has_type}
 use Rattle.xf_ir.specs.Words.{is_word}
-use Rattle.xf_print.specs.Names.{first_args}
+use Rattle.xf_ir.specs.PrintedNames.{first_args}
 use Rattle.xf_roundtrip.specs.Printing.{is_core, all_scalar}
 use Rattle.xf_read.specs.Short.{IsShortAttr}
 use Rattle.xf_roundtrip.specs.Printable.{HasBytes}

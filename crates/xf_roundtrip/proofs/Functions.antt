@@ -21,9 +21,9 @@ use Rattle.xf_read.specs.Names.{op_name, results_named}
 use Rattle.xf_read.specs.Scopes.{Scope, no_names, with_name}
 use Rattle.xf_read.specs.Syntax.{ends_open}
 use Rattle.xf_read.specs.Written.{SaidNodes, no_nodes_said, node_said, SaidBodies, no_bodies_said, body_said, says_yield_last, operations, operations_inside}
-use Rattle.xf_print.specs.Names.{Names, first_args, with_ops, number_of, first_of}
-use Rattle.xf_print.specs.Names.{no_names as no_numbers}
-use Rattle.xf_roundtrip.specs.Renamed.{value_renamed, ops_renamed, regions_renamed, tree_renamed}
+use Rattle.xf_ir.specs.PrintedNames.{Names, first_args, with_ops, number_of, first_of}
+use Rattle.xf_ir.specs.PrintedNames.{no_names as no_numbers}
+use Rattle.xf_ir.specs.Renamed.{value_renamed, ops_renamed, regions_renamed, tree_renamed}
 use Rattle.xf_roundtrip.specs.Saying.{use_value, with_arguments, with_function, with_defines, function_named, result_types}
 use Rattle.xf_roundtrip.specs.Saying.{inside as inside_said, behind as behind_said}
 use Rattle.xf_roundtrip.specs.SaidMeant.{ops_said, regions_said, said_meant}

@@ -6,7 +6,6 @@ pub mod Fitted
 pub mod Fitting
 pub mod Functions
 pub mod Heads
-pub mod KnownPlaces
 pub mod Laws
 pub mod Lays
 pub mod Limits
@@ -22,9 +21,6 @@ pub mod Pieces
 pub mod Printed
 pub mod PrintedLaid
 pub mod Right
-pub mod RenamedPlaces
-pub mod RenamedReductions
-pub mod RenamedRules
 pub mod RowTexts
 pub mod SameHeads
 pub mod SamePieces

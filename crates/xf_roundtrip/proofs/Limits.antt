@@ -14,12 +14,12 @@ use Rattle.xf_read.specs.Scopes.{Scope}
 use Rattle.xf_read.specs.Scopes.{no_names as no_scope}
 use Rattle.xf_read.specs.Syntax.{most_operations, ends_open}
 use Rattle.xf_read.specs.Written.{SaidNodes, no_nodes_said, node_said, SaidBodies, no_bodies_said, body_said, says_yield_last, left_out, operations, operations_inside, NestsWell, BodiesNestWell}
-use Rattle.xf_print.specs.Names.{Names, no_names, with_ops}
-use Rattle.xf_print.specs.Printed.{is_empty_yield}
+use Rattle.xf_ir.specs.PrintedNames.{Names, no_names, with_ops}
+use Rattle.xf_ir.specs.PrintedForm.{is_empty_yield}
 use Rattle.xf_roundtrip.specs.Stored.{IsStored}
 use Rattle.xf_roundtrip.specs.PrintedLaws.{OpsNest, RegionsNest}
 use Rattle.xf_roundtrip.specs.Printing.{IsCore, op_says, ops_printed, bodies_printed, functions_printed, module_printed}
-use Rattle.xf_roundtrip.specs.Renamed.{ops_renamed, regions_renamed}
+use Rattle.xf_ir.specs.Renamed.{ops_renamed, regions_renamed}
 use Rattle.xf_roundtrip.specs.Saying.{inside, behind}
 use Rattle.xf_roundtrip.specs.SaidMeant.{yield_said, ops_said, regions_said, said_meant}
 use Rattle.xf_roundtrip.proofs.SamePrinted.{pieces_say}

@@ -17,9 +17,9 @@ use Rattle.xf_ir.specs.declared.op.Module.{Module}
 use Rattle.xf_ir.specs.Lists.{Each}
 use Rattle.xf_ir.specs.Placed.{functions_of}
 use Rattle.xf_ir.specs.Tree.{Ops, no_ops, op, Regions, no_regions, region, Tree}
-use Rattle.xf_print.specs.Attributes.{attrs_text}
-use Rattle.xf_print.specs.Names.{Names, no_names, with_ops, first_args, number_of, first_of}
-use Rattle.xf_print.specs.Printed.{line_at, is_empty_yield, op_text, body_head, end_lines, ops_lines, functions_lines, printed_lines, printed_form}
+use Rattle.xf_ir.specs.PrintedAttributes.{attrs_text}
+use Rattle.xf_ir.specs.PrintedNames.{Names, no_names, with_ops, first_args, number_of, first_of}
+use Rattle.xf_ir.specs.PrintedForm.{line_at, is_empty_yield, op_text, body_head, end_lines, ops_lines, functions_lines, printed_lines, printed_form}
 use Rattle.xf_roundtrip.specs.Printing.{dictionary_piece, is_core, row_of, pieces_of, results_of}
 use Rattle.xf_roundtrip.proofs.Needs.{head_tokens, tail_tokens, ops_tokens, regions_tokens, functions_tokens, module_tokens, AttrFits, has_regions, Fits, OpsFit, RegionsFit, FunctionsFit, ModuleFits, Reads}
 use Rattle.xf_roundtrip.proofs.Lays.{Low, Lays, known_blanks, known_word, before, front, whole, open_brace_lays, close_brace_lays, space_lays}

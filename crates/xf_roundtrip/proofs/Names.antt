@@ -16,12 +16,12 @@ use Rattle.xf_ir.specs.declared.name.ValueName.{ValueName}
 use Rattle.xf_ir.specs.declared.name.ValueName.TheVariants.{Result, Arg, Free}
 use Rattle.xf_ir.specs.Lists.{every}
 use Rattle.xf_ir.specs.Places.{Seen, done, inside, results_of, args_of, below, sees, AllSeen}
-use Rattle.xf_roundtrip.specs.Renamed.{value_renamed}
+use Rattle.xf_ir.specs.Renamed.{value_renamed}
 use Rattle.xf_read.specs.declared.scope.Named.{Named}
 use Rattle.xf_read.specs.Names.{op_name, argument_number, argument_named, results_named}
 use Rattle.xf_read.specs.Scopes.{Scope, with_name, has_value, has_use, value_in, type_in, value_of}
 use Rattle.xf_read.specs.Types.{one_type}
-use Rattle.xf_print.specs.Names.{Entry, Names, argument_text, next_number, type_of}
+use Rattle.xf_ir.specs.PrintedNames.{Entry, Names, argument_text, next_number, type_of}
 use Rattle.xf_roundtrip.specs.Saying.{index_or, use_means, use_value, use_type, with_arguments, with_defines}
 use Rattle.xf_roundtrip.specs.SaidWell.{is_new, defines_new, arguments_new}
 use Rattle.xf_roundtrip.specs.Naming.{number_name, part_said, result_use, argument_use, use_or, use_printed, defines_printed, arguments_printed}

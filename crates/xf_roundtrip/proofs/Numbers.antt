@@ -10,10 +10,10 @@ use Rattle.xf_ir.specs.Placed.{Typed, Holder, Placed, placed, root_holder, funct
 use Rattle.xf_ir.specs.RuleBlocks.{block_args}
 use Rattle.xf_ir.specs.Tree.{Ops, no_ops, op, Regions, no_regions, region}
 use Rattle.xf_ir.proofs.Lists.{each_map}
-use Rattle.xf_ir.proofs.Obeys.{OpsObey, RegionsObey, FunctionsObey, BlocksObey, blocks_obey}
+use Rattle.xf_ir_laws.proofs.Obeys.{OpsObey, RegionsObey, FunctionsObey, BlocksObey, blocks_obey}
 use Rattle.xf_read.specs.Short.{HasShortLists, NoListIsLong}
 use Rattle.xf_read.specs.Syntax.{most_operations}
-use Rattle.xf_print.specs.Names.{no_names, first_args, next_number}
+use Rattle.xf_ir.specs.PrintedNames.{no_names, first_args, next_number}
 use Rattle.xf_roundtrip.specs.Printable.{HasFewArguments, FunctionsNumber}
 use Rattle.xf_roundtrip.proofs.Again.{ops_number, regions_number, ops_argument, regions_argument}
 use Rattle.xf_roundtrip.proofs.Entries.{number_after, argument_after}

@@ -1,7 +1,7 @@
 -- What the printed form of a module that is valid says is right, and means the module again, with names in preorder.
 use Rattle.std.proofs.Common.{◌≡◌, ◌⊎◌, inl, inr, ℕ, suc, ◌+◌, ◌^◌, ◌<◌, Bool, true, false, cond, List, [], ◌∷◌, length, Option, Some, None, refl, sym, ap, subst, ◌∙◌, arith, slice_get}
 use Rattle.std.specs.Prelude.{◌&&◌, ◌||◌, ◌==◌, map, is_some, nat_lt, option_and_then}
-use Rattle.std.proofs.lemmas.Bool.{cases_Bool, and_parts, eqb-true, lt-ltb}
+use Rattle.std.proofs.lemmas.Bool.{cases_Bool, and_parts, or_parts, eqb-true, lt-ltb}
 use Rattle.xf_type.specs.declared.payload_type.PayloadType.{PayloadType}
 use Rattle.xf_type.specs.declared.payload_type.PayloadType.TheVariants.{Scalar}
 use Rattle.xf_ir.specs.declared.kind.Attr.{Attr}
@@ -11,7 +11,7 @@ use Rattle.xf_ir.specs.declared.name.OpName.{OpName}
 use Rattle.xf_ir.specs.declared.name.ValueName.{ValueName}
 use Rattle.xf_ir.specs.declared.name.ValueName.TheVariants.{Result, Arg, Free}
 use Rattle.xf_ir.specs.Calls.{Signatures}
-use Rattle.xf_ir.specs.Kinds.{is_container, is_module}
+use Rattle.xf_ir.specs.Kinds.{is_container, is_module, is_function}
 use Rattle.xf_ir.specs.Lists.{is_empty}
 use Rattle.xf_ir.specs.Places.{done, inside, place_of, below, sees, AllSeen}
 use Rattle.xf_ir.specs.Placed.{Typed, type_or, type_at, Holder, holder_of}
@@ -19,11 +19,11 @@ use Rattle.xf_ir.specs.RuleBlocks.{block_args, are_blocks, is_one, block_ends, b
 use Rattle.xf_ir.specs.Tree.{Ops, no_ops, op, Regions, no_regions, region}
 use Rattle.xf_ir.specs.Valid.{OpsInner, RegionsInner, OpsSee, RegionsSee}
 use Rattle.xf_ir.specs.Walk.{ops_names, regions_names}
-use Rattle.xf_ir.proofs.Obeys.{OpsObey, RegionsObey}
-use Rattle.xf_ir.proofs.SeenTypes.{seen_of}
+use Rattle.xf_ir_laws.proofs.Obeys.{OpsObey, RegionsObey}
+use Rattle.xf_ir_laws.proofs.SeenTypes.{seen_of}
 use Rattle.xf_read.specs.Names.{op_name}
-use Rattle.xf_print.specs.Names.{Entry, Names, first_args, next_number, type_of}
-use Rattle.xf_print.specs.Printed.{is_empty_yield}
+use Rattle.xf_ir.specs.PrintedNames.{Entry, Names, first_args, next_number, type_of}
+use Rattle.xf_ir.specs.PrintedForm.{is_empty_yield}
 use Rattle.xf_roundtrip.specs.SaidPrinted.{head_by}
 use Rattle.xf_roundtrip.proofs.Again.{ops_count, regions_count, ops_number, regions_number, ops_argument, regions_argument, number_more, ops_number_more, regions_number_more, ops_argument_more, regions_argument_more, SaysIt, OpsSo, RegionsSo}
 use Rattle.xf_roundtrip.proofs.Entries.{Counts, counts_left, counts_right, ops_names_count, regions_names_count, Entered, RegionsEntered}
@@ -152,8 +152,7 @@ blocks_are sigs gives kind.Yield ds types ts rs m w = no_block kind.Yield rs w.r
 blocks_are sigs gives k ds types ts rs m w = absurd (let r = w.row in cc)
 
 pub inner_module : (k : Kind) → is_container k ≡ false → is_module k ≡ false
-inner_module (kind.Module symbol) e = absurd cc
-inner_module k e = refl
+inner_module k e = (or_parts (is_module k) (is_function k) e).0
 
 inner_symbol : (k : Kind) → is_container k ≡ false → symbol_named k ≡ None
 inner_symbol (kind.Func symbol private results) e = absurd cc

@@ -21,11 +21,11 @@ use Rattle.xf_ir.specs.Lists.{Each, every}
 use Rattle.xf_ir.specs.RuleAttributes.{fits_bits, value_fits}
 use Rattle.xf_ir.specs.Types.{element_of}
 use Rattle.xf_ir.specs.Words.{is_word as is_ir_word, is_letter, is_word_byte}
-use Rattle.xf_print.specs.Words.{listed, listed_more, width_text, type_text, types_text, arrow_types}
-use Rattle.xf_print.specs.Numbers.{literal_text}
-use Rattle.xf_print.specs.Attributes.{value_text, entry_text, attrs_text}
-use Rattle.xf_print.specs.Names.{Names, result_part, name_text, value_type}
-use Rattle.xf_print.specs.Rows.{attributes_text}
+use Rattle.xf_ir.specs.PrintedWords.{listed, listed_more, width_text, type_text, types_text, arrow_types}
+use Rattle.xf_ir.specs.PrintedNumbers.{literal_text}
+use Rattle.xf_ir.specs.PrintedAttributes.{value_text, entry_text, attrs_text}
+use Rattle.xf_ir.specs.PrintedNames.{Names, result_part, name_text, value_type}
+use Rattle.xf_ir.specs.PrintedRows.{attributes_text}
 use Rattle.xf_roundtrip.specs.Printing.{part_digits, use_of, operand_width, has_minus, digits_of, literal_piece, number_said, attribute_value, attribute_of, dictionary_piece, widths}
 use Rattle.xf_roundtrip.specs.Printable.{HasBytes}
 use Rattle.xf_roundtrip.proofs.Needs.{Known, IsScalar, AttrFits}

@@ -21,18 +21,18 @@ use Rattle.xf_ir.specs.Types.{have_types, same_types}
 use Rattle.xf_ir.specs.Valid.{FunctionsAlone, BlocksAlone, FunctionsSee, block_of, symbols_before, symbols_of, symbols_in}
 use Rattle.xf_ir.specs.Walk.{ops_names, regions_names, tree_names}
 use Rattle.xf_ir.proofs.Lists.{not_left, once_left, once_right}
-use Rattle.xf_ir.proofs.Obeys.{FunctionsObey, BlocksObey, blocks_obey}
+use Rattle.xf_ir_laws.proofs.Obeys.{FunctionsObey, BlocksObey, blocks_obey}
 use Rattle.xf_ir.proofs.Root.{one_block}
 use Rattle.xf_read.specs.Names.{op_name}
 use Rattle.xf_read.specs.Syntax.{ends_open}
 use Rattle.xf_read.specs.Written.{says_yield_last}
-use Rattle.xf_print.specs.Names.{Names, first_args, next_number}
-use Rattle.xf_print.specs.Names.{no_names as no_numbers}
+use Rattle.xf_ir.specs.PrintedNames.{Names, first_args, next_number}
+use Rattle.xf_ir.specs.PrintedNames.{no_names as no_numbers}
 use Rattle.xf_roundtrip.specs.Laws.{PrintedSaysTheModule}
 use Rattle.xf_roundtrip.specs.Printable.{AllBytes, HasFewArguments, FunctionsNumber, IsPrintable}
 use Rattle.xf_roundtrip.specs.SaidPrinted.{head_by, has_row, row_of, results_printed}
 use Rattle.xf_roundtrip.proofs.Again.{regions_count, regions_number, regions_argument, regions_argument_more, SaysIt, RegionsSo}
-use Rattle.xf_roundtrip.proofs.Entries.{index_of, Counts, all_counted, counts_left, counts_right, regions_names_count, ops_entered, number_after, argument_after}
+use Rattle.xf_roundtrip.proofs.Entries.{index_of, same_place, Counts, all_counted, counts_left, counts_right, regions_names_count, ops_entered, number_after, argument_after}
 use Rattle.xf_roundtrip.proofs.Fits.{types_are, have_is}
 use Rattle.xf_roundtrip.proofs.Functions.{numbers_of, FunctionsSo, ModuleSo, module_again}
 use Rattle.xf_roundtrip.proofs.Numbers.{first_few}
@@ -181,4 +181,8 @@ pub printed_says : PrintedSaysTheModule
 printed_says m x =
     let renamed : OpName → OpName = named_by (λ o. index_of o (tree_names m.root)) in
     let a = module_again renamed m (module_so m x) in
-    (a.well, record { names = renamed; root = a.means })
+    (a.well, record {
+      names = renamed;
+      root = a.means;
+      apart = λ p q h k e. same_place (tree_names m.root) p q h k (ap (λ (n : OpName). n.0) e);
+    })

@@ -24,11 +24,11 @@ use Rattle.xf_ir.specs.Lists.{Each}
 use Rattle.xf_ir.specs.RuleAttributes.{is_index, is_word_or_none, kind_fits}
 use Rattle.xf_ir.specs.Spelling.{binary_spelling, conversion_spelling}
 use Rattle.xf_ir.specs.Words.{is_word as is_ir_word}
-use Rattle.xf_print.specs.Words.{width_text, type_text, types_text, arrow_types, predicate_text}
-use Rattle.xf_print.specs.Numbers.{literal_text}
-use Rattle.xf_print.specs.Attributes.{attrs_text}
-use Rattle.xf_print.specs.Names.{Names, name_text, values_text, value_type, value_types, results_text, param_texts, carried_texts}
-use Rattle.xf_print.specs.Rows.{given_text, symbol_text, attributes_text, private_text, returned_text, carried_text, bound_text, chosen_text, row_text}
+use Rattle.xf_ir.specs.PrintedWords.{width_text, type_text, types_text, arrow_types, predicate_text}
+use Rattle.xf_ir.specs.PrintedNumbers.{literal_text}
+use Rattle.xf_ir.specs.PrintedAttributes.{attrs_text}
+use Rattle.xf_ir.specs.PrintedNames.{Names, name_text, values_text, value_type, value_types, results_text, param_texts, carried_texts}
+use Rattle.xf_ir.specs.PrintedRows.{given_text, symbol_text, attributes_text, private_text, returned_text, carried_text, bound_text, chosen_text, row_text}
 use Rattle.xf_roundtrip.specs.Printing.{use_of, operand_width, module_symbol, function_symbol, params_from, pairs_from, results_piece, function_results, given_piece, carried_piece, chosen_piece, dictionary_piece, is_core, row_of, pieces_of, results_of, widths}
 use Rattle.xf_roundtrip.proofs.Needs.{Known, IsScalar, AttrFits, ArgsRight, CarriedRight, counted}
 use Rattle.xf_roundtrip.proofs.Lays.{Lays, known_word, nothing, before, front, looser, a_symbol, an_integer, a_number, an_argument, open_lays, comma_lays, colon_lays, equals_lays, open_brace_lays, arrow_lays, space_lays}

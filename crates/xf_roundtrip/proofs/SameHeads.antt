@@ -22,7 +22,7 @@ use Rattle.xf_ir.specs.Kinds.{returned_types}
 use Rattle.xf_ir.specs.Lists.{Each}
 use Rattle.xf_ir.specs.Tree.{Regions}
 use Rattle.xf_ir.specs.Types.{element_of}
-use Rattle.xf_print.specs.Names.{Names, argument_text, type_of, first_args}
+use Rattle.xf_ir.specs.PrintedNames.{Names, argument_text, type_of, first_args}
 use Rattle.xf_roundtrip.specs.Naming.{use_printed, defines_printed, arguments_printed}
 use Rattle.xf_roundtrip.specs.Plain.{IsScalar}
 use Rattle.xf_roundtrip.specs.SaidPrinted.{signed_said, literal_printed, entry_printed, known_types, head_by}

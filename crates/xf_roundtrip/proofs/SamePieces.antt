@@ -19,7 +19,7 @@ use Rattle.xf_ir.specs.declared.name.ValueName.{ValueName}
 use Rattle.xf_ir.specs.declared.name.ValueName.TheVariants.{Result, Arg, Free}
 use Rattle.xf_ir.specs.Lists.{Each}
 use Rattle.xf_ir.specs.Types.{element_of}
-use Rattle.xf_print.specs.Names.{Entry, Names, argument_text}
+use Rattle.xf_ir.specs.PrintedNames.{Entry, Names, argument_text}
 use Rattle.xf_roundtrip.specs.Naming.{number_name, use_printed, use_or, part_said, result_use, argument_use, defines_printed, arguments_printed}
 use Rattle.xf_roundtrip.specs.Plain.{IsScalar}
 use Rattle.xf_roundtrip.specs.SaidPrinted.{signed_said, value_printed, integer_printed, entry_printed}

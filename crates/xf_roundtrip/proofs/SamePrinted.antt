@@ -17,19 +17,19 @@ use Rattle.xf_ir.specs.Tree.{Ops, no_ops, op, Regions, no_regions, region}
 use Rattle.xf_ir.specs.Valid.{OpsInner, RegionsInner, FunctionsAlone, BlocksAlone, OpsSee, RegionsSee, FunctionsSee, block_of}
 use Rattle.xf_ir.specs.Walk.{ops_names, regions_names}
 use Rattle.xf_ir.proofs.Lists.{not_left, once_left, once_right}
-use Rattle.xf_ir.proofs.Obeys.{OpsObey, RegionsObey, FunctionsObey, BlocksObey, blocks_obey}
+use Rattle.xf_ir_laws.proofs.Obeys.{OpsObey, RegionsObey, FunctionsObey, BlocksObey, blocks_obey}
 use Rattle.xf_ir.proofs.Root.{one_block}
-use Rattle.xf_ir.proofs.SeenTypes.{seen_of}
+use Rattle.xf_ir_laws.proofs.SeenTypes.{seen_of}
 use Rattle.xf_read.specs.Written.{no_nodes_said, node_said, no_bodies_said, body_said}
-use Rattle.xf_print.specs.Names.{Names, first_args, next_number, number_of, first_of}
-use Rattle.xf_print.specs.Names.{no_names as no_numbers}
-use Rattle.xf_print.specs.Printed.{is_empty_yield}
+use Rattle.xf_ir.specs.PrintedNames.{Names, first_args, next_number, number_of, first_of}
+use Rattle.xf_ir.specs.PrintedNames.{no_names as no_numbers}
+use Rattle.xf_ir.specs.PrintedForm.{is_empty_yield}
 use Rattle.xf_roundtrip.specs.Laws.{PiecesSayTheModule}
 use Rattle.xf_roundtrip.specs.Plain.{IsScalar, OpsPlain, RegionsPlain, IsPlain}
 use Rattle.xf_roundtrip.specs.Printable.{IsPrintable}
 use Rattle.xf_roundtrip.specs.Printing.{bodies_printed, module_printed}
 use Rattle.xf_roundtrip.specs.Printing.{ops_printed as ops_by_pieces, functions_printed as functions_by_pieces}
-use Rattle.xf_roundtrip.specs.Renamed.{IsRenamed}
+use Rattle.xf_ir.specs.Renamed.{IsRenamed}
 use Rattle.xf_roundtrip.specs.SaidMeant.{said_meant}
 use Rattle.xf_roundtrip.specs.SaidPrinted.{ops_printed, regions_printed, functions_printed, printed_said}
 use Rattle.xf_roundtrip.specs.SaidWell.{said_well}

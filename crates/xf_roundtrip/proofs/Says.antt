@@ -19,7 +19,7 @@ use Rattle.xf_ir.specs.RuleTypes.{row_of as type_row}
 use Rattle.xf_ir.specs.Tree.{Regions, no_regions, region}
 use Rattle.xf_ir.specs.Types.{have_types, same_types}
 use Rattle.xf_read.specs.Types.{operands_by}
-use Rattle.xf_print.specs.Names.{Names, first_args, type_of}
+use Rattle.xf_ir.specs.PrintedNames.{Names, first_args, type_of}
 use Rattle.xf_roundtrip.specs.Printable.{HasBytes}
 use Rattle.xf_roundtrip.specs.Saying.{shape, kind_said, result_types, argument_types, function_named}
 use Rattle.xf_roundtrip.specs.SaidPrinted.{head_by, has_row, known_types}

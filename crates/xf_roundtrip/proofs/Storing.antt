@@ -15,7 +15,7 @@ use Rattle.xf_ir.specs.RuleBlocks.{block_args}
 use Rattle.xf_ir.specs.Tree.{Ops, no_ops, op, Regions, no_regions, region}
 use Rattle.xf_ir.specs.Valid.{IsValid}
 use Rattle.xf_ir.proofs.Lists.{each_map}
-use Rattle.xf_ir.proofs.Obeys.{OpsObey, RegionsObey, FunctionsObey, BlocksObey, blocks_obey}
+use Rattle.xf_ir_laws.proofs.Obeys.{OpsObey, RegionsObey, FunctionsObey, BlocksObey, blocks_obey}
 use Rattle.xf_read.specs.Short.{HasShortLists}
 use Rattle.xf_read.specs.Syntax.{most_operations}
 use Rattle.xf_roundtrip.specs.Plain.{IsScalar, OpsPlain, RegionsPlain, IsPlain}

@@ -11,7 +11,7 @@ use Rattle.xf_lex.specs.Fronts.{quoted_in, escaped_in, string_at}
 use Rattle.xf_lex.specs.Laid.{Stays}
 use Rattle.xf_grammar.specs.Tokens.{sees}
 use Rattle.xf_ir.specs.Lists.{Each}
-use Rattle.xf_print.specs.Attributes.{hex_digit, is_plain, byte_text, string_text}
+use Rattle.xf_ir.specs.PrintedAttributes.{hex_digit, is_plain, byte_text, string_text}
 use Rattle.xf_roundtrip.proofs.Lays.{Low, is_low, pass_append, Lays, free_token}
 
 -- ---- bytes

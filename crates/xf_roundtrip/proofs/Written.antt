@@ -1,6 +1,7 @@
 -- The tokens of the printed form are written by the grammar of payloads, as what the printed form says.
 use Rattle.std.proofs.Common.{◌≡◌, inl, ℕ, ◌+◌, ◌^◌, ◌<◌, ◌≤◌, Bool, true, false, List, [], ◌∷◌, ◌++◌, length, Option, None, refl, sym, ap, subst, append_assoc, append-nil}
 use Rattle.std.specs.Prelude.{◌&&◌, ◌||◌, not, map, codes, if◌then◌else◌}
+use Rattle.std.proofs.lemmas.Bool.{or_parts}
 use Rattle.xf_type.specs.declared.kind.BinKind.{BinKind}
 use Rattle.xf_type.specs.declared.kind.BinKind.TheVariants as bin
 use Rattle.xf_type.specs.declared.kind.ConvKind.{ConvKind}
@@ -26,15 +27,15 @@ use Rattle.xf_ir.specs.declared.kind.Attr.{Attr}
 use Rattle.xf_ir.specs.declared.kind.Kind.{Kind}
 use Rattle.xf_ir.specs.declared.kind.Kind.TheVariants as kind
 use Rattle.xf_ir.specs.declared.op.Module.{Module}
-use Rattle.xf_ir.specs.Kinds.{ends, is_container, is_module}
+use Rattle.xf_ir.specs.Kinds.{ends, is_container, is_module, is_function}
 use Rattle.xf_ir.specs.Lists.{Each}
 use Rattle.xf_ir.specs.Placed.{functions_of}
 use Rattle.xf_ir.specs.RuleBlocks.{is_end}
 use Rattle.xf_ir.specs.Tree.{Ops, no_ops, op, Regions, no_regions, region, Tree}
 use Rattle.xf_read.specs.Syntax.{most_operations, behind}
 use Rattle.xf_read.specs.Written.{SaidNodes, no_nodes_said, node_said, no_bodies_said, body_said, operations, NestsWell, has_else, has_tail, TailWritten, NodesWritten, BodiesWritten, ModuleWritten, IsWritten}
-use Rattle.xf_print.specs.Names.{Names, no_names, with_ops, first_args, number_of, first_of}
-use Rattle.xf_print.specs.Printed.{is_empty_yield}
+use Rattle.xf_ir.specs.PrintedNames.{Names, no_names, with_ops, first_args, number_of, first_of}
+use Rattle.xf_ir.specs.PrintedForm.{is_empty_yield}
 use Rattle.xf_roundtrip.specs.Printing.{attribute_of, dictionary_piece, is_core, row_of, pieces_of, results_of, tail_says, op_says, ops_printed, bodies_printed, functions_printed, module_printed}
 use Rattle.xf_roundtrip.proofs.Needs.{Known, head_tokens, tail_tokens, ops_tokens, regions_tokens, functions_tokens, module_tokens, AttrFits, HasFew, counted, has_regions, Fits, OpsFit, RegionsFit, FunctionsFit, ModuleFits}
 use Rattle.xf_roundtrip.proofs.Suits.{dictionary_suits, dictionary_first, Follows, pieces_suit, body_suits, head_row}
@@ -135,10 +136,6 @@ tail_written (kind.For width) ds at y t c h few e = dictionary_written ds at y t
 tail_written kind.If ds at y t c h few e = dictionary_written ds at y t h few e
 tail_written k ds at y t c h few e = (refl, refl)
 
-no_module : (k : Kind) → is_container k ≡ false → is_module k ≡ false
-no_module (kind.Module symbol) c = absurd cc
-no_module k c = refl
-
 -- ---- operations
 
 either_written : (b : Bool) (l : Level) (at : ℕ) (ps qs : List Seen) (y : Seen) (m n : SaidNodes) → NodesWritten l at ps y m → (b ≡ false → NodesWritten l at qs y n) → NodesWritten l at (if b then ps else qs) y (if b then m else n)
@@ -221,7 +218,7 @@ mutual
   ops_written names (op n k ds os ts rs rest) at f =
       either_written (is_empty_yield k ds os) level.Body at (ops_tokens names rest) _ (mark close_brace) (ops_printed names rest) _ (ops_written names rest at f.1.1.1)
       (λ e. body_node names n k ds os ts rs rest at f.0 f.1.0
-      (bodies_written names k rs _ _ (no_module k f.0) f.1.0.core f.1.0.regions f.1.1.0 (no_else_behind k ds (ops_tokens names rest) (mark close_brace) (ops_begin names rest))) (ops_written names rest _ f.1.1.1))
+      (bodies_written names k rs _ _ (or_parts (is_module k) (is_function k) f.0).0 f.1.0.core f.1.0.regions f.1.1.0 (no_else_behind k ds (ops_tokens names rest) (mark close_brace) (ops_begin names rest))) (ops_written names rest _ f.1.1.1))
 
   pub bodies_written : (names : Names) (k : Kind) (rs : Regions) (at : ℕ) (y : Seen) → is_module k ≡ false → is_core k ≡ true → has_regions k rs ≡ true → RegionsFit names rs → (has_else (row_of k) && is_word (codes "else") y) ≡ false
       → BodiesWritten (row_of k) at (regions_tokens names rs) y (bodies_printed names rs)

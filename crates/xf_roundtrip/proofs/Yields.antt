@@ -20,11 +20,11 @@ use Rattle.xf_ir.specs.RuleTypes.{has_its_types}
 use Rattle.xf_ir.specs.RuleTypes.{row_of as type_row}
 use Rattle.xf_ir.specs.Tree.{Ops, no_ops, op, Regions, no_regions, region}
 use Rattle.xf_ir.specs.Types.{have_types, same_types}
-use Rattle.xf_ir.proofs.Obeys.{OpsObey}
+use Rattle.xf_ir_laws.proofs.Obeys.{OpsObey}
 use Rattle.xf_read.specs.Syntax.{ends_open, is_yield}
 use Rattle.xf_read.specs.Written.{SaidNodes, no_nodes_said, node_said, SaidBodies, says_yield_last}
-use Rattle.xf_print.specs.Names.{Names}
-use Rattle.xf_print.specs.Printed.{is_empty_yield}
+use Rattle.xf_ir.specs.PrintedNames.{Names}
+use Rattle.xf_ir.specs.PrintedForm.{is_empty_yield}
 use Rattle.xf_roundtrip.specs.Printable.{AllBytes, HasFewArguments}
 use Rattle.xf_roundtrip.specs.SaidPrinted.{has_row, row_of, results_printed, ops_printed}
 use Rattle.xf_roundtrip.proofs.Again.{LastYield, ends_empty}

@@ -2,20 +2,16 @@
 use Rattle.std.specs.Prelude.{ℕ, List}
 use Rattle.xf_ir.specs.declared.op.Module.{Module}
 use Rattle.xf_ir.specs.Valid.{IsNamedOnce, IsValid}
-use Rattle.xf_print.specs.Printed.{printed_form}
+use Rattle.xf_ir.specs.PrintedForm.{printed_form}
 use Rattle.xf_read.specs.Spells.{Spells}
 use Rattle.xf_roundtrip.specs.PrintedLaws.{IsWithin}
 use Rattle.xf_roundtrip.specs.Printing.{IsCore}
-use Rattle.xf_roundtrip.specs.Renamed.{IsRenamed}
+use Rattle.xf_ir.specs.Renamed.{IsRenamed}
 use Rattle.xf_roundtrip.specs.Stored.{IsStored}
 
 -- a module that a text spells names each of its operations once
 abbrev pub SpeltIsNamedOnce : Type 0
 SpeltIsNamedOnce = (bytes : List ℕ) (m : Module) → Spells bytes m → IsNamedOnce m
-
--- a valid module stays valid under other names, each of which occurs once
-abbrev pub RenamedIsValid : Type 0
-RenamedIsValid = (m again : Module) → IsValid m → IsRenamed m again → IsNamedOnce again → IsValid again
 
 -- the printed form of a valid module of builtin, func, arith on scalars and scf spells it again, up to the names of operations, and
 -- what it spells is valid

@@ -14,7 +14,7 @@ use Rattle.xf_read.specs.Written.{SaidNodes, file_said, IsWritten}
 use Rattle.xf_roundtrip.specs.Plain.{IsPlain}
 use Rattle.xf_roundtrip.specs.Printable.{IsPrintable}
 use Rattle.xf_roundtrip.specs.Printing.{module_printed}
-use Rattle.xf_roundtrip.specs.Renamed.{IsRenamed}
+use Rattle.xf_ir.specs.Renamed.{IsRenamed}
 use Rattle.xf_roundtrip.specs.SaidMeant.{said_meant}
 use Rattle.xf_roundtrip.specs.SaidPrinted.{printed_said}
 use Rattle.xf_roundtrip.specs.SaidWell.{said_well}

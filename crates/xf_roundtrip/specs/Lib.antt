@@ -5,7 +5,6 @@ pub mod Plain
 pub mod Printable
 pub mod PrintedLaws
 pub mod Printing
-pub mod Renamed
 pub mod SaidMeant
 pub mod SaidPrinted
 pub mod SaidWell

@@ -5,7 +5,7 @@ use Rattle.xf_type.specs.declared.payload_type.PayloadType.{PayloadType}
 use Rattle.xf_read_base.specs.Parts.{UseSaid, DefineSaid}
 use Rattle.xf_ir.specs.declared.name.ValueName.{ValueName}
 use Rattle.xf_ir.specs.declared.name.ValueName.TheVariants.{Result, Arg, Free}
-use Rattle.xf_print.specs.Names.{Entry, Names, argument_text}
+use Rattle.xf_ir.specs.PrintedNames.{Entry, Names, argument_text}
 
 -- `%4`
 abbrev pub number_name : ℕ → List ℕ

@@ -9,7 +9,7 @@ use Rattle.xf_ir.specs.Placed.{Placed, placed, Everywhere, functions_of}
 use Rattle.xf_ir.specs.RuleBlocks.{block_args}
 use Rattle.xf_ir.specs.Tree.{Ops, no_ops, op}
 use Rattle.xf_ir.specs.Valid.{IsValid}
-use Rattle.xf_print.specs.Names.{no_names, with_ops}
+use Rattle.xf_ir.specs.PrintedNames.{no_names, with_ops}
 use Rattle.xf_roundtrip.specs.SaidPrinted.{has_row}
 
 -- the bytes of a string are bytes

@@ -7,13 +7,13 @@ use Rattle.xf_ir.specs.declared.op.Module.{Module}
 use Rattle.xf_ir.specs.Count.{tree_count}
 use Rattle.xf_ir.specs.Tree.{Ops, no_ops, op, Regions, no_regions, region}
 use Rattle.xf_ir.specs.Valid.{IsValid}
-use Rattle.xf_print.specs.Printed.{printed_form}
+use Rattle.xf_ir.specs.PrintedForm.{printed_form}
 use Rattle.xf_read.specs.Syntax.{most_open, most_operations}
 use Rattle.xf_read.specs.Spells.{Spells}
 use Rattle.xf_read.specs.Written.{SaidNodes, IsWritten}
 use Rattle.xf_roundtrip.specs.Stored.{IsStored}
 use Rattle.xf_roundtrip.specs.Printing.{IsCore, module_printed}
-use Rattle.xf_roundtrip.specs.Renamed.{IsRenamed}
+use Rattle.xf_ir.specs.Renamed.{IsRenamed}
 
 -- inside so many open regions, no more regions are open anywhere than a text may have
 abbrev mutual

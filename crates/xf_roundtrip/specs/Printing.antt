@@ -26,9 +26,9 @@ use Rattle.xf_ir.specs.Kinds.{returned_types}
 use Rattle.xf_ir.specs.RuleBlocks.{block_args}
 use Rattle.xf_ir.specs.Placed.{Everywhere, functions_of}
 use Rattle.xf_read.specs.Written.{SaidNodes, no_nodes_said, node_said, SaidBodies, no_bodies_said, body_said}
-use Rattle.xf_print.specs.Attributes.{string_text}
-use Rattle.xf_print.specs.Names.{Entry, Names, no_names, with_ops, first_args, number_of, first_of, argument_text, type_of}
-use Rattle.xf_print.specs.Printed.{is_empty_yield}
+use Rattle.xf_ir.specs.PrintedAttributes.{string_text}
+use Rattle.xf_ir.specs.PrintedNames.{Entry, Names, no_names, with_ops, first_args, number_of, first_of, argument_text, type_of}
+use Rattle.xf_ir.specs.PrintedForm.{is_empty_yield}
 
 -- ---- names
 

@@ -20,9 +20,9 @@ use Rattle.xf_ir.specs.declared.op.Module.{Module}
 use Rattle.xf_ir.specs.Tree.{Ops, no_ops, op, Regions, no_regions, region, Tree}
 use Rattle.xf_ir.specs.Placed.{functions_of}
 use Rattle.xf_read.specs.Written.{SaidNodes, no_nodes_said, node_said, SaidBodies, no_bodies_said, body_said}
-use Rattle.xf_print.specs.Attributes.{string_text}
-use Rattle.xf_print.specs.Names.{Names, no_names, with_ops, first_args, number_of, first_of, type_of}
-use Rattle.xf_print.specs.Printed.{is_empty_yield}
+use Rattle.xf_ir.specs.PrintedAttributes.{string_text}
+use Rattle.xf_ir.specs.PrintedNames.{Names, no_names, with_ops, first_args, number_of, first_of, type_of}
+use Rattle.xf_ir.specs.PrintedForm.{is_empty_yield}
 use Rattle.xf_roundtrip.specs.Naming.{use_printed, defines_printed, arguments_printed}
 
 -- ---- numbers

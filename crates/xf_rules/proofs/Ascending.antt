@@ -5,7 +5,7 @@ use Rattle.xf_ir.specs.declared.kind.Attr.{Attr}
 use Rattle.xf_ir.specs.Lists.{every}
 use Rattle.xf_ir.specs.Attributes.{bytes_before}
 use Rattle.xf_ir.specs.RuleAttributes.{attributes_fit}
-use Rattle.xf_ir.proofs.SortedAttributes.{before_trans}
+use Rattle.xf_ir.proofs.BytesOrder.{before_trans}
 use Rattle.xf_rules.specs.Attributes.{attribute_fits, names_ascend}
 
 pub same_by_both : (a b : Bool) → (a ≡ true → b ≡ true) → (b ≡ true → a ≡ true) → a ≡ b

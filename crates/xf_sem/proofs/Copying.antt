@@ -17,7 +17,7 @@ use Rattle.xf_sem.specs.Meaning.{Env, item_or, extend, nowhere, Calls, ops_run, 
 use Rattle.xf_ir.specs.Calls.{first_args}
 use Rattle.xf_sem.specs.Keeps.{Declared, declared_before, declared_in}
 use Rattle.xf_sem.specs.Surroundings.{Leads, CallsLead}
-use Rattle.xf_sem.specs.Replacing.{ops_moved, regions_moved}
+use Rattle.xf_ir.specs.Replaced.{ops_moved, regions_moved}
 use Rattle.xf_sem.specs.Copying.{Follows, OpsCopy, RegionsCopy, FunctionsCopy, CopyingKeeps}
 use Rattle.xf_ir.proofs.Lists.{each_left, each_right}
 use Rattle.xf_sem.proofs.Leads.{leads_none, leads_fitting, BodiesLead, first_lead, step_leads, called_lead}

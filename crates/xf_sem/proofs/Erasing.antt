@@ -1,17 +1,17 @@
 -- An operation whose results are unused may be erased.
 use Rattle.std.proofs.Common.{◌≡◌, ℕ, suc, Bool, true, false, eqb, refl, subst}
 use Rattle.std.specs.Prelude.{length, map}
+use Rattle.std.proofs.lemmas.Bool.{or_parts}
 use Rattle.xf_ir.specs.declared.name.OpName.{OpName}
 use Rattle.xf_ir.specs.declared.kind.Kind.{Kind}
-use Rattle.xf_ir.specs.declared.kind.Kind.TheVariants as kind
 use Rattle.xf_ir.specs.Tree.{Ops, no_ops, op, Regions, no_regions, region, Tree}
 use Rattle.xf_ir.specs.Places.{results_of}
 use Rattle.xf_ir.specs.Valid.{IsFunction, FunctionsAlone, BlocksAlone, functions_of, block_of}
-use Rattle.xf_ir.specs.Kinds.{is_container, ends}
+use Rattle.xf_ir.specs.Kinds.{is_container, is_module, is_function, ends}
 use Rattle.xf_ir.specs.Edits.{tail}
 use Rattle.xf_ir.proofs.Found as found
-use Rattle.xf_ir.proofs.Scopes.{scoped}
-use Rattle.xf_ir.proofs.ErasingLaws.{found_inside, valid_kept}
+use Rattle.xf_ir_laws.proofs.Scopes.{scoped}
+use Rattle.xf_ir_laws.proofs.ErasingLaws.{valid_kept}
 use Rattle.xf_sem.specs.Meaning.{extend, does, bodies_of}
 use Rattle.xf_sem.specs.Surroundings.{Site, visible, outside, behind, within, OpsWhere, RegionsWhere, FunctionsWhere, NoFunction, LeadsHere}
 use Rattle.xf_sem.specs.Laws.{ErasingKeeps}
@@ -55,12 +55,8 @@ functions_lead : (name : OpName) (fs : Ops) → found.OpsWhere name Inner fs →
 functions_lead name no_ops h = tt
 functions_lead name (op n k ds os ts rs rest) h = (leads_where_regions name rs outside n 0 h.1.0, functions_lead name rest h.1.1)
 
-container : (k : Kind) → IsFunction k → is_container k ≡ true
-container (kind.Func symbol private types) f = refl
-container _ f = absurd (cc)
-
 other_name : (b : Bool) (k : Kind) → IsFunction k → (b ≡ true → is_container k ≡ false) → b ≡ false
-other_name true k f h = let no = h refl in let yes = container k f in cc
+other_name true k f h = let no = (or_parts (is_module k) (is_function k) (h refl)).1 in let yes : is_function k ≡ true = f in cc
 other_name false k f h = refl
 
 no_function : (name : OpName) (fs : Ops) → FunctionsAlone fs → found.OpsWhere name Inner fs → NoFunction name fs
@@ -78,10 +74,7 @@ inner_block name (region args ops rest) h = h.0
 pub erasing_keeps : ErasingKeeps
 erasing_keeps m target name valid may =
     let once = valid.names.once in
-    let whole = found_inside m target name valid.names may in
-    let stays = subst (λ (t : Tree). is_container t.kind ≡ false) whole.2 may.dead.inner in
-    let goes = subst (λ (t : Tree). ends t.kind ≡ false) whole.2 may.dead.goes in
-    let inner = inner_block name m.root.regions (found.where_found_regions name Inner whole.0 m.root.regions once.1 whole.1 (stays, goes)) in
+    let inner = inner_block name m.root.regions (found.where_found_regions name Inner may.tree m.root.regions once.1 may.inside (may.suits.inner, may.suits.goes)) in
     surroundings_keep m name tail
     (record { inner = no_function name (functions_of m) (functions_alone m.root.regions valid.functions.alone) inner; before = scoped m valid; after = scoped _ (valid_kept m target name valid may) })
     (functions_lead name (functions_of m) inner)

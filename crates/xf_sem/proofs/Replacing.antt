@@ -12,7 +12,8 @@ use Rattle.xf_ir.specs.Uses.{ops_operands}
 use Rattle.xf_sem.specs.declared.value.Value.{Value}
 use Rattle.xf_sem.specs.Meaning.{Env, item, item_or, extend, gives, Calls, does, ops_run, bodies_of}
 use Rattle.xf_sem.specs.Surroundings.{Leads, Site, visible, outside, behind, within, OpsWhere, RegionsWhere, FunctionsWhere, LeadsHere}
-use Rattle.xf_sem.specs.Replacing.{ops_moved, append, item_of, in_place_of, replaced_by, EndNoBlock, visible_after, env_after, ReplacesHere, ReplacingKeeps}
+use Rattle.xf_ir.specs.Replaced.{ops_moved, append, item_of, in_place_of, replaced_by}
+use Rattle.xf_sem.specs.Replacing.{EndNoBlock, visible_after, env_after, ReplacesHere, ReplacingKeeps}
 use Rattle.xf_sem.proofs.Leads.{leads_same, leads_on, leads_none, leads_from_if, leads_from_then, leads_from_charge, went, leads_into_next, leads_into_if}
 use Rattle.xf_sem.proofs.Copying.{ops_use, Agree, copy_kept, moved_copy}
 use Rattle.xf_sem.proofs.Surroundings.{unmoved, surroundings_keep}

@@ -21,7 +21,7 @@ use Rattle.xf_ir.specs.Calls.{first_args}
 use Rattle.xf_sem.specs.Keeps.{Declared, declared_before, declared_in}
 use Rattle.xf_sem.specs.Surroundings.{Leads, CallsLead, Site, visible, outside, behind, within, IsVisible, HasRun, IsGiven, OpsWhere, RegionsWhere, FunctionsWhere, NoFunction, LeadsHere, changed_at, SurroundingsKeep}
 use Rattle.xf_ir.proofs.Lists.{at_cases}
-use Rattle.xf_ir.proofs.Erased.{block_at}
+use Rattle.xf_ir_laws.proofs.Erased.{block_at}
 use Rattle.xf_sem.proofs.Fits.{fit_types_says, item_fits}
 use Rattle.xf_sem.proofs.Leads.{leads_none, leads_fitting, given_fits, BodiesLead, first_lead, step_leads, called_lead}
 use Rattle.xf_sem.proofs.Copying.{some_or}

@@ -7,6 +7,7 @@ use Rattle.xf_ir.specs.declared.op.Module.{Module}
 use Rattle.xf_ir.specs.Valid.{IsValid}
 use Rattle.xf_ir.specs.Edits.{edited}
 use Rattle.xf_ir.specs.Choices.{MayErase}
+use Rattle.xf_ir.specs.Renamed.{IsRenamed}
 use Rattle.xf_sem.specs.declared.value.Value.{Value}
 use Rattle.xf_sem.specs.Values.{FitTypes, fit_types}
 use Rattle.xf_sem.specs.Keeps.{KeepsMeaning}
@@ -26,3 +27,7 @@ KeepingComposes = (first second third : Module) → KeepsMeaning first second �
 -- an operation whose results are unused may be erased
 abbrev pub ErasingKeeps : Type 0
 ErasingKeeps = (m : Module) (target name : OpName) → IsValid m → MayErase m target name → KeepsMeaning m (edited m (Erase name))
+
+-- a valid module keeps its meaning under other names of operations
+abbrev pub RenamingKeeps : Type 0
+RenamingKeeps = (m m' : Module) → IsValid m → IsRenamed m m' → KeepsMeaning m m'

@@ -1,5 +1,5 @@
 //! Laws of the meaning, each as the contract of a function that does nothing.
-ghost use Rattle.xf_sem.specs.Laws.{FittingIsTested, KeepingIsReflexive, KeepingComposes, ErasingKeeps};
+ghost use Rattle.xf_sem.specs.Laws.{FittingIsTested, KeepingIsReflexive, KeepingComposes, ErasingKeeps, RenamingKeeps};
 ghost use Rattle.xf_sem.specs.Copying.{CopyingKeeps};
 ghost use Rattle.xf_sem.specs.Surroundings.{SurroundingsKeep};
 ghost use Rattle.xf_sem.specs.Replacing.{ReplacingKeeps};
@@ -39,4 +39,9 @@ pub fn erasing_keeps()
 /// A copy of a module under other names of operations and values, and with other discardable attributes, keeps its meaning.
 pub fn copying_keeps()
     ensures { CopyingKeeps }
+{}
+
+/// A valid module keeps its meaning under other names of operations.
+pub fn renaming_keeps()
+    ensures { RenamingKeeps }
 {}

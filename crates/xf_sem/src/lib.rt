@@ -6,7 +6,7 @@ mod value;
 
 pub use laws::{
     copying_keeps, erasing_keeps, fitting_is_tested, keeping_composes, keeping_is_reflexive,
-    replacing_keeps, surroundings_keep,
+    renaming_keeps, replacing_keeps, surroundings_keep,
 };
 pub use value::{ElemList, SizeList, Value};
 

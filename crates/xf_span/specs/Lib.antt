@@ -1,3 +1,5 @@
 pub mod Code
 pub mod Fault
+pub mod Limit
 pub mod Line
+pub mod Place

@@ -25,9 +25,9 @@ last_text (Some (code, p)) = codes ", last " ++ code_text code ++ codes " at " +
 last_text None = []
 
 -- these words, and then LINE:COL
-abbrev pub place_after : List ℕ → Option (Code × Place) → List ℕ
-place_after words (Some (code, p)) = words ++ place_text p
-place_after words None = []
+abbrev pub with_place : List ℕ → Option (Code × Place) → List ℕ
+with_place words (Some (code, p)) = words ++ place_text p
+with_place words None = []
 
 -- the line of each form, without its line feed
 abbrev pub line_in : LineForm → List ℕ → Fault → List ℕ
@@ -41,8 +41,8 @@ line_in PlacedIfKnown path f = head_text path f.place ++ named_text f.code
 line_in Unnamed path f = head_text path f.place ++ code_text f.code
 line_in Numbered path f = head_text path f.place ++ named_text f.code ++ codes " " ++ decimal f.number
 line_in LastFault path f = head_text path f.place ++ named_text f.code ++ last_text f.other
-line_in Consumed path f = head_text path f.place ++ named_text f.code ++ place_after (codes ", consumed at ") f.other
-line_in MayBeConsumed path f = head_text path f.place ++ named_text f.code ++ place_after (codes ", may be consumed at ") f.other
+line_in Consumed path f = head_text path f.place ++ named_text f.code ++ with_place (codes ", consumed at ") f.other
+line_in MayBeConsumed path f = head_text path f.place ++ named_text f.code ++ with_place (codes ", may be consumed at ") f.other
 
 -- the line of a fault
 abbrev pub line_of : List ℕ → Fault → List ℕ

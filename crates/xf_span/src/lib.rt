@@ -3,6 +3,7 @@
 
 mod code;
 mod fault;
+mod limit;
 mod line;
 mod place;
 mod table;
@@ -11,5 +12,6 @@ mod tests;
 
 pub use code::Code;
 pub use fault::{Fault, LexFault, ReadFault, ScriptFault, TextFault};
+pub use limit::FILE_LIMIT;
 pub use line::write_fault;
-pub use place::{Located, Place};
+pub use place::{FIRST_PLACE, Located, Place, place_after};

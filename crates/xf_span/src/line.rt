@@ -4,7 +4,7 @@ ghost use Rattle.std.specs.List.{flat_map};
 ghost use Rattle.xf_host.specs.Writes.{WritesText, FailsByCount};
 ghost use Rattle.xf_span.specs.Code.{code_text};
 ghost use Rattle.xf_span.specs.Line.{HasLine, line_of};
-ghost use Rattle.xf_span.specs.Line.{head_text, named_text, last_text, place_after};
+ghost use Rattle.xf_span.specs.Line.{head_text, named_text, last_text, with_place};
 
 use crate::code::Code;
 use crate::fault::Fault;
@@ -121,7 +121,7 @@ fn write_consumed<S: Sink>(
     requires { IsSome fault.now.other }
     ensures text { WritesText result
         (head_text path.now fault.now.place ++ named_text fault.now.code
-        ++ place_after words.now fault.now.other ++ codes "\n")
+        ++ with_place words.now fault.now.other ++ codes "\n")
         (S.written sink.old) (S.written sink.new) }
     ensures count { FailsByCount result (S.faults sink.old) (S.faults sink.new) }
 {

@@ -12,9 +12,10 @@ use Rattle.xf_ir.specs.Calls.{has_symbol, function_of, callee_before, ops_callee
 use Rattle.xf_verify.specs.Chains.{Numbers, with_number, number_from, pick, number_before, numbers_called, tree_calls, ends_at, ends_there, ends_after}
 use Rattle.std.specs.Str.{bytes_eq}
 use Rattle.std.proofs.lemmas.Slice.Eq.{bytes_eq-Decides}
+use Rattle.xf_ir.specs.Kinds.{callee_of}
 use Rattle.xf_ir.specs.Lists.{same_bytes}
 use Rattle.xf_verify.proofs.SymbolLemmas.{bytes_is}
-use Rattle.xf_verify.proofs.KindLemmas.{callee_first}
+use Rattle.xf_verify.proofs.KindLemmas.{item_first}
 
 pub same_numbers : (f g : Numbers) → ((s : List ℕ) → f s ≡ g s) → f ≡ g
 same_numbers f g h = λ i s. h s i
@@ -78,7 +79,7 @@ pub calls_more : (f : Numbers) (ts : List Tree) (i : ℕ) (t : Tree) → t ≡ g
 calls_more f ts i t is lt rest xs ys zs total p q h =
     ap (λ x. x ++ numbers_called f (ops_callees (ops_of (drop (i + 1) ts)) ++ rest)) (q ∙ ap (λ x. x ++ numbers_called f (regions_callees t.regions)) p)
     ∙ regrouped xs (callee_before t.kind []) (regions_callees t.regions) (ops_callees (ops_of (drop (i + 1) ts))) rest
-    ∙ ap (λ x. xs ++ numbers_called f (x ++ rest)) (sym (callee_first t.kind (regions_callees t.regions ++ ops_callees (ops_of (drop (i + 1) ts)))))
+    ∙ ap (λ x. xs ++ numbers_called f (x ++ rest)) (sym (item_first (callee_of t.kind) (regions_callees t.regions ++ ops_callees (ops_of (drop (i + 1) ts)))))
     ∙ ap (λ x. xs ++ numbers_called f (ops_callees (ops_of (x ∷ drop (i + 1) ts)) ++ rest)) is
     ∙ sym (at_drop_more (λ us. xs ++ numbers_called f (ops_callees (ops_of us) ++ rest)) ts i t lt)
     ∙ h

@@ -5,11 +5,10 @@ use Rattle.std.specs.FinSet as set
 use Rattle.std.specs.Ordering.{nat_cmp}
 use Rattle.xf_ir.specs.declared.name.OpName.{OpName}
 use Rattle.xf_ir.specs.declared.kind.Kind.{Kind}
-use Rattle.xf_ir.specs.declared.kind.Kind.TheVariants as kind
 use Rattle.xf_ir.specs.declared.op.Module.{Module}
 use Rattle.xf_ir.specs.Tree.{Ops, no_ops, op, Regions, no_regions, region}
 use Rattle.xf_ir.specs.Lists.{is_among}
-use Rattle.xf_ir.specs.Calls.{Signatures, signatures, chains_end, chain_ends}
+use Rattle.xf_ir.specs.Calls.{Signatures, signatures, chains_end, callee_ends, chain_ends}
 use Rattle.xf_ir.specs.Places.{done, inside}
 use Rattle.xf_ir.specs.Placed.{Typed, type_at, Holder, holder_of, Placed, place, ops_placed, regions_placed, functions_placed, blocks_placed, top, root_holder, functions_of}
 use Rattle.xf_ir.specs.declared.rule.Rule.TheVariants as rule
@@ -18,7 +17,7 @@ use Rattle.xf_ir.specs.Calls.{has_its_callee}
 use Rattle.xf_ir.specs.RuleTypes.{has_its_types}
 use Rattle.xf_ir.specs.RuleAttributes.{has_its_attributes}
 use Rattle.xf_verify.specs.declared.facts.Facts.{Facts}
-use Rattle.xf_verify.specs.Chains.{signatures_in, ends_in, callee_ends}
+use Rattle.xf_verify.specs.Chains.{signatures_in, ends_in}
 use Rattle.xf_verify.specs.Judged.{ops_stand, regions_stand, functions_stand, blocks_stand, stands, shape_rules, linalg_rules, range_rules, rules_of, rules_behind, Names, is_new, first_behind}
 use Rattle.xf_verify.proofs.Naming.{inserted}
 use Rattle.xf_verify.proofs.Truths.{eqb_sym}
@@ -53,31 +52,6 @@ blocks_same h (region args ops rest) =
 
 -- ---- the same rules
 
-chain_same : (fs : Ops) (k : Kind) → callee_ends (chains_end fs 31) k ≡ chain_ends fs k
-chain_same fs (kind.Module symbol) = refl
-chain_same fs (kind.Func symbol private results) = refl
-chain_same fs kind.Return = refl
-chain_same fs (kind.Call callee) = refl
-chain_same fs (kind.Constant width bits) = refl
-chain_same fs (kind.Dense shape numbers) = refl
-chain_same fs (kind.Binary which width) = refl
-chain_same fs (kind.Compare which width) = refl
-chain_same fs (kind.Select width) = refl
-chain_same fs (kind.Convert which from to) = refl
-chain_same fs (kind.For width) = refl
-chain_same fs kind.If = refl
-chain_same fs kind.Yield = refl
-chain_same fs kind.Empty = refl
-chain_same fs kind.Dim = refl
-chain_same fs kind.Extract = refl
-chain_same fs kind.Insert = refl
-chain_same fs (kind.ExtractSlice offsets sizes) = refl
-chain_same fs (kind.InsertSlice offsets sizes) = refl
-chain_same fs kind.Cast = refl
-chain_same fs (kind.Named which) = refl
-chain_same fs (kind.Generic maps iterators) = refl
-chain_same fs kind.LinalgYield = refl
-
 -- what is known of a module
 pub record IsOf (m : Module) (f : Facts) : Type 0 where
   pub next : f.next ≡ m.next
@@ -85,7 +59,7 @@ pub record IsOf (m : Module) (f : Facts) : Type 0 where
   pub ends_are : ends_in f.calls ≡ chains_end (functions_of m) 31
 
 chain_kept : (m : Module) (f : Facts) → IsOf m f → (k : Kind) → callee_ends (ends_in f.calls) k ≡ chain_ends (functions_of m) k
-chain_kept m f o k = ap (λ e. callee_ends e k) o.ends_are ∙ chain_same (functions_of m) k
+chain_kept m f o k = ap (λ e. callee_ends e k) o.ends_are
 
 abbrev rules_with : Signatures → Bool → Placed → List Kept
 rules_with sigs ends p =

@@ -5,7 +5,6 @@ use Rattle.std.specs.Cmp.Lexicographic.{slice_cmp}
 use Rattle.std.specs.Ordering.{nat_cmp}
 use denote.Ref.{Bor}
 use Rattle.xf_ir.specs.declared.kind.Kind.{Kind}
-use Rattle.xf_ir.specs.declared.kind.Kind.TheVariants as kind
 use Rattle.xf_ir.specs.Tree.{Tree}
 use Rattle.xf_ir.specs.Lists.{every}
 use Rattle.xf_ir.specs.Walk.{first_of}
@@ -74,8 +73,3 @@ signatures_in c s = signature (pick c.functions.now (numbers_in c.numbers s))
 
 abbrev pub ends_in : Calls → List ℕ → Bool
 ends_in c s = ends_there c.ends.items (numbers_in c.numbers s)
-
--- whether the callee's chains end, where it is a call
-abbrev pub callee_ends : (List ℕ → Bool) → Kind → Bool
-callee_ends ends (kind.Call callee) = ends callee
-callee_ends ends _ = true

@@ -12,7 +12,7 @@ use Rattle.xf_ir.specs.Lists.{every}
 use Rattle.xf_ir.specs.Types.{known}
 use Rattle.xf_ir.specs.Places.{Place, results_of, args_of}
 use Rattle.xf_ir.specs.Placed.{type_or, Holder, holder_of, Placed}
-use Rattle.xf_ir.specs.Calls.{has_its_callee}
+use Rattle.xf_ir.specs.Calls.{callee_ends, has_its_callee}
 use Rattle.xf_ir.specs.RuleBlocks.{has_its_regions, ends_its_blocks}
 use Rattle.xf_ir.specs.RuleTypes.{has_its_types}
 use Rattle.xf_ir.specs.RuleAttributes.{has_its_attributes, has_types_in_range}
@@ -25,7 +25,7 @@ use Rattle.xf_verify.specs.declared.facts.Facts.{Facts}
 use Rattle.xf_verify.specs.declared.stand.Holder.{Holder as HolderSeen}
 use Rattle.xf_verify.specs.declared.stand.Stand.{Stand}
 use Rattle.xf_verify.specs.declared.walk.Walk.{Walk}
-use Rattle.xf_verify.specs.Chains.{signatures_in, ends_in, callee_ends}
+use Rattle.xf_verify.specs.Chains.{signatures_in, ends_in}
 use Rattle.xf_rules.specs.OperandTypes.{operand_types}
 use Rattle.xf_rules.specs.Given.{gives_seen}
 use Rattle.xf_verify.specs.Visible.{definitions_in}

@@ -1,10 +1,10 @@
 //! The functions of a module by their symbols, and how deep the calls from each go.
 ghost use Rattle.std.specs.Prelude.{◌≡◌, ◌++◌, Some, [], map, IfOk, OnOk};
 ghost use Rattle.std.specs.Option.{option_copied};
-ghost use Rattle.xf_ir.specs.Calls.{signatures, callee_before, regions_callees, chains_end};
+ghost use Rattle.xf_ir.specs.Calls.{signatures, callee_before, callee_ends, regions_callees, chains_end};
 ghost use Rattle.xf_ir.specs.Lists.{every};
 ghost use Rattle.xf_ir.specs.Placed.{functions_of};
-ghost use Rattle.xf_verify.specs.Chains.{no_numbers, numbers_in, with_number, number_from, pick, numbers_called, tree_calls, ends_at, ends_after, signatures_in, ends_in, callee_ends};
+ghost use Rattle.xf_verify.specs.Chains.{no_numbers, numbers_in, with_number, number_from, pick, numbers_called, tree_calls, ends_at, ends_after, signatures_in, ends_in};
 ghost use Rattle.xf_rules.specs.Given.{callee_of, callee_seen};
 
 use crate::functions::functions_of;

@@ -15,7 +15,8 @@ use crate::scope::Scope;
 use crate::stand::Holder;
 use crate::walk::{Walk, blocks, enter};
 use std::alloc::Global;
-use xf_ir::{Kind, Module, NameSet, Op, Rule, valid_has_no_violation};
+use xf_ir::{Kind, Module, NameSet, Op, Rule};
+use xf_ir_laws::valid_has_no_violation;
 use xf_rules::Gives;
 
 /// Judges the root by all rules but V2, and then what it holds. What holds the root is as if a module did.

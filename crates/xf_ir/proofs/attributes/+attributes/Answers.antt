@@ -3,7 +3,7 @@ use Rattle.std.specs.Prelude.{map}
 use Rattle.std.proofs.lemmas.List.{take_all}
 use Rattle.xf_ir.specs.Attributes.{attr_set}
 use Rattle.xf_ir.specs.Changes.{tree_attributed, body_attributed}
-use Rattle.xf_ir.proofs.AttributedTrees.{ops_of-attributed, regions_of-attributed}
+use Rattle.xf_ir.proofs.ChangedLists.{ops_of-attributed, regions_of-attributed}
 use Rattle.xf_ir.proofs.attributes.+attributes.Goals as goal
 
 pub block_with_attr-returns : goal.block_with_attr-returns

@@ -2,7 +2,7 @@ use Rattle.std.proofs.Common.{◌≡◌, refl, ap, ◌∙◌, arith}
 use Rattle.std.specs.Prelude.{map}
 use Rattle.std.proofs.lemmas.List.{take_all}
 use Rattle.xf_ir.specs.Changes.{tree_changed, body_changed}
-use Rattle.xf_ir.proofs.ChangeLemmas.{ops_of-changed, regions_of-changed}
+use Rattle.xf_ir.proofs.ChangedLists.{ops_of-changed, regions_of-changed}
 use Rattle.xf_ir.proofs.change.+changes.Goals as goal
 
 pub block_with_changes-returns : goal.block_with_changes-returns

@@ -1,6 +1,6 @@
 use Rattle.std.proofs.Common.{Err, ap, ◌≡◌, List, ℕ, Option, subst, take, ◌+◌}
 use Rattle.std.specs.Prelude.{IfSome}
-use Rattle.xf_payload.specs.Payload.{file_limit}
+use Rattle.xf_span.specs.Limit.{file_limit}
 use Rattle.xf_opt.specs.Ended.{refusal_at, EndsByScript, EndsByPayload}
 use Rattle.xf_opt.specs.Words.{run}
 use Rattle.xf_opt.proofs.Files.{rises_later, count_kept, script_told, payload_told}

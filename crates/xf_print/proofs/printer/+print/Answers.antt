@@ -2,7 +2,7 @@ use Rattle.std.proofs.Common.{arith, ap}
 use Rattle.std.proofs.lemmas.Grind.{common_steps}
 use Rattle.std.proofs.lemmas.Result.{err_from_is_err_and}
 use Rattle.xf_ir.specs.View.{regions_of}
-use Rattle.xf_print.specs.Index.{names_of}
+use Rattle.xf_print_base.specs.Index.{names_of}
 use Rattle.xf_print.proofs.Writes.{first_fails, second_last, tree_text, rest_text, tree_written, tree_failed, else_written, else_failed, block_fails, block_written, else_text, tree_below, else_below}
 use Rattle.xf_print.proofs.printer.+print.Goals as goal
 

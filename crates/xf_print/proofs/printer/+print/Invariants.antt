@@ -1,8 +1,8 @@
 use Rattle.std.proofs.Common.{◌≤◌, ◌+◌, ◌*◌, drop}
 use Rattle.xf_ir.specs.View.{ops_of, regions_of, tree_size, ops_size, regions_size, body_size}
-use Rattle.xf_print.specs.Index.{names_of}
+use Rattle.xf_print_base.specs.Index.{names_of}
 use Rattle.xf_print.specs.Lines.{lines_text, else_lines}
-use Rattle.xf_print.specs.Printed.{ops_lines, regions_lines}
+use Rattle.xf_ir.specs.PrintedForm.{ops_lines, regions_lines}
 use Rattle.xf_print.proofs.Writes.{Going}
 use Rattle.xf_print.proofs.printer.+print.Given as goal
 

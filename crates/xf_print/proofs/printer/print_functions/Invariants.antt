@@ -1,7 +1,7 @@
 use Rattle.std.proofs.Common.{◌≤◌, drop}
 use Rattle.xf_ir.specs.View.{ops_of}
 use Rattle.xf_print.specs.Lines.{lines_text}
-use Rattle.xf_print.specs.Printed.{functions_lines}
+use Rattle.xf_ir.specs.PrintedForm.{functions_lines}
 use Rattle.xf_print.proofs.Writes.{Going}
 use Rattle.xf_print.proofs.printer.print_functions.Given as goal
 

@@ -1,6 +1,6 @@
 use Rattle.std.proofs.Common.{sym, ◌∙◌}
 use Rattle.std.proofs.lemmas.Result.{err_from_is_err_and}
-use Rattle.xf_print.specs.Index.{names_of}
+use Rattle.xf_print_base.specs.Index.{names_of}
 use Rattle.xf_print.proofs.Writes.{first_fails, second_last, head_text}
 use Rattle.xf_print.proofs.printer.print_head.Goals as goal
 

@@ -1,4 +1,4 @@
-use Rattle.xf_print.specs.Index.{names_of}
+use Rattle.xf_print_base.specs.Index.{names_of}
 use Rattle.xf_print.proofs.Writes.{head_written}
 use Rattle.xf_print.proofs.printer.print_module_head.Goals as goal
 

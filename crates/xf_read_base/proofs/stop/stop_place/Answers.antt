@@ -1,5 +1,5 @@
 use Rattle.std.proofs.Common.{◌≡◌, ◌≤◌, ◌-◌, length, ap, ◌∙◌, arith, slice_index_or}
-use Rattle.xf_lex.specs.Lexes.{place_after}
+use Rattle.xf_span.specs.Place.{place_after}
 use Rattle.xf_read_base.proofs.Stops.{stop_behind}
 use Rattle.xf_read_base.proofs.stop.stop_place.Goals as goal
 

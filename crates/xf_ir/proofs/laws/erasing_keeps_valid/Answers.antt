@@ -1,5 +1,0 @@
-use Rattle.xf_ir.proofs.ErasingLaws.{valid_kept}
-use Rattle.xf_ir.proofs.laws.erasing_keeps_valid.Goals as goal
-
-pub returns : goal.returns
-returns c = valid_kept

@@ -1,5 +1,0 @@
-use Rattle.xf_ir.proofs.ErasingLaws.{lowers_count}
-use Rattle.xf_ir.proofs.laws.erasing_lowers_count.Goals as goal
-
-pub returns : goal.returns
-returns c = lowers_count

@@ -1,5 +1,0 @@
-use Rattle.xf_ir.proofs.InverseLaws.{leads_back}
-use Rattle.xf_ir.proofs.laws.inverse_leads_back.Goals as goal
-
-pub returns : goal.returns
-returns c = leads_back

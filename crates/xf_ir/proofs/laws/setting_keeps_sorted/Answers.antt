@@ -1,5 +1,0 @@
-use Rattle.xf_ir.proofs.SortedAttributes.{sorted_set}
-use Rattle.xf_ir.proofs.laws.setting_keeps_sorted.Goals as goal
-
-pub returns : goal.returns
-returns c = sorted_set

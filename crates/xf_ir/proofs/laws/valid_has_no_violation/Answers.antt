@@ -1,5 +1,0 @@
-use Rattle.xf_ir.proofs.ViolationLaw.{valid_has_no_violation}
-use Rattle.xf_ir.proofs.laws.valid_has_no_violation.Goals as goal
-
-pub returns : goal.returns
-returns c = valid_has_no_violation

@@ -1,5 +1,0 @@
-use Rattle.xf_ir.proofs.Scopes.{scoped}
-use Rattle.xf_ir.proofs.laws.valid_is_scoped.Goals as goal
-
-pub returns : goal.returns
-returns c = scoped

@@ -1,0 +1,125 @@
+-- The names of a function's values, and their types.
+use Rattle.std.specs.Prelude.{ℕ, suc, ◌+◌, List, [], ◌∷◌, ◌++◌, length, map, codes, Option, Some, None, slice_get, ◌==◌, if◌then◌else◌, option_and_then}
+use Rattle.std.specs.Fmt.{decimal}
+use Rattle.xf_type.specs.declared.payload_type.PayloadType.{PayloadType}
+use Rattle.xf_ir.specs.declared.name.OpName.{OpName}
+use Rattle.xf_ir.specs.declared.name.ValueName.{ValueName}
+use Rattle.xf_ir.specs.declared.name.ValueName.TheVariants.{Result, Arg, Free}
+use Rattle.xf_ir.specs.Tree.{Ops, no_ops, op, Regions, no_regions, region}
+pub use Rattle.xf_ir.specs.Calls.{first_args}
+use Rattle.xf_ir.specs.PrintedWords.{listed, type_text}
+
+-- what an operation defines: results, which have one number, and the arguments of its first block, which have numbers of their own
+-- from `first` on
+pub record Entry : Type 0 where
+  pub number : ℕ
+  pub results : List PayloadType
+  pub first : ℕ
+  pub args : List PayloadType
+
+-- what operations define, by their names, and the next numbers
+pub record Names : Type 0 where
+  pub entry : ℕ → Option Entry
+  pub number : ℕ
+  pub argument : ℕ
+
+-- ---- numbers, in preorder
+
+-- one more entry
+abbrev pub with_entry : ℕ → Entry → (ℕ → Option Entry) → ℕ → Option Entry
+with_entry n e entries m = if m == n then Some e else entries m
+
+-- one number is taken by an operation with results
+abbrev pub next_number : ℕ → List PayloadType → ℕ
+next_number k [] = k
+next_number k (t ∷ ts) = suc k
+
+-- an operation takes the next numbers
+abbrev pub with_op : OpName → List PayloadType → List PayloadType → Names → Names
+with_op n ts args names = record {
+  entry = with_entry n.0 (record { number = names.number; results = ts; first = names.argument; args = args }) names.entry;
+  number = next_number names.number ts;
+  argument = names.argument + length args;
+}
+
+-- each operation takes its numbers before what it holds
+abbrev mutual
+  pub with_ops : Names → Ops → Names
+  with_ops names no_ops = names
+  with_ops names (op n k ds os ts rs rest) = with_ops (with_regions (with_op n ts (first_args rs) names) rs) rest
+
+  pub with_regions : Names → Regions → Names
+  with_regions names no_regions = names
+  with_regions names (region args ops rest) = with_regions (with_ops names ops) rest
+
+abbrev pub no_names : Names
+no_names = record { entry = λ _. None; number = 0; argument = 0 }
+
+-- ---- what is printed for a value
+
+abbrev pub argument_text : ℕ → List ℕ
+argument_text k = codes "%arg" ++ decimal k
+
+-- which of several results
+abbrev pub result_part : List PayloadType → ℕ → List ℕ
+result_part (t ∷ (u ∷ ts)) num = codes "#" ++ decimal num
+result_part ts num = []
+
+abbrev pub result_text : Entry → ℕ → List ℕ
+result_text e num = codes "%" ++ (decimal e.number ++ result_part e.results num)
+
+abbrev pub text_or_none : (Entry → List ℕ) → Option Entry → List ℕ
+text_or_none text None = []
+text_or_none text (Some e) = text e
+
+-- `%4`, `%4#1`, `%arg2`
+abbrev pub name_text : Names → ValueName → List ℕ
+name_text names (Result o num) = text_or_none (λ e. result_text e num) (names.entry o.0)
+name_text names (Arg o r num) = text_or_none (λ (e : Entry). argument_text (e.first + num)) (names.entry o.0)
+name_text names (Free num) = []
+
+abbrev pub values_text : Names → List ValueName → List ℕ
+values_text names vs = listed (map (name_text names) vs)
+
+-- ---- the types of values
+
+abbrev pub type_of : Names → ValueName → Option PayloadType
+type_of names (Result o num) = option_and_then (λ (e : Entry). slice_get e.results num) (names.entry o.0)
+type_of names (Arg o r num) = option_and_then (λ (e : Entry). slice_get e.args num) (names.entry o.0)
+type_of names (Free num) = None
+
+abbrev pub known_type : Option PayloadType → List ℕ
+known_type None = []
+known_type (Some t) = type_text t
+
+abbrev pub value_type : Names → ValueName → List ℕ
+value_type names v = known_type (type_of names v)
+
+abbrev pub value_types : Names → List ValueName → List ℕ
+value_types names vs = listed (map (value_type names) vs)
+
+-- ---- the numbers of an operation
+
+abbrev pub number_of : Option Entry → ℕ
+number_of None = 0
+number_of (Some e) = e.number
+
+abbrev pub first_of : Option Entry → ℕ
+first_of None = 0
+first_of (Some e) = e.first
+
+-- `%4 = `, `%4:2 = `, or nothing for no results
+abbrev pub results_text : ℕ → List PayloadType → List ℕ
+results_text k [] = []
+results_text k (t ∷ []) = codes "%" ++ (decimal k ++ codes " = ")
+results_text k ts = codes "%" ++ (decimal k ++ (codes ":" ++ (decimal (length ts) ++ codes " = ")))
+
+-- `%arg0: i32`, from number k on
+abbrev pub param_texts : ℕ → List PayloadType → List (List ℕ)
+param_texts k [] = []
+param_texts k (t ∷ ts) = (argument_text k ++ (codes ": " ++ type_text t)) ∷ param_texts (suc k) ts
+
+-- `%arg1 = %3`, from number k on
+abbrev pub carried_texts : Names → ℕ → List ValueName → List (List ℕ)
+carried_texts names k [] = []
+carried_texts names k (v ∷ vs) = (argument_text k ++ (codes " = " ++ name_text names v)) ∷ carried_texts names (suc k) vs

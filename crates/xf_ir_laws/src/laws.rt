@@ -1,0 +1,47 @@
+//! Laws of valid modules, each as the contract of a function that does nothing.
+ghost use Rattle.xf_ir_laws.specs.Laws.{ValidIsScoped, ValidHasNoViolation, ErasingFits, ErasingKeepsValid, ErasingLowersWeight, ErasingLowersCount, InverseLeadsBack, SettingKeepsSorted, RenamingKeepsValid};
+
+/// In a valid module each operand is visible where it stands, and each value is defined once among those that are visible.
+pub fn valid_is_scoped()
+    ensures { ValidIsScoped }
+{}
+
+/// A module is valid exactly where no operation breaks a rule.
+pub fn valid_has_no_violation()
+    ensures { ValidHasNoViolation }
+{}
+
+/// What may be erased is erased by an edit that fits the module.
+pub fn erasing_fits()
+    ensures { ErasingFits }
+{}
+
+/// Erasing what may be erased leaves a valid module.
+pub fn erasing_keeps_valid()
+    ensures { ErasingKeepsValid }
+{}
+
+/// Erasing what may be erased lowers the weight of the scope.
+pub fn erasing_lowers_weight()
+    ensures { ErasingLowersWeight }
+{}
+
+/// Erasing what may be erased lowers the number of operations.
+pub fn erasing_lowers_count()
+    ensures { ErasingLowersCount }
+{}
+
+/// Where names occur once, the inverse of an edit that fits leads back to the module's tree.
+pub fn inverse_leads_back()
+    ensures { InverseLeadsBack }
+{}
+
+/// An attribute that is given a value or taken away leaves the attributes sorted by the bytes of their names.
+pub fn setting_keeps_sorted()
+    ensures { SettingKeepsSorted }
+{}
+
+/// A valid module stays valid under other names of operations that are below its next one.
+pub fn renaming_keeps_valid()
+    ensures { RenamingKeepsValid }
+{}

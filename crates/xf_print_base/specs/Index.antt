@@ -1,0 +1,13 @@
+-- How the code's own index of names is seen.
+use Rattle.std.specs.Option.{option_map}
+use Rattle.std.specs.Ordering.{nat_cmp}
+use Rattle.std.specs.BTreeMap.{get}
+use Rattle.xf_print_base.specs.declared.index.Defined.{Defined}
+use Rattle.xf_print_base.specs.declared.index.Index.{Index}
+use Rattle.xf_ir.specs.PrintedNames.{Entry, Names}
+
+abbrev pub entry_of : Defined → Entry
+entry_of d = record { number = d.number; results = d.results.now; first = d.first; args = d.args.now }
+
+abbrev pub names_of : Index → Names
+names_of i = record { entry = λ n. option_map entry_of (get nat_cmp i.entries n); number = i.number; argument = i.argument }

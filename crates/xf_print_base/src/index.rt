@@ -1,0 +1,216 @@
+//! The names of a function's values: an ordered index of what its operations define.
+ghost use Rattle.std.specs.Prelude.{◌≡◌, ◌+◌, ◌++◌, OnOk, IfOk};
+ghost use Rattle.std.specs.Option.{option_map, option_copied};
+ghost use Rattle.xf_ir.specs.Tree.{cons, no_ops};
+ghost use Rattle.xf_ir.specs.View.{ops_of, regions_of};
+ghost use Rattle.xf_print_base.specs.Index.{entry_of, names_of};
+ghost use Rattle.xf_ir.specs.PrintedNames.{no_names, with_op, with_ops, with_regions, first_args, next_number, result_part, result_text, argument_text, name_text, type_of, value_type, number_of, first_of};
+
+use crate::words::{write_number, write_type};
+use std::alloc::{AllocError, Global};
+use std::collections::BTreeMap;
+use xf_ir::{Block, Op, OpName, ValueName, first_args};
+use xf_type::{NoMemory, PayloadType};
+
+/// What an operation defines: results of one number, and arguments of its first block, which have numbers from `first` on.
+#[derive(Clone, Copy)]
+pub struct Defined<'a> {
+    pub number: u64,
+    pub results: &'a [PayloadType],
+    pub first: u64,
+    pub args: &'a [PayloadType],
+}
+
+/// What the operations of a function define, by their names, and the next numbers.
+#[derive(Drop)]
+pub struct Index<'a> {
+    pub entries: BTreeMap<u64, Defined<'a>>,
+    pub number: u64,
+    pub argument: u64,
+}
+
+/// A sum of two numbers. One past 2^64 - 1, of more values than any memory holds, counts as want of memory.
+pub fn sum(left: u64, right: u64) -> Result<u64, NoMemory>
+    ensures { IfOk result (λ sum. sum ≡ left + right) }
+{
+    match left.checked_add(right) {
+        Some(sum) => Ok(sum),
+        None => Err(AllocError),
+    }
+}
+
+/// The number behind that of an operation with these results.
+fn next_number(number: u64, results: &[PayloadType]) -> Result<u64, NoMemory>
+    ensures { IfOk result (λ next. next ≡ next_number number results.now) }
+{
+    match results {
+        [] => Ok(number),
+        _ => sum(number, 1),
+    }
+}
+
+fn write_result_part(results: &[PayloadType], num: u32, line: &mut Vec<u8>) -> Result<(), NoMemory>
+    ensures { OnOk result (line.new.items ≡ line.old.items ++ result_part results.now num) }
+{
+    match results {
+        [_, _, ..] => {
+            line.push(b'#')?;
+            write_number(u128::from(num), line)
+        }
+        _ => Ok(()),
+    }
+}
+
+fn write_result(of: Defined<'_>, num: u32, line: &mut Vec<u8>) -> Result<(), NoMemory>
+    ensures { OnOk result (line.new.items ≡ line.old.items ++ result_text (entry_of of.entry) num) }
+{
+    line.push(b'%')?;
+    write_number(u128::from(of.number), line)?;
+    write_result_part(of.results, num, line)
+}
+
+/// Appends the name of the argument with that number.
+pub fn write_argument(number: u128, line: &mut Vec<u8>) -> Result<(), NoMemory>
+    ensures { OnOk result (line.new.items ≡ line.old.items ++ argument_text number) }
+{
+    line.extend_from_slice(b"%arg")?;
+    write_number(number, line)
+}
+
+impl<'a> Index<'a> {
+    /// The index where nothing is defined.
+    pub fn new(alloc: Global) -> Index<'a>
+        ensures { names_of result ≡ no_names }
+    {
+        Index {
+            entries: BTreeMap::new(alloc),
+            number: 0,
+            argument: 0,
+        }
+    }
+
+    /// Gives an operation its numbers. Refuses for want of memory alone.
+    fn add(
+        &mut self,
+        op: OpName,
+        results: &'a [PayloadType],
+        args: &'a [PayloadType],
+    ) -> Result<(), NoMemory>
+        ensures { OnOk result (names_of self.new ≡ with_op op results.now args.now (names_of self.old)) }
+    {
+        let defined = Defined {
+            number: self.number,
+            results,
+            first: self.argument,
+            args,
+        };
+        self.number = next_number(self.number, results)?;
+        self.argument = sum(self.argument, args.len() as u64)?;
+        self.entries.insert(op.0, defined)?;
+        Ok(())
+    }
+
+    /// Gives an operation and all that it holds their numbers, in preorder. Refuses for want of memory alone.
+    #[cycle(number)]
+    pub fn add_op(&mut self, op: &'a Op) -> Result<(), NoMemory>
+        ensures { OnOk result (names_of self.new ≡ with_ops (names_of self.old) (cons op.now no_ops)) }
+    {
+        self.add(
+            op.name,
+            op.results.as_slice(),
+            first_args(op.regions.as_slice()),
+        )?;
+        self.add_regions(op.regions.as_slice())
+    }
+
+    /// Gives the operations of a block their numbers.
+    #[cycle(number)]
+    fn add_ops(&mut self, ops: &'a [Op]) -> Result<(), NoMemory>
+        ensures { OnOk result (names_of self.new ≡ with_ops (names_of self.old) (ops_of ops.now)) }
+    {
+        for op in ops {
+            self.add_op(op)?;
+        }
+        Ok(())
+    }
+
+    /// Gives what regions hold its numbers.
+    #[cycle(number)]
+    fn add_regions(&mut self, regions: &'a [Block]) -> Result<(), NoMemory>
+        ensures { OnOk result (names_of self.new
+            ≡ with_regions (names_of self.old) (regions_of regions.now)) }
+    {
+        for block in regions {
+            self.add_ops(block.ops.as_slice())?;
+        }
+        Ok(())
+    }
+
+    fn defined(&self, op: OpName) -> Option<Defined<'a>>
+        ensures { option_map entry_of result ≡ (names_of self.now).entry op.0 }
+    {
+        self.entries.get(&op.0).copied()
+    }
+
+    /// The number of an operation's results.
+    pub fn number_of(&self, op: OpName) -> u64
+        ensures { result ≡ number_of ((names_of self.now).entry op.0) }
+    {
+        match self.defined(op) {
+            None => 0,
+            Some(defined) => defined.number,
+        }
+    }
+
+    /// The number of the first argument of an operation's first block.
+    pub fn first_of(&self, op: OpName) -> u64
+        ensures { result ≡ first_of ((names_of self.now).entry op.0) }
+    {
+        match self.defined(op) {
+            None => 0,
+            Some(defined) => defined.first,
+        }
+    }
+
+    /// Appends the name of a value. Refuses for want of memory alone.
+    pub fn write_name(&self, value: ValueName, line: &mut Vec<u8>) -> Result<(), NoMemory>
+        ensures { OnOk result (line.new.items
+            ≡ line.old.items ++ name_text (names_of self.now) value) }
+    {
+        match value {
+            ValueName::Result { op, num } => match self.defined(op) {
+                None => Ok(()),
+                Some(defined) => write_result(defined, num, line),
+            },
+            ValueName::Arg { op, num, .. } => match self.defined(op) {
+                None => Ok(()),
+                Some(defined) => {
+                    write_argument(u128::from(defined.first) + u128::from(num), line)
+                }
+            },
+            ValueName::Free(_) => Ok(()),
+        }
+    }
+
+    /// The type of a value.
+    fn type_of(&self, value: ValueName) -> Option<&'a PayloadType>
+        ensures { option_copied result ≡ type_of (names_of self.now) value }
+    {
+        match value {
+            ValueName::Result { op, num } => self.defined(op)?.results.get(num as usize),
+            ValueName::Arg { op, num, .. } => self.defined(op)?.args.get(num as usize),
+            ValueName::Free(_) => None,
+        }
+    }
+
+    /// Appends the type of a value. Refuses for want of memory alone.
+    pub fn write_type_of(&self, value: ValueName, line: &mut Vec<u8>) -> Result<(), NoMemory>
+        ensures { OnOk result (line.new.items
+            ≡ line.old.items ++ value_type (names_of self.now) value) }
+    {
+        match self.type_of(value) {
+            None => Ok(()),
+            Some(of) => write_type(of, line),
+        }
+    }
+}
