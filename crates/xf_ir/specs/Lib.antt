@@ -12,6 +12,7 @@ pub mod Uses
 pub mod Places
 pub mod Placed
 pub mod Calls
+pub mod Signatures
 pub mod RuleBlocks
 pub mod RuleTypes
 pub mod RuleAttributes

@@ -6,6 +6,7 @@ use Rattle.xf_ir.specs.declared.name.OpName.{OpName}
 use Rattle.xf_ir.specs.declared.name.ValueName.{ValueName}
 use Rattle.xf_ir.specs.declared.name.ValueName.TheVariants.{Result, Arg, Free}
 use Rattle.xf_ir.specs.Tree.{Ops, no_ops, op, Regions, no_regions, region}
+pub use Rattle.xf_ir.specs.Calls.{first_args}
 use Rattle.xf_ir.specs.PrintedWords.{listed, type_text}
 
 -- what an operation defines: results, which have one number, and the arguments of its first block, which have numbers of their own
@@ -32,11 +33,6 @@ with_entry n e entries m = if m == n then Some e else entries m
 abbrev pub next_number : ℕ → List PayloadType → ℕ
 next_number k [] = k
 next_number k (t ∷ ts) = suc k
-
--- the arguments of the first block; no other block has any
-abbrev pub first_args : Regions → List PayloadType
-first_args no_regions = []
-first_args (region args ops rest) = args
 
 -- an operation takes the next numbers
 abbrev pub with_op : OpName → List PayloadType → List PayloadType → Names → Names

@@ -7,8 +7,8 @@ ghost use Rattle.xf_ir.specs.PrintedForm.{line_at, op_text};
 ghost use Rattle.xf_ir.specs.PrintedWords.{listed, arrow_types};
 
 use crate::row::write_op;
-use xf_ir::Op;
-use xf_print_base::{Index, first_args, write_arrow_results, write_op_attrs, write_params};
+use xf_ir::{Op, first_args};
+use xf_print_base::{Index, write_arrow_results, write_op_attrs, write_params};
 use xf_type::NoMemory;
 
 /// Begins a line: two blanks for each level.

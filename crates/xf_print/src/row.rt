@@ -11,10 +11,10 @@ use crate::tensor_rows::{
     write_cast, write_dim, write_empty, write_extract, write_extract_slice, write_insert,
     write_insert_slice,
 };
-use xf_ir::{Kind, Op};
+use xf_ir::{Kind, Op, first_args};
 use xf_print_base::{
-    FunctionHead, Index, first_args, write_call, write_compare, write_constant, write_convert,
-    write_for, write_func, write_giving, write_if, write_module, write_results, write_simple,
+    FunctionHead, Index, write_call, write_compare, write_constant, write_convert, write_for,
+    write_func, write_giving, write_if, write_module, write_results, write_simple,
 };
 use xf_type::NoMemory;
 

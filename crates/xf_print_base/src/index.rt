@@ -9,7 +9,7 @@ ghost use Rattle.xf_ir.specs.PrintedNames.{no_names, with_op, with_ops, with_reg
 use crate::words::{write_number, write_type};
 use std::alloc::{AllocError, Global};
 use std::collections::BTreeMap;
-use xf_ir::{Block, Op, OpName, ValueName};
+use xf_ir::{Block, Op, OpName, ValueName, first_args};
 use xf_type::{NoMemory, PayloadType};
 
 /// What an operation defines: results of one number, and arguments of its first block, which have numbers from `first` on.
@@ -46,16 +46,6 @@ fn next_number(number: u64, results: &[PayloadType]) -> Result<u64, NoMemory>
     match results {
         [] => Ok(number),
         _ => sum(number, 1),
-    }
-}
-
-/// The arguments of the first block.
-pub fn first_args(regions: &[Block]) -> &[PayloadType]
-    ensures { result.now ≡ first_args (regions_of regions.now) }
-{
-    match regions {
-        [] => &[],
-        [block, ..] => block.args.as_slice(),
     }
 }
 

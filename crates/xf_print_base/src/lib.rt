@@ -15,7 +15,7 @@ mod words;
 pub use arith_rows::{write_compare, write_constant, write_convert, write_simple};
 pub use attributes::{write_attrs, write_dictionary};
 pub use func_rows::{FunctionHead, write_call, write_func, write_giving, write_module};
-pub use index::{Defined, Index, first_args, sum};
+pub use index::{Defined, Index, sum};
 pub use number::write_number_of;
 pub use scf_rows::{write_for, write_if};
 pub use values::{

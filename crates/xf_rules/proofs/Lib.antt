@@ -1,11 +1,5 @@
 pub mod SameTypes
 pub mod BlockLemmas
-pub mod DenseLemmas
+pub mod Greatest
 pub mod Ascending
-pub mod SliceLemmas
-pub mod Indices
 pub mod Callees
-pub mod DimSets
-pub mod NamedMaps
-pub mod ExtentLemmas
-pub mod DependentLemmas

@@ -153,3 +153,7 @@ last_at (x ∷ (y ∷ os)) o (suc k) e g = last_at (y ∷ os) o k (omega arith) 
 
 pub last_operand : (os : List (Option (Bor PayloadType))) (o : Option (Bor PayloadType)) → 1 ≤ length os → o ≡ get_or os (length os - 1) o → last_type (operand_types os) ≡ operand_type o
 last_operand os o h g = last_at os o (length os - 1) (omega arith) g
+
+-- a loop takes three operands at least
+pub few_for_loop : (os : List (Option (Bor PayloadType))) (a b c : PayloadType) (ts : List PayloadType) → length os ≤ 2 → have_types (operand_types os) (a ∷ (b ∷ (c ∷ ts))) ≡ false
+few_for_loop os a b c ts h = unequal_types os (a ∷ (b ∷ (c ∷ ts))) (omega arith)

@@ -1,7 +1,5 @@
--- Attributes by one pass: each fits, and each name comes behind the one before it; and the extents that a pass multiplies.
-use Rattle.std.specs.Prelude.{ℕ, List, [], ◌∷◌, Option, Some, None, Bool, true, ◌&&◌}
-use Rattle.xf_type.specs.declared.payload_type.Dim.{Dim}
-use Rattle.xf_type.specs.declared.payload_type.Dim.TheVariants.{Fixed, Dynamic}
+-- Attributes by one pass: each fits, and each name comes behind the one before it.
+use Rattle.std.specs.Prelude.{List, [], ◌∷◌, Option, Some, None, Bool, true, ◌&&◌}
 use Rattle.xf_ir.specs.declared.kind.Attr.{Attr}
 use Rattle.xf_ir.specs.Attributes.{bytes_before}
 use Rattle.xf_ir.specs.RuleAttributes.{value_fits}
@@ -19,8 +17,3 @@ follows (Some d) e = bytes_before d.name e.name
 abbrev pub names_ascend : Option Attr → List Attr → Bool
 names_ascend before [] = true
 names_ascend before (d ∷ ds) = follows before d && names_ascend (Some d) ds
-
--- a fixed extent, or 1
-abbrev pub extent_or_one : Dim → ℕ
-extent_or_one (Fixed extent) = extent
-extent_or_one Dynamic = 1

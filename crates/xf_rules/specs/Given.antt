@@ -6,14 +6,15 @@ use Rattle.xf_ir.specs.declared.kind.Kind.{Kind}
 use Rattle.xf_ir.specs.declared.kind.Kind.TheVariants as kind
 use Rattle.xf_ir.specs.Calls as calls
 use Rattle.xf_ir.specs.Calls.{Signatures}
-use Rattle.xf_rules.specs.declared.given.Signature.{Signature}
+use Rattle.xf_ir.specs.declared.signature.Signature.{Signature}
+use Rattle.xf_ir.specs.Signatures.{signature_seen}
 use Rattle.xf_rules.specs.declared.given.Gives.{Gives}
 use Rattle.xf_rules.specs.declared.given.Gives.TheVariants.{Types, Element, Nothing}
 
 -- the signature of a callee, none where no function has the symbol
 abbrev pub callee_seen : Option Signature → Option calls.Signature
 callee_seen None = None
-callee_seen (Some s) = Some (record { inputs = s.inputs.now; results = s.results.now })
+callee_seen (Some s) = Some (signature_seen s)
 
 -- the types of the values that the terminator of a block gives
 abbrev pub gives_seen : Gives → List PayloadType

@@ -3,14 +3,13 @@ ghost use Rattle.std.specs.Prelude.{◌≡◌, None};
 ghost use Rattle.std.specs.Option.{option_copied};
 ghost use Rattle.xf_ir.specs.Attributes.{bytes_before};
 ghost use Rattle.xf_ir.specs.Lists.{every};
-ghost use Rattle.xf_ir.specs.RuleAttributes.{fits_bits, value_fits, attributes_fit, conversion_fits, is_index, is_narrower, has_one_index, is_word_or_none, kind_fits};
+ghost use Rattle.xf_ir.specs.RuleAttributes.{fits_bits, value_fits, attributes_fit, conversion_fits, is_index, is_narrower, has_one_index, is_word_or_none};
 ghost use Rattle.xf_type.specs.Bytes.{is_letter, is_word_byte};
 ghost use Rattle.xf_ir.specs.Words.{is_word};
 ghost use Rattle.xf_rules.specs.Attributes.{attribute_fits, follows, names_ascend};
 
-use crate::dense::dense_fits;
 use crate::types::same_width;
-use xf_ir::{Attr, Kind};
+use xf_ir::Attr;
 use xf_type::{AttrValue, ByteList, ConvKind, Width, bits, greatest, is_letter, is_word_byte};
 
 /// Whether each of the bytes may stand in a word behind its first.
@@ -26,7 +25,7 @@ fn are_word_bytes(bytes: &[u8]) -> bool
 }
 
 /// Whether the bytes are a word.
-fn is_word(bytes: &[u8]) -> bool
+pub fn is_word(bytes: &[u8]) -> bool
     ensures { result ≡ is_word bytes.now }
 {
     match bytes {
@@ -35,7 +34,8 @@ fn is_word(bytes: &[u8]) -> bool
     }
 }
 
-fn is_word_or_none(symbol: &Option<ByteList>) -> bool
+/// Whether a symbol is a word, where there is one.
+pub fn is_word_or_none(symbol: &Option<ByteList>) -> bool
     ensures { result ≡ is_word_or_none symbol.now }
 {
     match symbol {
@@ -45,7 +45,7 @@ fn is_word_or_none(symbol: &Option<ByteList>) -> bool
 }
 
 /// Whether a number is below 2^bits of the width.
-#[tactic(auto, using(crate::proofs::DenseLemmas::fits_by_greatest))]
+#[tactic(auto, using(crate::proofs::Greatest::fits_by_greatest))]
 pub fn fits_bits(width: Width, number: u128) -> bool
     ensures { result ≡ fits_bits width number }
 {
@@ -72,31 +72,14 @@ fn has_one_index(a: Width, b: Width) -> bool
     (is_index(a) && !is_index(b)) || (!is_index(a) && is_index(b))
 }
 
-fn conversion_fits(kind: ConvKind, from: Width, to: Width) -> bool
+/// Whether a conversion leads between widths that it converts.
+pub fn conversion_fits(kind: ConvKind, from: Width, to: Width) -> bool
     ensures { result ≡ conversion_fits kind from to }
 {
     match kind {
         ConvKind::Extsi | ConvKind::Extui => is_narrower(from, to),
         ConvKind::Trunci => is_narrower(to, from),
         ConvKind::IndexCast | ConvKind::IndexCastui => has_one_index(from, to),
-    }
-}
-
-/// Whether the attributes that belong to the kind fit: symbols are words, numbers fit their widths, a dense constant has a fixed
-/// shape of at most 1,048,576 elements and the numbers of them, and a conversion leads between widths that it converts.
-///
-/// Takes time in the length of the attributes.
-pub fn kind_fits(kind: &Kind) -> bool
-    ensures { result ≡ kind_fits kind.now }
-{
-    match kind {
-        Kind::Module { symbol } => is_word_or_none(symbol),
-        Kind::Func { symbol, .. } => is_word(symbol.as_slice()),
-        Kind::Call { callee } => is_word(callee.as_slice()),
-        Kind::Constant { width, bits } => fits_bits(*width, *bits),
-        Kind::Dense { shape, numbers } => dense_fits(shape, numbers.as_slice()),
-        Kind::Convert { kind, from, to } => conversion_fits(*kind, *from, *to),
-        _ => true,
     }
 }
 

@@ -2,13 +2,6 @@
 
 use xf_type::{PayloadType, Width};
 
-/// The types of a function's arguments and of what it returns.
-#[derive(Clone, Copy)]
-pub struct Signature<'a> {
-    pub inputs: &'a [PayloadType],
-    pub results: &'a [PayloadType],
-}
-
 /// The types of the values that the terminator of a block gives to the operation that holds the block.
 #[derive(Clone, Copy)]
 pub enum Gives<'a> {

@@ -14,7 +14,8 @@ use Rattle.xf_ir.specs.Valid.{functions_of}
 use Rattle.xf_ir.specs.Uses.{ops_operands, regions_operands}
 use Rattle.xf_sem.specs.declared.value.Value.{Value}
 use Rattle.xf_sem.specs.Meaning.{Env, item_or, extend, nowhere, Calls, ops_run, bodies_of, returned, calls_to, call_depth}
-use Rattle.xf_sem.specs.Keeps.{Signature, argument_types, signature_before, signatures_of}
+use Rattle.xf_ir.specs.Calls.{first_args}
+use Rattle.xf_sem.specs.Keeps.{Declared, declared_before, declared_in}
 use Rattle.xf_sem.specs.Surroundings.{Leads, CallsLead}
 use Rattle.xf_ir.specs.Replaced.{ops_moved, regions_moved}
 use Rattle.xf_sem.specs.Copying.{Follows, OpsCopy, RegionsCopy, FunctionsCopy, CopyingKeeps}
@@ -198,28 +199,28 @@ copied_calls : (d : ℕ) (fs fs' : Ops) (s : ValueName → ValueName) → Functi
 copied_calls zero fs fs' s h h' y = λ at at' f vs. leads_none at _
 copied_calls (suc d) fs fs' s h h' y = copied_lead fs fs' s _ _ h h' y (copied_calls d fs fs' s h h' y)
 
-copied_arguments : (rs rs' : Regions) (s : ValueName → ValueName) (n n' : OpName) (i : ℕ) → RegionsCopy s n n' i rs rs' → argument_types rs ≡ argument_types rs'
+copied_arguments : (rs rs' : Regions) (s : ValueName → ValueName) (n n' : OpName) (i : ℕ) → RegionsCopy s n n' i rs rs' → first_args rs ≡ first_args rs'
 copied_arguments no_regions no_regions s n n' i y = refl
 copied_arguments no_regions (region args' ops' rest') s n n' i y = elim y [ ]
 copied_arguments (region args ops rest) no_regions s n n' i y = elim y [ ]
 copied_arguments (region args ops rest) (region args' ops' rest') s n n' i y = y.0
 
-copied_signature : (k k' : Kind) (rs rs' : Regions) (more more' : List Signature) → k ≡ k' → argument_types rs ≡ argument_types rs' → more ≡ more' → signature_before k rs more ≡ signature_before k' rs' more'
-copied_signature k k' rs rs' more more' p a q = subst (λ j. signature_before k rs more ≡ signature_before j rs' more') p (same_kind k)
+copied_before : (k k' : Kind) (rs rs' : Regions) (more more' : List Declared) → k ≡ k' → first_args rs ≡ first_args rs' → more ≡ more' → declared_before k rs more ≡ declared_before k' rs' more'
+copied_before k k' rs rs' more more' p a q = subst (λ j. declared_before k rs more ≡ declared_before j rs' more') p (same_kind k)
   where
-    same_kind : (j : Kind) → signature_before j rs more ≡ signature_before j rs' more'
+    same_kind : (j : Kind) → declared_before j rs more ≡ declared_before j rs' more'
     same_kind (kind.Func symbol private types) = cc
     same_kind _ = q
 
-copied_signatures : (fs fs' : Ops) (s : ValueName → ValueName) → FunctionsCopy s fs fs' → signatures_of fs ≡ signatures_of fs'
-copied_signatures no_ops no_ops s y = refl
-copied_signatures no_ops (op n' k' ds' os' ts' rs' rest') s y = elim y [ ]
-copied_signatures (op n k ds os ts rs rest) no_ops s y = elim y [ ]
-copied_signatures (op n k ds os ts rs rest) (op n' k' ds' os' ts' rs' rest') s y =
-    copied_signature k k' rs rs' (signatures_of rest) (signatures_of rest') y.0 (copied_arguments rs rs' s n n' 0 y.1.0) (copied_signatures rest rest' s y.1.1)
+copied_declared : (fs fs' : Ops) (s : ValueName → ValueName) → FunctionsCopy s fs fs' → declared_in fs ≡ declared_in fs'
+copied_declared no_ops no_ops s y = refl
+copied_declared no_ops (op n' k' ds' os' ts' rs' rest') s y = elim y [ ]
+copied_declared (op n k ds os ts rs rest) no_ops s y = elim y [ ]
+copied_declared (op n k ds os ts rs rest) (op n' k' ds' os' ts' rs' rest') s y =
+    copied_before k k' rs rs' (declared_in rest) (declared_in rest') y.0 (copied_arguments rs rs' s n n' 0 y.1.0) (copied_declared rest rest' s y.1.1)
 
 pub copying_keeps : CopyingKeeps
 copying_keeps m m' s h h' y = record {
-  functions = copied_signatures (functions_of m) (functions_of m') s y;
+  functions = copied_declared (functions_of m) (functions_of m') s y;
   returns = λ number f vs ws e t p. (copied_calls call_depth (functions_of m) (functions_of m') s h h' y m.root.name m'.root.name f.symbol vs).by ws p;
 }

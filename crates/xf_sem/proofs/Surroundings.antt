@@ -17,7 +17,8 @@ use Rattle.xf_ir.specs.Edits.{ops_at, regions_at}
 use Rattle.xf_sem.specs.declared.value.Value.{Value}
 use Rattle.xf_sem.specs.Values.{IsValue, FitsType, FitTypes}
 use Rattle.xf_sem.specs.Meaning.{Env, item_or, extend, nowhere, gives, no_body, Calls, does, ops_run, bodies_of, returned, calls_to, call_depth}
-use Rattle.xf_sem.specs.Keeps.{Signature, argument_types, signature_before, signatures_of}
+use Rattle.xf_ir.specs.Calls.{first_args}
+use Rattle.xf_sem.specs.Keeps.{Declared, declared_before, declared_in}
 use Rattle.xf_sem.specs.Surroundings.{Leads, CallsLead, Site, visible, outside, behind, within, IsVisible, HasRun, IsGiven, OpsWhere, RegionsWhere, FunctionsWhere, NoFunction, LeadsHere, changed_at, SurroundingsKeep}
 use Rattle.xf_ir.proofs.Lists.{at_cases}
 use Rattle.xf_ir_laws.proofs.Erased.{block_at}
@@ -150,23 +151,23 @@ module _ (name : OpName) (change : Ops → Ops) where
   calls_lead zero fs m w h h' = λ at at' f vs. leads_none at _
   calls_lead (suc d) fs m w h h' = returned_lead fs _ _ m w h h' (calls_lead d fs m w h h')
 
-  -- ---- signatures
+  -- ---- declared functions
 
-  arguments_at : (rs : Regions) → argument_types rs ≡ argument_types (regions_at name change rs)
+  arguments_at : (rs : Regions) → first_args rs ≡ first_args (regions_at name change rs)
   arguments_at no_regions = refl
   arguments_at (region args ops rest) = refl
 
-  signature_at : (k : Kind) (rs : Regions) (more more' : List Signature) → more ≡ more' → signature_before k rs more ≡ signature_before k (regions_at name change rs) more'
-  signature_at (kind.Func symbol private types) rs more more' h = let a = arguments_at rs in cc
-  signature_at _ rs more more' h = h
+  before_at : (k : Kind) (rs : Regions) (more more' : List Declared) → more ≡ more' → declared_before k rs more ≡ declared_before k (regions_at name change rs) more'
+  before_at (kind.Func symbol private types) rs more more' h = let a = arguments_at rs in cc
+  before_at _ rs more more' h = h
 
-  signatures_at : (fs : Ops) → NoFunction name fs → signatures_of fs ≡ signatures_of (ops_at name change fs)
-  signatures_at no_ops m = refl
-  signatures_at (op n k ds os ts rs rest) m =
+  declared_at : (fs : Ops) → NoFunction name fs → declared_in fs ≡ declared_in (ops_at name change fs)
+  declared_at no_ops m = refl
+  declared_at (op n k ds os ts rs rest) m =
       at_cases (n.0 == name.0) (change (op n k ds os ts rs rest)) (op n k ds os ts (regions_at name change rs) (ops_at name change rest))
-      (λ o. signatures_of (op n k ds os ts rs rest) ≡ signatures_of o)
+      (λ o. declared_in (op n k ds os ts rs rest) ≡ declared_in o)
       (λ t. (let no = m.0 in cc))
-      (λ t. signature_at k rs (signatures_of rest) (signatures_of (ops_at name change rest)) (signatures_at rest m.1))
+      (λ t. before_at k rs (declared_in rest) (declared_in (ops_at name change rest)) (declared_at rest m.1))
 
 pub functions_at : (m : Module) (name : OpName) (change : Ops → Ops) → functions_of (changed_at name change m) ≡ ops_at name change (functions_of m)
 functions_at m name change = block_at name change m.root.regions
@@ -177,7 +178,7 @@ surroundings_keep m name change may w =
     let to = functions_at m name change in
     let after : FunctionsScoped (ops_at name change fs) = subst FunctionsScoped to may.after in
     record {
-      functions = subst (λ gs. signatures_of fs ≡ signatures_of gs) (sym to) (signatures_at name change fs may.inner);
+      functions = subst (λ gs. declared_in fs ≡ declared_in gs) (sym to) (declared_at name change fs may.inner);
       returns = λ number f vs ws h t p.
           subst (λ gs. (calls_to call_depth gs m.root.name f.symbol vs).answer ≡ gives ws) (sym to)
           ((calls_lead name change call_depth fs may.inner w may.before after m.root.name m.root.name f.symbol vs).by ws p);

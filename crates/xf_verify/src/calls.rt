@@ -1,7 +1,7 @@
 //! The functions of a module by their symbols, and how deep the calls from each go.
 ghost use Rattle.std.specs.Prelude.{◌≡◌, ◌++◌, Some, [], map, IfOk, OnOk};
 ghost use Rattle.std.specs.Option.{option_copied};
-ghost use Rattle.xf_ir.specs.Calls.{signatures, signature, callee_before, callee_ends, regions_callees, chains_end};
+ghost use Rattle.xf_ir.specs.Calls.{signatures, callee_before, callee_ends, regions_callees, chains_end};
 ghost use Rattle.xf_ir.specs.Lists.{every};
 ghost use Rattle.xf_ir.specs.Placed.{functions_of};
 ghost use Rattle.xf_verify.specs.Chains.{no_numbers, numbers_in, with_number, number_from, pick, numbers_called, tree_calls, ends_at, ends_after, signatures_in, ends_in};
@@ -10,8 +10,7 @@ ghost use Rattle.xf_rules.specs.Given.{callee_of, callee_seen};
 use crate::functions::functions_of;
 use std::alloc::Global;
 use std::collections::BTreeMap;
-use xf_ir::{Kind, Module, Op};
-use xf_rules::Signature;
+use xf_ir::{Kind, Module, Op, Signature, signature_of};
 use xf_type::{ListOf, NoMemory};
 
 /// The numbers of functions in their block, by their symbols.
@@ -150,21 +149,6 @@ fn ends_of(alloc: Global, calls: &[CalleeList]) -> Result<Vec<bool>, NoMemory>
         ends = one_longer(alloc, calls, &ends)?;
     }
     Ok(ends)
-}
-
-/// The signature of a function.
-fn signature_of(function: &Op) -> Signature<'_>
-    ensures { callee_seen (Some result) ≡ signature (Some function.now) }
-{
-    let inputs = match function.regions.first() {
-        Some(block) => block.args.as_slice(),
-        None => &[],
-    };
-    let results = match &function.kind {
-        Kind::Func { results, .. } => results.as_slice(),
-        _ => &[],
-    };
-    Signature { inputs, results }
 }
 
 impl<'a> Calls<'a> {

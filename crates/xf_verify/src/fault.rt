@@ -1,11 +1,10 @@
 //! Why a module is refused.
 ghost use Rattle.std.specs.Prelude.{◌≡◌};
 ghost use Rattle.xf_verify.specs.declared.fault.VerifyFault.TheVariants.{NoMemory};
-ghost use Rattle.xf_verify.specs.Verdict.{fault_of};
 
 use std::alloc::{AllocError, AllocFailed};
 use thiserror::Error;
-use xf_ir::{OpName, Rule};
+use xf_ir::OpName;
 
 /// Why a module is refused.
 #[derive(Clone, Copy, Debug, PartialEq, Eq, Error)]
@@ -16,18 +15,6 @@ pub enum VerifyFault {
     /// There was no memory.
     #[error("out of memory")]
     NoMemory,
-}
-
-impl VerifyFault {
-    /// The fault of an operation that breaks this rule.
-    pub fn breaks(rule: Rule, op: OpName) -> VerifyFault
-        ensures { result ≡ fault_of (record { rule = rule; op = op }) }
-    {
-        VerifyFault::Rule {
-            rule: rule.number(),
-            op,
-        }
-    }
 }
 
 impl From<AllocError> for VerifyFault {

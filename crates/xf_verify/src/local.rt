@@ -8,9 +8,10 @@ use crate::facts::Facts;
 use crate::stand::{Stand, are_known};
 use std::alloc::Global;
 use xf_ir::Rule;
-use xf_rules::{
-    attributes_fit, blocks_end, callee_agrees, extents_agree, fits_body, iterators_fit, kind_fits,
-    maps_fit, reduces, regions_fit, slices_fit, stands_at_end, types_fit, types_in_range,
+use xf_rules::{attributes_fit, blocks_end, callee_agrees, fits_body, regions_fit, stands_at_end};
+use xf_rules_shape::{
+    extents_agree, iterators_fit, kind_fits, maps_fit, reduces, slices_fit, types_fit,
+    types_in_range,
 };
 use xf_type::NoMemory;
 

@@ -55,10 +55,16 @@ pub fn verify(alloc: Global, m: &Module) -> Result<(), VerifyFault>
     valid_has_no_violation();
     let root = &m.root;
     if root.name.0 >= m.next {
-        return Err(VerifyFault::breaks(Rule::Names, root.name));
+        return Err(VerifyFault::Rule {
+            rule: Rule::Names.number(),
+            op: root.name,
+        });
     }
     if !holds_functions(alloc, m)? {
-        return Err(VerifyFault::breaks(Rule::Functions, root.name));
+        return Err(VerifyFault::Rule {
+            rule: Rule::Functions.number(),
+            op: root.name,
+        });
     }
     let facts = Facts {
         next: m.next,

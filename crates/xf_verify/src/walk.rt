@@ -44,10 +44,16 @@ fn judge(
     let name = op.name;
     let is_first = names.insert(name)?;
     if !is_first || name.0 >= facts.next {
-        return Err(VerifyFault::breaks(Rule::Names, name));
+        return Err(VerifyFault::Rule {
+            rule: Rule::Names.number(),
+            op: name,
+        });
     }
     match broken_rule(alloc, facts, stand)? {
-        Some(rule) => Err(VerifyFault::breaks(rule, name)),
+        Some(rule) => Err(VerifyFault::Rule {
+            rule: rule.number(),
+            op: name,
+        }),
         None => Ok(()),
     }
 }

@@ -1,7 +1,0 @@
-use Rattle.std.proofs.Common.{◌≡◌, drop}
-use Rattle.xf_rules.specs.Dims.{with_dims}
-use Rattle.xf_rules.proofs.maps.add_dims.Given as goal
-
--- what is there with what is left is the whole
-abbrev pub invariant-loop-number : goal.invariant-loop-number
-invariant-loop-number l = with_dims l.dims (drop l.number-index l.numbers) ≡ with_dims l.fn.dims l.numbers

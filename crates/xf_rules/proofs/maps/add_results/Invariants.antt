@@ -1,7 +1,0 @@
-use Rattle.std.proofs.Common.{◌≡◌, drop}
-use Rattle.xf_rules.specs.Dims.{with_results}
-use Rattle.xf_rules.proofs.maps.add_results.Given as goal
-
--- what is there with what is left is the whole
-abbrev pub invariant-loop-map : goal.invariant-loop-map
-invariant-loop-map l = with_results l.dims (drop l.map-index l.maps) ≡ with_results l.fn.dims l.maps

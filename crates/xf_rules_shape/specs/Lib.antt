@@ -1,0 +1,3 @@
+pub mod Dims
+pub mod Extents
+pub mod Dependents
