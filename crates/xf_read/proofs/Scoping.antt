@@ -23,6 +23,12 @@ pub updated : (name : List ℕ) (m n : BTreeMap (Bor (List ℕ)) Named) (w : Opt
     → (q : List ℕ) → get_by (λ k. slice_cmp nat_cmp q k.now) n ≡ (if bytes_eq name q then w else get_by (λ k. slice_cmp nat_cmp q k.now) m)
 updated name m n w u q = btree_map_updates_str name m n w u q
 
+-- a name that is put in the place of those of its text, together with them
+pub put_beside : (name : List ℕ) (x together : Named) (s t : Visible) → UpdatesBy (λ x y. slice_cmp nat_cmp x.now y.now) (λ k. slice_cmp nat_cmp name k.now) s.visible t.visible (Some together)
+    → together ≡ beside (names_in s name) x → names_in t ≡ with_name name x (names_in s)
+put_beside name x together s t u e =
+    same_names _ _ (λ q. updated name s.visible t.visible (Some together) u q ∙ ap (λ y. if bytes_eq name q then Some y else names_in s q) e)
+
 pub before_more : (cs : List Change) (c : Change) (scope : Scope) → before (cs ++ c ∷ []) scope ≡ before cs (put_back c scope)
 before_more [] c scope = refl
 before_more (d ∷ cs) c scope = ap (put_back d) (before_more cs c scope)

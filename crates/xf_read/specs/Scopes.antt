@@ -1,5 +1,5 @@
 -- What the names of values stand for where an operation stands.
-use Rattle.std.specs.Prelude.{ℕ, zero, suc, ◌+◌, max, List, [], Option, Some, None, Bool, true, false, ◌||◌, ◌==◌, if◌then◌else◌, nat_lt, slice_get}
+use Rattle.std.specs.Prelude.{ℕ, zero, suc, ◌+◌, max, List, Option, Some, None, Bool, true, false, ◌||◌, ◌==◌, if◌then◌else◌, nat_lt, slice_get}
 use Rattle.std.specs.Str.{bytes_eq}
 use Rattle.xf_type.specs.declared.payload_type.PayloadType.{PayloadType}
 use Rattle.xf_lex.specs.declared.token.Token.{Token}
