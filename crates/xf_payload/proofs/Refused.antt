@@ -10,7 +10,6 @@ use Rattle.xf_ir.specs.declared.rule.Rule.{Rule}
 use Rattle.xf_ir.specs.declared.rule.Rule.TheVariants as rule
 use Rattle.xf_ir.specs.Rules.{number, numbered}
 use Rattle.xf_ir.specs.Violations.{Violation, first_violation}
-use Rattle.xf_verify.specs.declared.fault.VerifyFault.{VerifyFault}
 use Rattle.xf_verify.specs.declared.fault.VerifyFault.TheVariants as verify_fault
 use Rattle.xf_verify.specs.Verdict.{fault_of}
 use Rattle.xf_read.specs.Spells.{Spells, HasPlaces, IsUnread}
