@@ -14,6 +14,8 @@ use Rattle.xf_sem.specs.Keeps.{KeepsMeaning}
 use Rattle.xf_sem.proofs.Keeping.{keeping_composes}
 use Rattle.xf_ir.specs.PrintedForm.{printed_form}
 use Rattle.xf_read.specs.Names.{op_name}
+use Rattle.xf_read.proofs.Limits.{spelt_is_within_limits}
+use Rattle.xf_read.proofs.ShortLists.{spelt_is_short}
 use Rattle.xf_roundtrip.proofs.ValidAgain.{printed_is_valid_again}
 use Rattle.xf_payload.specs.Payload.{IsPayload}
 use Rattle.xf_opt.specs.declared.journal.Entry.{Entry}
@@ -24,7 +26,7 @@ use Rattle.xf_opt.specs.Run.{Runs}
 use Rattle.xf_opt.specs.Words.{Asked, run, verify}
 use Rattle.xf_opt.specs.Ends.{IsRunnable, Reaches, Headline, Due, Refuses, Finishes, WritesFront}
 use Rattle.xf_opt.specs.Ended.{EndsPlainly, EndsByPayload, IsPastPayload, RefusesBy, write_refusal}
-use Rattle.xf_opt.proofs.FormFacts.{form_is_core, form_is_stored, form_is_within}
+use Rattle.xf_opt.proofs.FormFacts.{form_is_core, form_is_stored}
 use Rattle.xf_sem.proofs.Renaming.{renaming_keeps}
 
 -- there are few choices
@@ -39,7 +41,7 @@ reached payload journal m after s r n k v = record { before = m; holds = s; runs
 headline_is : (payload : List ℕ) (journal : List Entry) (m after : Module) → IsRunnable payload m → Runs m journal after → IsFew m journal → KeepsMeaning m after → IsFirstForm after → Headline payload journal (printed_form after)
 unfolding reached
 headline_is payload journal m after s r n k g =
-    let again = printed_is_valid_again after g.valid (form_is_core after g) (form_is_stored after g) (form_is_within after g) in
+    let again = printed_is_valid_again after g.valid (form_is_core after g) (form_is_stored after g) g.limits in
     record {
       after = after;
       reaches = reached payload journal m after s r n k g.valid;
@@ -59,7 +61,12 @@ front_is payload script path journal m after old new s r n k g w = (printed_form
 
 -- what a run takes is of its form
 pub of_form : (file : List ℕ) (m : Module) → IsRunnable file m → IsFirstForm m
-of_form file m s = record { valid = s.holds.valid; shape = s.form }
+of_form file m s = record {
+  valid = s.holds.valid;
+  shape = s.form;
+  lists = spelt_is_short file m s.holds.spells;
+  limits = spelt_is_within_limits file m s.holds.spells;
+}
 
 -- a run refuses what every command refuses
 pub refused_alike : (file : List ℕ) (r : Refusal) → RefusesBy (verify []) file r → RefusesBy (run [] []) file r
