@@ -31,6 +31,7 @@ pub mod PrintedRows
 pub mod PrintedForm
 pub mod Spots
 pub mod Bounds
+pub mod Limits
 pub mod Changes
 pub mod Defined
 pub mod Edits

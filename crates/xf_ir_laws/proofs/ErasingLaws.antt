@@ -153,7 +153,7 @@ mutual
       at_cases (eqb n.0 name.0) rest (op n k ds os ts (regions_at name tail rs) (ops_at name tail rest)) (λ o. ops_count o ≤ ops_count (op n k ds os ts rs rest))
       (λ _. omega arith) (λ _. omega (arith, count_stays_regions name rs, count_stays name rest))
 
-  count_stays_regions : (name : OpName) (rs : Regions) → regions_count (regions_at name tail rs) ≤ regions_count rs
+  pub count_stays_regions : (name : OpName) (rs : Regions) → regions_count (regions_at name tail rs) ≤ regions_count rs
   count_stays_regions name no_regions = omega arith
   count_stays_regions name (region args ops rest) = omega (arith, count_stays name ops, count_stays_regions name rest)
 

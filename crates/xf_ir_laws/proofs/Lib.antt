@@ -7,6 +7,7 @@ pub mod Kept
 pub mod KeptRules
 pub mod BareErased
 pub mod ErasingLaws
+pub mod ErasedBounds
 pub mod SeenTypes
 pub mod FirstBroken
 pub mod ViolationLaw

@@ -6,7 +6,9 @@ use Rattle.xf_ir.specs.declared.name.OpName.{OpName}
 use Rattle.xf_ir.specs.declared.edit.Edit.{Edit}
 use Rattle.xf_ir.specs.declared.edit.Edit.TheVariants.{Erase}
 use Rattle.xf_ir.specs.declared.op.Module.{Module}
+use Rattle.xf_ir.specs.Bounds.{ListsAreShort}
 use Rattle.xf_ir.specs.Count.{tree_count}
+use Rattle.xf_ir.specs.Limits.{IsWithinLimits}
 use Rattle.xf_ir.specs.Places.{FunctionsScoped}
 use Rattle.xf_ir.specs.Valid.{IsNamedOnce, SeesItsUses, IsValid, functions_of}
 use Rattle.xf_ir.specs.Attributes.{IsSortedByName, attr_set}
@@ -48,6 +50,14 @@ abbrev pub ErasingLowersCount : Type 0
 ErasingLowersCount =
     (m : Module) (target name : OpName) → IsValid m → MayErase m target name →
     tree_count (edited m (Erase name)).root < tree_count m.root
+
+-- it leaves lists that are short
+abbrev pub ErasingKeepsListsShort : Type 0
+ErasingKeepsListsShort = (m : Module) (name : OpName) → ListsAreShort m → ListsAreShort (edited m (Erase name))
+
+-- and a module within the limits
+abbrev pub ErasingKeepsLimits : Type 0
+ErasingKeepsLimits = (m : Module) (name : OpName) → IsWithinLimits m → IsWithinLimits (edited m (Erase name))
 
 -- where names occur once, the inverse of an edit that fits leads back to the module's tree
 abbrev pub InverseLeadsBack : Type 0

@@ -1,5 +1,5 @@
 //! Laws of valid modules and of edits, each as the contract of a function that does nothing.
-ghost use Rattle.xf_ir_laws.specs.Laws.{ValidIsScoped, ValidHasNoViolation, ErasingFits, ErasingKeepsValid, ErasingLowersWeight, ErasingLowersCount, InverseLeadsBack, InverseFits, ReplayingComposes, InversesFit, InversesLeadBack, SettingKeepsSorted, RenamingKeepsValid};
+ghost use Rattle.xf_ir_laws.specs.Laws.{ValidIsScoped, ValidHasNoViolation, ErasingFits, ErasingKeepsValid, ErasingLowersWeight, ErasingLowersCount, ErasingKeepsListsShort, ErasingKeepsLimits, InverseLeadsBack, InverseFits, ReplayingComposes, InversesFit, InversesLeadBack, SettingKeepsSorted, RenamingKeepsValid};
 
 /// In a valid module each operand is visible where it stands, and each value is defined once among those that are visible.
 pub fn valid_is_scoped()
@@ -29,6 +29,12 @@ pub fn erasing_lowers_weight()
 /// Erasing what may be erased lowers the number of operations.
 pub fn erasing_lowers_count()
     ensures { ErasingLowersCount }
+{}
+
+/// Erasing an operation leaves lists that are short, and a module within the limits of payloads.
+pub fn erasing_keeps_bounds()
+    ensures lists { ErasingKeepsListsShort }
+    ensures limits { ErasingKeepsLimits }
 {}
 
 /// Where names occur once, the inverse of an edit that fits leads back to the module's tree.

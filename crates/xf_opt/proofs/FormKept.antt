@@ -1,8 +1,7 @@
 -- Erasing what may be erased leaves a module of the first form.
-use Rattle.std.proofs.Common.{◌≡◌, ◌⊎◌, ℕ, ◌+◌, ◌≤◌, List, Option, Some, None, Bool, true, false, refl, ap, subst, ◌==◌, inl, inr, arith}
-use Rattle.std.specs.Prelude.{◌&&◌, nat_le}
+use Rattle.std.proofs.Common.{◌≡◌, ◌⊎◌, List, Option, Some, None, Bool, true, false, refl, ap, ◌==◌, inl, inr}
+use Rattle.std.specs.Prelude.{◌&&◌}
 use Rattle.std.proofs.lemmas.Bool.{and_parts, and_from}
-use Rattle.std.proofs.lemmas.Bool.Decides.{nat_tests}
 use Rattle.xf_type.specs.declared.payload_type.PayloadType.{PayloadType}
 use Rattle.xf_ir.specs.declared.name.OpName.{OpName}
 use Rattle.xf_ir.specs.declared.kind.Attr.{Attr}
@@ -10,17 +9,16 @@ use Rattle.xf_ir.specs.declared.kind.Kind.{Kind}
 use Rattle.xf_ir.specs.declared.kind.Kind.TheVariants as kind
 use Rattle.xf_ir.specs.declared.edit.Edit.TheVariants.{Erase}
 use Rattle.xf_ir.specs.declared.op.Module.{Module}
-use Rattle.xf_ir.specs.Lists.{is_empty}
+use Rattle.xf_ir.specs.Lists.{every, is_empty}
 use Rattle.xf_ir.specs.RuleBlocks.{is_end}
-use Rattle.xf_ir.specs.Spots.{ops_length}
 use Rattle.xf_ir.specs.Tree.{Ops, no_ops, op, Regions, no_regions, region, Tree}
 use Rattle.xf_ir.specs.Walk.{regions_find}
 use Rattle.xf_ir.specs.Kinds.{is_container}
 use Rattle.xf_ir.specs.Edits.{edited, ops_at, regions_at, tail}
 use Rattle.xf_ir.specs.Choices.{MayErase}
+use Rattle.xf_ir_laws.proofs.ErasedBounds.{short_kept, limits_kept}
 use Rattle.xf_ir_laws.proofs.ErasingLaws.{valid_kept}
-use Rattle.xf_read.specs.Syntax.{most_operations}
-use Rattle.xf_opt.specs.Form.{is_step, are_steps, are_parameters, is_plain_block, has_no_regions, is_one_block, is_plain_head, is_plain_function, is_one_function, is_plain_module, holds_one_function, is_first_form, IsFirstForm}
+use Rattle.xf_opt.specs.Form.{is_i32, is_step, are_steps, is_plain_block, has_no_regions, is_one_block, is_plain_head, is_plain_function, is_one_function, is_plain_module, holds_one_function, is_first_form, IsFirstForm}
 
 true_or_false : (b : Bool) → (b ≡ true) ⊎ (b ≡ false)
 true_or_false true = inl refl
@@ -45,28 +43,14 @@ steps_kept name (op n k ds os ts rs rest) h =
       | inr e ↦ rw e (and_from (is_step k ds ts (regions_at name tail rs)) (are_steps (ops_at name tail rest)) (rw (step_kept name k ds ts rs) p.0) (steps_kept name rest p.1))
     ]
 
-no_longer : (name : OpName) (ops : Ops) → ops_length (ops_at name tail ops) ≤ ops_length ops
-no_longer name no_ops = omega arith
-no_longer name (op n k ds os ts rs rest) =
-    elim (true_or_false (n.0 == name.0)) [
-      | inl e ↦ rw e (omega arith)
-      | inr e ↦ rw e (omega (arith, no_longer name rest))
-    ]
-
-fewer : (m n : ℕ) → m ≤ n → nat_le (n + 2) most_operations ≡ true → nat_le (m + 2) most_operations ≡ true
-fewer m n l e = grind (arith, nat_tests)
-
 block_kept : (name : OpName) (rs : Regions) → is_one_block rs ≡ true → is_one_block (regions_at name tail rs) ≡ true
 block_kept name no_regions h = h
 block_kept name (region args ops rest) h =
     let p = and_parts (is_plain_block args ops) (has_no_regions rest) h in
-    let q = and_parts (are_parameters args) (are_steps ops && nat_le (ops_length ops + 2) most_operations) p.0 in
-    let s = and_parts (are_steps ops) (nat_le (ops_length ops + 2) most_operations) q.1 in
+    let q = and_parts (every is_i32 args) (are_steps ops) p.0 in
     let after = ops_at name tail ops in
-    let few = fewer (ops_length after) (ops_length ops) (no_longer name ops) s.1 in
-    let both = and_from (are_steps after) (nat_le (ops_length after + 2) most_operations) (steps_kept name ops s.0) few in
     and_from (is_plain_block args after) (has_no_regions (regions_at name tail rest))
-    (and_from (are_parameters args) (are_steps after && nat_le (ops_length after + 2) most_operations) q.0 both)
+    (and_from (every is_i32 args) (are_steps after) q.0 (steps_kept name ops q.1))
     (rw (none_kept name rest) p.1)
 
 -- ---- the function, which is not erased
@@ -120,4 +104,9 @@ shape_kept m target name f e =
     (and_from (is_empty m.root.attrs) (holds_one_function (regions_at name tail m.root.regions)) q.0 after)
 
 pub form_kept : (m : Module) (target name : OpName) → IsFirstForm m → MayErase m target name → IsFirstForm (edited m (Erase name))
-form_kept m target name f e = record { valid = valid_kept m target name f.valid e; shape = shape_kept m target name f e }
+form_kept m target name f e = record {
+  valid = valid_kept m target name f.valid e;
+  shape = shape_kept m target name f e;
+  lists = short_kept m name f.lists;
+  limits = limits_kept m name f.limits;
+}

@@ -1,8 +1,7 @@
 -- The parts of a module of the first form.
-use Rattle.std.proofs.Common.{◌≡◌, ◌+◌, ◌^◌, ◌<◌, ◌≤◌, List, [], ◌∷◌, length, None, true, false, refl, ap, arith}
-use Rattle.std.specs.Prelude.{ℕ, Some, ◌&&◌, nat_lt, nat_le}
+use Rattle.std.proofs.Common.{◌≡◌, List, [], ◌∷◌, None, true, false, refl, ap}
+use Rattle.std.specs.Prelude.{ℕ, Some, ◌&&◌}
 use Rattle.std.proofs.lemmas.Bool.{and_parts}
-use Rattle.std.proofs.lemmas.Bool.Decides.{nat_tests}
 use Rattle.xf_type.specs.declared.payload_type.PayloadType.{PayloadType}
 use Rattle.xf_ir.specs.declared.name.OpName.{OpName}
 use Rattle.xf_ir.specs.declared.name.ValueName.{ValueName}
@@ -12,10 +11,8 @@ use Rattle.xf_ir.specs.declared.kind.Kind.TheVariants as kind
 use Rattle.xf_ir.specs.declared.op.Module.{Module}
 use Rattle.xf_ir.specs.Lists.{every, is_empty}
 use Rattle.xf_ir.specs.RuleBlocks.{is_end}
-use Rattle.xf_ir.specs.Spots.{ops_length}
 use Rattle.xf_ir.specs.Tree.{Ops, no_ops, op, Regions, no_regions, region}
-use Rattle.xf_read.specs.Syntax.{most_operations}
-use Rattle.xf_opt.specs.Form.{is_i32, is_one_i32, are_steps, are_parameters, is_plain_block, has_no_regions, is_one_block, is_plain_head, is_plain_function, is_one_function, is_plain_module, holds_one_function, is_first_form}
+use Rattle.xf_opt.specs.Form.{is_i32, is_one_i32, are_steps, is_plain_block, has_no_regions, is_one_block, is_plain_head, is_plain_function, is_one_function, is_plain_module, holds_one_function, is_first_form}
 
 -- ---- empty lists
 
@@ -39,36 +36,23 @@ pub record OneBlock (rs : Regions) : Type 0 where
   pub ops : Ops
   pub is : rs ≡ region args ops no_regions
   pub types : every is_i32 args ≡ true
-  pub count : length args < 2 ^ 32
   pub steps : are_steps ops ≡ true
-  pub few : ops_length ops ≤ 999998
-
-below : (m n : ℕ) → nat_lt m n ≡ true → m < n
-below m n e = grind (arith, nat_tests)
-
-fewer : (n : ℕ) → nat_le (n + 2) most_operations ≡ true → n ≤ 999998
-fewer n e = grind (arith, nat_tests)
 
 pub block_parts : (rs : Regions) → is_one_block rs ≡ true → OneBlock rs
 block_parts no_regions e = absurd cc
 block_parts (region args ops rest) e =
     let p = and_parts (is_plain_block args ops) (has_no_regions rest) e in
-    let q = and_parts (are_parameters args) (are_steps ops && nat_le (ops_length ops + 2) most_operations) p.0 in
-    let t = and_parts (every is_i32 args) (nat_lt (length args) (2 ^ 32)) q.0 in
-    let s = and_parts (are_steps ops) (nat_le (ops_length ops + 2) most_operations) q.1 in
-    record { args = args; ops = ops; is = ap (region args ops) (no_more rest p.1); types = t.0; count = below (length args) (2 ^ 32) t.1; steps = s.0; few = fewer (ops_length ops) s.1 }
+    let q = and_parts (every is_i32 args) (are_steps ops) p.0 in
+    record { args = args; ops = ops; is = ap (region args ops) (no_more rest p.1); types = q.0; steps = q.1 }
 
 pub record OneHead (k : Kind) : Type 0 where
   pub symbol : List ℕ
   pub results : List PayloadType
   pub is : k ≡ kind.Func symbol false results
   pub type : is_one_i32 results ≡ true
-  pub short : length symbol < 2 ^ 32
 
 pub head_parts : (k : Kind) → is_plain_head k ≡ true → OneHead k
-head_parts (kind.Func symbol false results) e =
-    let p = and_parts (is_one_i32 results) (nat_lt (length symbol) (2 ^ 32)) e in
-    record { symbol = symbol; results = results; is = refl; type = p.0; short = below (length symbol) (2 ^ 32) p.1 }
+head_parts (kind.Func symbol false results) e = record { symbol = symbol; results = results; is = refl; type = e }
 head_parts (kind.Func symbol true results) e = absurd cc
 head_parts _ e = absurd cc
 

@@ -8,6 +8,8 @@ use Rattle.xf_sem.specs.Keeps.{KeepsMeaning}
 use Rattle.xf_sem.proofs.Keeping.{keeping_composes}
 use Rattle.xf_ir.specs.PrintedForm.{printed_form}
 use Rattle.xf_read.specs.Names.{op_name}
+use Rattle.xf_read.proofs.Limits.{spelt_is_within_limits}
+use Rattle.xf_read.proofs.ShortLists.{spelt_is_short}
 use Rattle.xf_roundtrip.proofs.ValidAgain.{printed_is_valid_again}
 use Rattle.xf_opt.specs.declared.journal.Entry.{Entry}
 use Rattle.xf_opt.specs.Form.{is_first_form, IsFirstForm}
@@ -15,7 +17,7 @@ use Rattle.xf_opt.specs.Run.{Runs}
 use Rattle.xf_opt.specs.Words.{run}
 use Rattle.xf_opt.specs.Files.{IsRunnable}
 use Rattle.xf_opt.specs.Owes.{Reaches, Headline, Finishes, WritesPrefix}
-use Rattle.xf_opt.proofs.FormFacts.{form_is_core, form_is_stored, form_is_within}
+use Rattle.xf_opt.proofs.FormFacts.{form_is_core, form_is_stored}
 use Rattle.xf_sem.proofs.Renaming.{renaming_keeps}
 
 -- there are few choices
@@ -30,7 +32,7 @@ reached payload journal m after s r n k v = record { before = m; holds = s; runs
 headline_is : (payload : List ℕ) (journal : List Entry) (m after : Module) → IsRunnable payload m → Runs m journal after → IsFew m journal → KeepsMeaning m after → IsFirstForm after → Headline payload journal (printed_form after)
 unfolding reached
 headline_is payload journal m after s r n k g =
-    let again = printed_is_valid_again after g.valid (form_is_core after g) (form_is_stored after g) (form_is_within after g) in
+    let again = printed_is_valid_again after g.valid (form_is_core after g) (form_is_stored after g) g.limits in
     record {
       after = after;
       reaches = reached payload journal m after s r n k g.valid;
@@ -50,7 +52,12 @@ prefix_is payload script path journal m after old new s r n k g w = (printed_for
 
 -- what a run accepts is of its form
 pub of_form : (file : List ℕ) (m : Module) → IsRunnable file m → IsFirstForm m
-of_form file m s = record { valid = s.holds.valid; shape = s.form }
+of_form file m s = record {
+  valid = s.holds.valid;
+  shape = s.form;
+  lists = spelt_is_short file m s.holds.spells;
+  limits = spelt_is_within_limits file m s.holds.spells;
+}
 
 -- the root of a module that a text spells is operation 0
 pub root_named : (payload : List ℕ) (m : Module) → IsRunnable payload m → m.root.name ≡ op_name 0

@@ -1,5 +1,5 @@
 -- The modules that a run takes: one function over i32, of constants, additions and a return.
-use Rattle.std.specs.Prelude.{◌≡◌, ℕ, ◌+◌, ◌^◌, List, [], ◌∷◌, length, Option, Some, None, Bool, true, false, not, ◌&&◌, nat_lt, nat_le}
+use Rattle.std.specs.Prelude.{◌≡◌, ℕ, List, [], ◌∷◌, Option, Some, None, Bool, true, false, not, ◌&&◌}
 use Rattle.xf_type.specs.declared.payload_type.PayloadType.{PayloadType}
 use Rattle.xf_type.specs.declared.payload_type.PayloadType.TheVariants.{Scalar}
 use Rattle.xf_type.specs.declared.payload_type.Width.{Width}
@@ -10,12 +10,12 @@ use Rattle.xf_ir.specs.declared.kind.Attr.{Attr}
 use Rattle.xf_ir.specs.declared.kind.Kind.{Kind}
 use Rattle.xf_ir.specs.declared.kind.Kind.TheVariants as kind
 use Rattle.xf_ir.specs.declared.op.Module.{Module}
+use Rattle.xf_ir.specs.Bounds.{ListsAreShort}
+use Rattle.xf_ir.specs.Limits.{IsWithinLimits}
 use Rattle.xf_ir.specs.Lists.{every, is_empty}
 use Rattle.xf_ir.specs.RuleBlocks.{is_end}
-use Rattle.xf_ir.specs.Spots.{ops_length}
 use Rattle.xf_ir.specs.Tree.{Ops, no_ops, op, Regions, no_regions, region}
 use Rattle.xf_ir.specs.Valid.{IsValid}
-use Rattle.xf_read.specs.Syntax.{most_operations}
 
 -- ---- types
 
@@ -63,22 +63,16 @@ are_steps (op n k ds os ts rs rest) = is_step k ds ts rs && are_steps rest
 
 -- ---- the function
 
--- fewer arguments than a number of 32 bits can count
-abbrev pub are_parameters : List PayloadType → Bool
-are_parameters ts = every is_i32 ts && nat_lt (length ts) (2 ^ 32)
-
--- with the module and the function there are no more operations than a payload may have
 abbrev pub is_plain_block : List PayloadType → Ops → Bool
-is_plain_block args ops = are_parameters args && (are_steps ops && nat_le (ops_length ops + 2) most_operations)
+is_plain_block args ops = every is_i32 args && are_steps ops
 
 abbrev pub is_one_block : Regions → Bool
 is_one_block no_regions = false
 is_one_block (region args ops rest) = is_plain_block args ops && has_no_regions rest
 
--- a function that has a body, gives one value, and has a symbol of fewer bytes than a number of 32 bits can count
+-- a function that has a body and gives one value
 abbrev pub is_plain_head : Kind → Bool
-is_plain_head (kind.Func symbol private results) =
-    not private && (is_one_i32 results && nat_lt (length symbol) (2 ^ 32))
+is_plain_head (kind.Func symbol private results) = not private && is_one_i32 results
 is_plain_head _ = false
 
 abbrev pub is_plain_function : Kind → List Attr → Regions → Bool
@@ -107,7 +101,9 @@ is_plain_module _ = false
 abbrev pub is_first_form : Module → Bool
 is_first_form m = is_plain_module m.root.kind && (is_empty m.root.attrs && holds_one_function m.root.regions)
 
--- a valid module of this form
+-- a valid module of this form, with what each module has that a text spells: lists that are short, and no more than the limits
 pub record IsFirstForm (m : Module) : Type 0 where
   pub valid : IsValid m
   pub shape : is_first_form m ≡ true
+  pub lists : ListsAreShort m
+  pub limits : IsWithinLimits m

@@ -2,17 +2,10 @@
 ghost use Rattle.std.specs.Prelude.{◌≡◌, ◌&&◌, not};
 ghost use Rattle.xf_ir.specs.Lists.{every};
 ghost use Rattle.xf_ir.specs.View.{ops_of, regions_of};
-ghost use Rattle.xf_opt.specs.Form.{is_i32_width, is_i32, is_i32_at_most, is_one_i32, is_addition, is_step_kind, is_step, are_steps, are_parameters, is_plain_block, is_one_block, is_plain_head, is_plain_function, is_one_function, holds_one_function, is_plain_module, is_first_form};
+ghost use Rattle.xf_opt.specs.Form.{is_i32_width, is_i32, is_i32_at_most, is_one_i32, is_addition, is_step_kind, is_step, are_steps, is_plain_block, is_one_block, is_plain_head, is_plain_function, is_one_function, holds_one_function, is_plain_module, is_first_form};
 
 use xf_ir::{Block, Kind, Module, Op};
 use xf_type::{BinKind, PayloadType, Width};
-
-/// The number that the function has fewer arguments than, and its symbol fewer bytes.
-const LIST_END: usize = 1 << 32;
-
-/// How many operations the function holds at most: as many as a payload may have, but for the module
-/// and the function itself.
-const MOST_STEPS: usize = 999_998;
 
 fn is_i32_width(width: Width) -> bool
     ensures { result ≡ is_i32_width width }
@@ -105,19 +98,11 @@ fn are_steps(ops: &[Op]) -> bool
     true
 }
 
-fn are_parameters(types: &[PayloadType]) -> bool
-    ensures { result ≡ are_parameters types.now }
-{
-    are_i32(types) && types.len() < LIST_END
-}
-
 /// Whether it is the block of such a function.
-#[tactic(auto, using(crate::proofs::FormLists::as_many))]
 fn is_plain_block(block: &Block) -> bool
     ensures { result ≡ is_plain_block block.now.args block.now.ops }
 {
-    are_parameters(block.args.as_slice())
-        && (are_steps(&block.ops) && block.ops.len() <= MOST_STEPS)
+    are_i32(block.args.as_slice()) && are_steps(&block.ops)
 }
 
 #[tactic(auto, using(crate::proofs::FormLists::no_blocks))]
@@ -130,16 +115,14 @@ fn is_one_block(regions: &[Block]) -> bool
     }
 }
 
-/// Whether it is a function that has a body, gives one value and has a symbol that is not too long.
+/// Whether it is a function that has a body and gives one value.
 fn is_plain_head(kind: &Kind) -> bool
     ensures { result ≡ is_plain_head kind.now }
 {
     match kind {
         Kind::Func {
-            symbol,
-            private,
-            results,
-        } => !*private && (is_one_i32(results.as_slice()) && symbol.len() < LIST_END),
+            private, results, ..
+        } => !*private && is_one_i32(results.as_slice()),
         _ => false,
     }
 }

@@ -6,6 +6,7 @@ pub mod Heads
 pub mod HeadsWithin
 pub mod IsRead
 pub mod Joining
+pub mod Limits
 pub mod Meanings
 pub mod OfKind
 pub mod Place

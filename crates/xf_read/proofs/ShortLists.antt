@@ -15,26 +15,25 @@ use Rattle.xf_read_base.specs.Short.{HasShortParts}
 use Rattle.xf_read_base.specs.Values.{attr_of, with_attr, with_entries, kind_by}
 use Rattle.xf_ir.specs.declared.kind.Attr.{Attr}
 use Rattle.xf_ir.specs.declared.kind.Kind.TheVariants as kind
-use Rattle.xf_ir.specs.declared.name.OpName.{OpName}
+use Rattle.xf_ir.specs.Bounds.{regions_length, blocks_of, HasShortLists, OpsShort, RegionsShort, ListsAreShort}
 use Rattle.xf_ir.specs.Kinds.{returned_types}
 use Rattle.xf_ir.specs.Lists.{Each}
-use Rattle.xf_ir.specs.Places.{done, inside as inside_of}
-use Rattle.xf_ir.specs.Placed.{Typed, type_at, Holder, holder_of, Placed, ops_placed, regions_placed, functions_placed, blocks_placed, root_holder}
 use Rattle.xf_ir.specs.RuleBlocks.{block_args}
+use Rattle.xf_ir.specs.Spots.{ops_length}
 use Rattle.xf_ir.specs.Tree.{Ops, no_ops, op, Regions, no_regions, region}
-use Rattle.xf_ir.proofs.Lists.{each_both}
 use Rattle.xf_read.specs.declared.faults.Faults.{Faults}
 use Rattle.xf_read.specs.declared.tree.File.{File}
-use Rattle.xf_read.specs.Meant.{operands_of, joined, left_out, nodes_meant, bodies_meant, tree_meant, meant}
+use Rattle.xf_read.specs.Meant.{operands_of, joined, left_out, nodes_meant, bodies_meant, tree_meant, file_count, meant}
 use Rattle.xf_read.specs.Names.{op_name, yield_count, nodes_count, bodies_count, earlier, inside, behind, agrees, nodes_faults, bodies_faults, tree_faults}
 use Rattle.xf_read.specs.Scopes.{Scope, no_names, value_used}
-use Rattle.xf_read.specs.Short.{HasShortLists, NoListIsLong, SpeltIsShort}
-use Rattle.xf_read.specs.Syntax.{lacks_yield}
+use Rattle.xf_read.specs.Short.{SpeltIsShort}
+use Rattle.xf_read.specs.Syntax.{most_operations, lacks_yield}
 use Rattle.xf_read.specs.Tree.{Nodes, no_nodes, node, Bodies, no_bodies, body, Tree}
 use Rattle.xf_read.specs.Types.{one_type, results_by, args_by}
+use Rattle.xf_read.proofs.Counting.{few_operations}
 use Rattle.xf_read.proofs.OfKind.{Inside, NodesOf, BodiesOf, FunctionsOf, RootOf, FileOf}
 use Rattle.xf_read.proofs.ShortNames.{entries_short, symbol_short}
-use Rattle.xf_read.proofs.ShortTrees.{NodesShort, BodiesShort, TreeShort, text_short}
+use Rattle.xf_read.proofs.ShortTrees.{bodies_number, NodesShort, BodiesShort, TreeShort, text_short}
 use Rattle.xf_read.proofs.TreesWithin.{text_of_kinds}
 
 -- ---- the lists of one operation
@@ -83,9 +82,36 @@ arguments_short all n p scope (body ns close rest) lt = (lt, arguments_short all
 agreed : (all : List Token) (p : Parts) (scope : Scope) → agrees all p scope ≡ true → length p.args ≡ length (args_by p.row p)
 agreed all p scope e = eqb-true (length p.args) (length (args_by p.row p)) (and_parts _ _ (and_parts _ _ e).1).1
 
+-- ---- regions and blocks
+
+regions_long : (all : List Token) (n : ℕ) (p : Parts) (scope : Scope) (bs : Bodies) → regions_length (bodies_meant all n p scope bs) ≡ bodies_number bs
+regions_long all n p scope no_bodies = refl
+regions_long all n p scope (body ns close rest) = let e = regions_long all (n + (nodes_count ns + yield_count p ns)) p scope rest in omega (arith, e)
+
+ops_long : (all : List Token) (n : ℕ) (scope : Scope) (ns : Nodes) → ops_length (nodes_meant all n scope ns) ≤ nodes_count ns
+ops_long all n scope no_nodes = omega arith
+ops_long all n scope (node first p bs rest) = let e = ops_long all (n + (1 + bodies_count p bs)) (behind all n p scope) rest in omega (arith, e)
+
+joined_long : (us vs : Ops) → ops_length (joined us vs) ≡ ops_length us + ops_length vs
+joined_long no_ops vs = omega arith
+joined_long (op n k ds os ts rs rest) vs = let e = joined_long rest vs in omega (arith, e)
+
+yield_long : (b : Bool) (n : ℕ) → ops_length (if b then op (op_name n) kind.Yield [] [] [] no_regions no_ops else no_ops) ≡ (if b then 1 else 0)
+yield_long true n = refl
+yield_long false n = refl
+
+blocks_short : (all : List Token) (n : ℕ) (p : Parts) (scope : Scope) (bs : Bodies) → bodies_count p bs < 2 ^ 32 → Each (λ ops. ops_length ops < 2 ^ 32) (blocks_of (bodies_meant all n p scope bs))
+blocks_short all n p scope no_bodies lt = tt
+blocks_short all n p scope (body ns close rest) lt =
+    let a = ops_long all n scope ns in
+    let b = yield_long (lacks_yield p ns) (n + nodes_count ns) in
+    let c = joined_long (nodes_meant all n scope ns) (left_out p ns (n + nodes_count ns)) in
+    (omega (arith, lt, a, b, c), blocks_short all (n + (nodes_count ns + yield_count p ns)) p scope rest (omega (arith, lt)))
+
 -- operation n of a text, where it agrees with its types
-head_lists : (all : List Token) (n : ℕ) (scope : Scope) (t : Tree) → HasShortParts t.parts → Inside all t.parts → agrees all t.parts scope ≡ true → HasShortLists (tree_meant all n scope t)
-head_lists all n scope t s i e =
+head_lists : (all : List Token) (n : ℕ) (scope : Scope) (t : Tree) → HasShortParts t.parts → Inside all t.parts → bodies_number t.bodies ≤ 2 → bodies_count t.parts t.bodies < 2 ^ 32 → agrees all t.parts scope ≡ true
+    → HasShortLists (tree_meant all n scope t)
+head_lists all n scope t s i two few e =
     let p : Parts = t.parts in
     let k = entries_grow all p.entries [] in
     let le = s.entries in
@@ -99,7 +125,9 @@ head_lists all n scope t s i e =
       names = entries_short all p.entries [] i.1.1.0 tt;
       operands = omega (arith, u, us);
       results = results_short p.row p s;
+      regions = let r = regions_long all (n + 1) p (inside all n p scope) t.bodies in omega (arith, r, two);
       arguments = arguments_short all (n + 1) p (inside all n p scope) t.bodies lt;
+      blocks = blocks_short all (n + 1) p (inside all n p scope) t.bodies few;
       symbol = symbol_short all p.row p i;
       returned = returned_short all p.row p s;
     }
@@ -117,21 +145,12 @@ unless false n e = absurd cc
 
 -- ---- all operations
 
-abbrev mutual
-  OpsShort : Ops → Type 0
-  OpsShort no_ops = Unit {0}
-  OpsShort (op n k ds os ts rs rest) = HasShortLists (record { name = n; kind = k; attrs = ds; operands = os; results = ts; regions = rs }) × (RegionsShort rs × OpsShort rest)
-
-  RegionsShort : Regions → Type 0
-  RegionsShort no_regions = Unit {0}
-  RegionsShort (region args ops rest) = OpsShort ops × RegionsShort rest
-
 joined_short : (us vs : Ops) → OpsShort us → OpsShort vs → OpsShort (joined us vs)
 joined_short no_ops vs s t = t
 joined_short (op n k ds os ts rs rest) vs s t = (s.0, (s.1.0, joined_short rest vs s.1.1 t))
 
 yield_short : (b : Bool) (n : ℕ) → OpsShort (if b then op (op_name n) kind.Yield [] [] [] no_regions no_ops else no_ops)
-yield_short true n = (record { attributes = omega arith; names = tt; operands = omega arith; results = omega arith; arguments = tt; symbol = tt; returned = omega arith }, (tt, tt))
+yield_short true n = (record { attributes = omega arith; names = tt; operands = omega arith; results = omega arith; regions = omega arith; arguments = tt; blocks = tt; symbol = tt; returned = omega arith }, (tt, tt))
 yield_short false n = tt
 
 -- the operations of each body, whether it is closed or not
@@ -152,65 +171,41 @@ root_inside all true first p bs w = (w.1.0, bodies_inside all bs w.1.1.0)
 root_inside all false first p bs w = (w.0, functions_inside all bs w.1)
 
 mutual
-  nodes_lists : (all : List Token) (n : ℕ) (scope : Scope) (ns : Nodes) → NodesShort ns → NodesOf all ns → (nodes_faults all n scope ns).mismatch ≡ None → OpsShort (nodes_meant all n scope ns)
-  nodes_lists all n scope no_nodes s w e = tt
-  nodes_lists all n scope (node first p bs rest) s w e =
+  nodes_lists : (all : List Token) (n : ℕ) (scope : Scope) (ns : Nodes) → NodesShort ns → NodesOf all ns → nodes_count ns < 2 ^ 32 → (nodes_faults all n scope ns).mismatch ≡ None → OpsShort (nodes_meant all n scope ns)
+  nodes_lists all n scope no_nodes s w few e = tt
+  nodes_lists all n scope (node first p bs rest) s w few e =
       let f = none_earlier _ _ e in
       let g = none_earlier _ _ f.0 in (
-        head_lists all n scope (record { first = first; parts = p; bodies = bs }) s.0 w.1.0 (unless (agrees all p scope) first g.0),
+        head_lists all n scope (record { first = first; parts = p; bodies = bs }) s.0 w.1.0 s.1.0.0 (omega (arith, few)) (unless (agrees all p scope) first g.0),
         (
-          bodies_lists all (n + 1) p (inside all n p scope) bs s.1.0 (bodies_inside all bs w.1.1.0) g.1,
-          nodes_lists all (n + (1 + bodies_count p bs)) (behind all n p scope) rest s.1.1 w.1.1.1 f.1,
+          bodies_lists all (n + 1) p (inside all n p scope) bs s.1.0.1 (bodies_inside all bs w.1.1.0) (omega (arith, few)) g.1,
+          nodes_lists all (n + (1 + bodies_count p bs)) (behind all n p scope) rest s.1.1 w.1.1.1 (omega (arith, few)) f.1,
         ),
       )
 
-  bodies_lists : (all : List Token) (n : ℕ) (p : Parts) (scope : Scope) (bs : Bodies) → BodiesShort bs → BodiesInside all bs → (bodies_faults all n p scope bs).mismatch ≡ None → RegionsShort (bodies_meant all n p scope bs)
-  bodies_lists all n p scope no_bodies s w e = tt
-  bodies_lists all n p scope (body ns close rest) s w e =
+  bodies_lists : (all : List Token) (n : ℕ) (p : Parts) (scope : Scope) (bs : Bodies) → BodiesShort bs → BodiesInside all bs → bodies_count p bs < 2 ^ 32 → (bodies_faults all n p scope bs).mismatch ≡ None → RegionsShort (bodies_meant all n p scope bs)
+  bodies_lists all n p scope no_bodies s w few e = tt
+  bodies_lists all n p scope (body ns close rest) s w few e =
       let f = none_earlier _ _ e in (
-        joined_short (nodes_meant all n scope ns) (left_out p ns (n + nodes_count ns)) (nodes_lists all n scope ns s.0 w.0 f.0) (yield_short (lacks_yield p ns) (n + nodes_count ns)),
-        bodies_lists all (n + (nodes_count ns + yield_count p ns)) p scope rest s.1 w.1 f.1,
+        joined_short (nodes_meant all n scope ns) (left_out p ns (n + nodes_count ns)) (nodes_lists all n scope ns s.0 w.0 (omega (arith, few)) f.0) (yield_short (lacks_yield p ns) (n + nodes_count ns)),
+        bodies_lists all (n + (nodes_count ns + yield_count p ns)) p scope rest s.1 w.1 (omega (arith, few)) f.1,
       )
-
--- ---- where they stand
-
-abbrev IsShort : Placed → Type 0
-IsShort p = HasShortLists p.tree
-
-mutual
-  ops_each : (h : Holder) (env : Typed) (ops : Ops) → OpsShort ops → Each IsShort (ops_placed h env ops)
-  ops_each h env no_ops s = tt
-  ops_each h env (op n k ds os ts rs rest) s =
-      let g = holder_of k (map (type_at env) os) ts in
-      let x = (done n (length ts), ts) ∷ env in
-      (s.0, each_both IsShort (regions_placed g env n 0 rs) (ops_placed h x rest) (regions_each g env n 0 rs s.1.0) (ops_each h x rest s.1.1))
-
-  regions_each : (h : Holder) (env : Typed) (n : OpName) (i : ℕ) (rs : Regions) → RegionsShort rs → Each IsShort (regions_placed h env n i rs)
-  regions_each h env n i no_regions s = tt
-  regions_each h env n i (region args ops rest) s =
-      let x = (inside_of n i (length args), args) ∷ env in
-      each_both IsShort (ops_placed h x ops) (regions_placed h env n (suc i) rest) (ops_each h x ops s.0) (regions_each h env n (suc i) rest s.1)
-
-functions_each : (h : Holder) (fs : Ops) → OpsShort fs → Each IsShort (functions_placed h fs)
-functions_each h no_ops s = tt
-functions_each h (op n k ds os ts rs rest) s =
-    let g = holder_of k (map (type_at []) os) ts in
-    (s.0, each_both IsShort (regions_placed g [] n 0 rs) (functions_placed h rest) (regions_each g [] n 0 rs s.1.0) (functions_each h rest s.1.1))
-
-blocks_each : (h : Holder) (rs : Regions) → RegionsShort rs → Each IsShort (blocks_placed h rs)
-blocks_each h no_regions s = tt
-blocks_each h (region args ops rest) s = each_both IsShort (functions_placed h ops) (blocks_placed h rest) (functions_each h ops s.0) (blocks_each h rest s.1)
 
 -- ---- texts
 
-tree_lists : (all : List Token) (file : File) → TreeShort file.root → FileOf all file → (tree_faults all 0 no_names file.root).mismatch ≡ None → NoListIsLong (meant all file)
-tree_lists all file s k e =
+tree_lists : (all : List Token) (file : File) → TreeShort file.root → FileOf all file → file_count file ≤ most_operations → (tree_faults all 0 no_names file.root).mismatch ≡ None → ListsAreShort (meant all file)
+tree_lists all file s k few e =
     let t : Tree = file.root in
     let w = root_inside all file.written t.first t.parts t.bodies k in
-    let f = none_earlier _ _ e in (
-      head_lists all 0 no_names t s.0 w.0 (unless (agrees all t.parts no_names) t.first f.0),
-      blocks_each (root_holder (tree_meant all 0 no_names t)) (bodies_meant all 1 t.parts (inside all 0 t.parts no_names) t.bodies) (bodies_lists all 1 t.parts (inside all 0 t.parts no_names) t.bodies s.1 w.1 f.1),
-    )
+    let f = none_earlier _ _ e in
+    let count : bodies_count t.parts t.bodies < 2 ^ 32 = omega (arith, few) in
+    record {
+      lists = head_lists all 0 no_names t s.0 w.0 s.1.0 count (unless (agrees all t.parts no_names) t.first f.0);
+      inside = bodies_lists all 1 t.parts (inside all 0 t.parts no_names) t.bodies s.1.1 w.1 count f.1;
+    }
 
 pub spelt_is_short : SpeltIsShort
-spelt_is_short bytes m s = subst NoListIsLong s.means (tree_lists s.tokens s.file (text_short s.tokens s.file s.is_text) (text_of_kinds s.tokens s.file s.is_text) (ap (λ (f : Faults). f.mismatch) s.no_fault))
+spelt_is_short bytes m s =
+    let all = s.tokens in
+    let few = few_operations (suc (length all)) all s.file (length all) (s.is_text (suc (length all)) (omega arith)) in
+    subst ListsAreShort s.means (tree_lists all s.file (text_short all s.file s.is_text) (text_of_kinds all s.file s.is_text) few (ap (λ (f : Faults). f.mismatch) s.no_fault))

@@ -20,7 +20,7 @@ use Rattle.xf_read_base.specs.Strings.{decoded}
 use Rattle.xf_read_base.specs.Values.{bytes_of, value_of_entry, attr_of, with_attr, with_entries, kind_by}
 use Rattle.xf_ir.specs.declared.kind.Attr.{Attr}
 use Rattle.xf_ir.specs.Lists.{Each}
-use Rattle.xf_read.specs.Short.{HasShortText, IsShortAttr, HasShortSymbol}
+use Rattle.xf_ir.specs.Bounds.{HasShortText, IsShortAttr, HasShortSymbol}
 use Rattle.xf_read.proofs.OfKind.{SymbolOf, ValueOf, EntryOf, Inside}
 
 -- ---- tokens

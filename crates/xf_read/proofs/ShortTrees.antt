@@ -26,17 +26,21 @@ use Rattle.xf_read.specs.Laws.{IsText}
 
 -- ---- trees
 
+abbrev pub bodies_number : Bodies → ℕ
+bodies_number no_bodies = 0
+bodies_number (body ns close rest) = bodies_number rest + 1
+
 abbrev mutual
   pub NodesShort : Nodes → Type 0
   NodesShort no_nodes = Unit {0}
-  NodesShort (node first p bs rest) = HasShortParts p × (BodiesShort bs × NodesShort rest)
+  NodesShort (node first p bs rest) = HasShortParts p × (((bodies_number bs ≤ 2) × BodiesShort bs) × NodesShort rest)
 
   pub BodiesShort : Bodies → Type 0
   BodiesShort no_bodies = Unit {0}
   BodiesShort (body ns close rest) = NodesShort ns × BodiesShort rest
 
 abbrev pub TreeShort : Tree → Type 0
-TreeShort t = HasShortParts t.parts × BodiesShort t.bodies
+TreeShort t = HasShortParts t.parts × ((bodies_number t.bodies ≤ 2) × BodiesShort t.bodies)
 
 -- what is read, beside the count
 abbrev NodesRead : Nodes × ℕ → Type 0
@@ -46,7 +50,7 @@ abbrev BlockRead : Block × ℕ → Type 0
 BlockRead a = NodesShort a.0.nodes
 
 abbrev BodiesRead : Bodies × ℕ → Type 0
-BodiesRead a = BodiesShort a.0
+BodiesRead a = (bodies_number a.0 ≤ 2) × BodiesShort a.0
 
 abbrev TreeRead : Tree × ℕ → Type 0
 TreeRead a = TreeShort a.0
@@ -112,22 +116,22 @@ braced_short all inner s p depth count at =
     (λ e. tt)
 
 single_short : (one : From Block) → OneShort one → (count at : ℕ) → Has BodiesRead (single one count at)
-single_short one s count at = has_behind BlockRead BodiesRead (one count at) _ (s count at) (λ x w. (w, tt))
+single_short one s count at = has_behind BlockRead BodiesRead (one count at) _ (s count at) (λ x w. (omega arith, (w, tt)))
 
 else_short : (all : List Token) (one : From Block) → OneShort one → (count at : ℕ) → Has BodiesRead (with_else all one count at)
 unfolding with_else
 else_short all one s count at =
     has_behind BlockRead BodiesRead (one count at) _ (s count at) (λ x w.
     has_either BodiesRead (says all x.1 (codes "else")) _ _
-    (λ e. has_behind BlockRead BodiesRead (one x.0.1 (x.1 + 1)) _ (s x.0.1 (x.1 + 1)) (λ y v. (w, (v, tt))))
-    (λ e. (w, tt)))
+    (λ e. has_behind BlockRead BodiesRead (one x.0.1 (x.1 + 1)) _ (s x.0.1 (x.1 + 1)) (λ y v. (omega arith, (w, (v, tt)))))
+    (λ e. (omega arith, (w, tt))))
 
 bodies_short : (all : List Token) (one : From Block) (r : Row) → OneShort one → (count at : ℕ) → Has BodiesRead (bodies_at all one r count at)
 bodies_short all one row.Module s count at = single_short one s count at
 bodies_short all one row.Function s count at = single_short one s count at
 bodies_short all one row.For s count at = single_short one s count at
 bodies_short all one row.If s count at = else_short all one s count at
-bodies_short all one r s count at = tt
+bodies_short all one r s count at = (omega arith, tt)
 
 -- ---- operations and texts
 
@@ -155,7 +159,7 @@ file_short : (f : ℕ) (all : List Token) → Has FileRead (file_at f all)
 file_short f all =
     has_either FileRead (says all 0 (codes "module")) _ _
     (λ e. has_behind TreeRead FileRead (node_at all (nodes_at f all) level.File 0 0 0) _ (node_short all (nodes_at f all) (nodes_short f all) level.File 0 0 0) (λ t w. ended_short all due.Other (written_file t.0.0) t.1 w))
-    (λ e. has_behind NodesRead FileRead (nodes_at f all level.File 1 1 0) _ (nodes_short f all level.File 1 1 0) (λ x w. ended_short all due.Function (unwritten_file x.0.0 x.1) x.1 (no_parts_short, (w, tt))))
+    (λ e. has_behind NodesRead FileRead (nodes_at f all level.File 1 1 0) _ (nodes_short f all level.File 1 1 0) (λ x w. ended_short all due.Function (unwritten_file x.0.0 x.1) x.1 (no_parts_short, (omega arith, (w, tt)))))
 
 pub text_short : (all : List Token) (file : File) → IsText all file → TreeShort file.root
 text_short all file text = subst (Has FileRead) (text (suc (length all)) (omega arith)) (file_short (suc (length all)) all)

@@ -21,6 +21,7 @@ use Rattle.xf_read.specs.declared.fault.SyntaxFault.{SyntaxFault}
 use Rattle.xf_read.specs.declared.fault.SyntaxFault.TheVariants as fault
 use Rattle.xf_read.specs.declared.tree.File.{File}
 use Rattle.xf_read.specs.Tree.{Nodes, no_nodes, node, Bodies, no_bodies, body, Tree, Block, cons}
+pub use Rattle.xf_ir.specs.Limits.{most_open, most_operations}
 
 -- ---- answers
 
@@ -51,14 +52,6 @@ abbrev pub From : Type 0 → Type 0
 From A = ℕ → ℕ → Counted A
 
 -- ---- limits
-
--- how many regions may be open at a token
-abbrev pub most_open : ℕ
-most_open = 32
-
--- how many operations a text may have; a module that is left out counts, and so does a yield
-abbrev pub most_operations : ℕ
-most_operations = 1000000
 
 -- an operation begins at this token, and is one too many: that is its fault, unless it has another at this very token
 abbrev pub too_many : {A : Type 0} → ℕ → Out A Cause → Out A Cause

@@ -1,5 +1,5 @@
 //! What holds of all texts.
-ghost use Rattle.xf_read.specs.Short.{SpeltIsShort};
+ghost use Rattle.xf_read.specs.Short.{SpeltIsShort, SpeltIsWithinLimits};
 ghost use Rattle.xf_read.specs.Spells.{SpellsOne, MisspellsOne, SpellsOrNot};
 ghost use Rattle.xf_read.specs.Written.{TextsAreWritten, TextsReadAgain};
 
@@ -16,8 +16,9 @@ pub fn texts_are_read_as_written()
     ensures again { TextsReadAgain }
 {}
 
-/// No list of an operation of a module that a text spells has 2^32 entries: of its attributes,
-/// operands, results and block arguments, and of the types that it returns.
-pub fn spelt_modules_are_short()
-    ensures { SpeltIsShort }
+/// No list of a module that a text spells has 2^32 entries, and the module is within the limits of
+/// payloads: at most 32 open regions, and at most a million operations.
+pub fn spelt_modules_are_bounded()
+    ensures lists { SpeltIsShort }
+    ensures limits { SpeltIsWithinLimits }
 {}

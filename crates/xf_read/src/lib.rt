@@ -18,7 +18,7 @@ mod walk;
 
 pub use fault::{Cause, SyntaxFault};
 pub use faults::Faults;
-pub use law::{one_meaning, spelt_modules_are_short, texts_are_read_as_written};
+pub use law::{one_meaning, spelt_modules_are_bounded, texts_are_read_as_written};
 pub use read::{ReadModule, read_module};
 pub use reader::syntax;
 pub use scope::{Definer, Named};

@@ -24,10 +24,11 @@ use Rattle.xf_ir.specs.Tree.{Ops, no_ops, op, Regions, no_regions, region}
 use Rattle.xf_ir.specs.Types.{same_types, have_types}
 use Rattle.xf_ir.specs.Valid.{OpsInner, RegionsInner, FunctionsAlone, BlocksAlone, OpsSee, RegionsSee, FunctionsSee, IsValid}
 use Rattle.xf_ir.specs.Walk.{ops_names, regions_names}
+use Rattle.xf_ir.proofs.ShortPlaced.{short_placed}
 use Rattle.xf_ir.proofs.Lists.{once_left, once_right}
 use Rattle.xf_ir_laws.proofs.Obeys.{OpsObey, RegionsObey, FunctionsObey, BlocksObey, blocks_obey}
 use Rattle.xf_ir.proofs.Root.{one_block}
-use Rattle.xf_read.specs.Short.{HasShortLists}
+use Rattle.xf_ir.specs.Bounds.{HasShortLists}
 use Rattle.xf_read.specs.Syntax.{most_operations}
 use Rattle.xf_ir.specs.PrintedNames.{Entry, Names, no_names, with_ops, first_args, next_number, number_of, first_of}
 use Rattle.xf_roundtrip.specs.Printing.{is_core, all_scalar, is_core_op, IsCore}
@@ -262,7 +263,7 @@ module_fits m v core st few =
     let t = m.root in
     let sigs = signatures m in
     let h = root_holder t in
-    let rules = rules_of sigs (placed m) v.regions v.blocks v.types v.attributes core st.lists st.bytes in
+    let rules = rules_of sigs (placed m) v.regions v.blocks v.types v.attributes core (short_placed m st.lists) st.bytes in
     let k = module_kind t.kind v.functions.root in
     let empty = root_empty sigs t.kind k.0 (map (type_at []) t.operands) t.results k.1 v.types.0 in
     let one : t.regions ≡ region [] (block_of t.regions) no_regions = one_block t.kind v.functions.root (map (type_at []) t.operands) t.results t.regions v.regions.0 in

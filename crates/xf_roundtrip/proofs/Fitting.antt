@@ -23,7 +23,7 @@ use Rattle.xf_ir.specs.Types.{same_items, same_type, same_types, have_types, has
 use Rattle.xf_ir.specs.Words.{is_word}
 use Rattle.xf_ir.specs.PrintedNames.{first_args}
 use Rattle.xf_roundtrip.specs.Printing.{is_core, all_scalar}
-use Rattle.xf_read.specs.Short.{IsShortAttr}
+use Rattle.xf_ir.specs.Bounds.{IsShortAttr}
 use Rattle.xf_roundtrip.specs.Printable.{HasBytes}
 use Rattle.xf_roundtrip.proofs.Needs.{IsScalar, AttrFits, ArgsRight, CarriedRight, counted, has_regions}
 use Rattle.xf_roundtrip.proofs.Fits.{lists_are}

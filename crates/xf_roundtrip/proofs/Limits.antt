@@ -17,7 +17,7 @@ use Rattle.xf_read.specs.Written.{SaidNodes, no_nodes_said, node_said, SaidBodie
 use Rattle.xf_ir.specs.PrintedNames.{Names, no_names, with_ops}
 use Rattle.xf_ir.specs.PrintedForm.{is_empty_yield}
 use Rattle.xf_roundtrip.specs.Stored.{IsStored}
-use Rattle.xf_roundtrip.specs.PrintedLaws.{OpsNest, RegionsNest}
+use Rattle.xf_ir.specs.Limits.{OpsNest, RegionsNest}
 use Rattle.xf_roundtrip.specs.Printing.{IsCore, op_says, ops_printed, bodies_printed, functions_printed, module_printed}
 use Rattle.xf_ir.specs.Renamed.{ops_renamed, regions_renamed}
 use Rattle.xf_roundtrip.specs.Saying.{inside, behind}
@@ -92,7 +92,7 @@ mutual
 pub module_few : (m : Module) → IsValid m → IsCore m → IsStored m → tree_count m.root ≤ most_operations → operations (module_printed m) ≤ most_operations
 module_few m v core st few =
     let says_root : Said = op_says no_names m.root in
-    let says = (pieces_say m (printable m v core st few) (plain m core st)).1 in
+    let says = (pieces_say m (printable m v core st few) (plain m core)).1 in
     let t : tree_count (said_meant (module_printed m)).root ≡ tree_count m.root = ap tree_count says.root ∙ ap (λ c. 1 + c) (regions_renamed_count says.names m.root.regions) in
     let c : tree_count (said_meant (module_printed m)).root ≡ operations (module_printed m) = (let p = regions_said_count (body_said (functions_printed (functions_of m)) no_bodies_said) says_root (0 + 1) (inside 0 says_root no_scope) in omega (arith, p)) in
     omega (arith, t, c, few)

@@ -24,7 +24,7 @@ use Rattle.xf_ir.specs.Tree.{Ops, no_ops, op, Regions, no_regions, region, Tree}
 use Rattle.xf_ir.specs.Words.{is_word}
 use Rattle.xf_ir.specs.PrintedNames.{Entry, Names, no_names, with_ops, first_args, number_of, first_of}
 use Rattle.xf_ir.specs.PrintedForm.{is_empty_yield}
-use Rattle.xf_read.specs.Short.{IsShortAttr, HasShortSymbol}
+use Rattle.xf_ir.specs.Bounds.{IsShortAttr, HasShortSymbol}
 use Rattle.xf_roundtrip.specs.Printable.{HasBytes}
 use Rattle.xf_roundtrip.specs.Printing.{dictionary_piece, is_core, row_of, pieces_of, results_of}
 

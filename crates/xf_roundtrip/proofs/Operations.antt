@@ -29,7 +29,7 @@ use Rattle.xf_roundtrip.proofs.Again.{ops_count, regions_count, ops_number, regi
 use Rattle.xf_roundtrip.proofs.Entries.{Counts, counts_left, counts_right, ops_names_count, regions_names_count, Entered, RegionsEntered}
 use Rattle.xf_roundtrip.proofs.Fits.{lists_are}
 use Rattle.xf_roundtrip.proofs.Names.{HasEntry, IsFirst}
-use Rattle.xf_roundtrip.proofs.Numbers.{first_few}
+use Rattle.xf_roundtrip.proofs.Numbers.{first_short}
 use Rattle.xf_roundtrip.proofs.Says.{Keeps, symbol_named, says_it}
 use Rattle.xf_roundtrip.proofs.Yields.{Good, keeps_it, stands_there, last_there, holds_blocks, block_yields}
 
@@ -199,7 +199,7 @@ mutual
           | inl y ↦ inl (last_there sigs h kd ds os (map (type_at env) os) ts rs rest y keeps stands)
           | inr y ↦
               inr (
-                record { shown = y; entry = e.0; says = says_none; number = omega (arith, l1, l2, l3, lk); room = omega (arith, l4, l5, la); small = first_few rs good.0.arguments },
+                record { shown = y; entry = e.0; says = says_none; number = omega (arith, l1, l2, l3, lk); room = omega (arith, l4, l5, la); small = let few = first_short rs good.0.short.arguments in omega (arith, few) },
                 (inside_so, rest_so),
               )
         ],

@@ -20,6 +20,7 @@ use Rattle.xf_ir.specs.Tree.{Ops, no_ops, op, Regions, no_regions, region}
 use Rattle.xf_ir.specs.Types.{have_types, same_types}
 use Rattle.xf_ir.specs.Valid.{FunctionsAlone, BlocksAlone, FunctionsSee, block_of, symbols_before, symbols_of, symbols_in}
 use Rattle.xf_ir.specs.Walk.{ops_names, regions_names, tree_names}
+use Rattle.xf_ir.proofs.ShortPlaced.{IsShortThere, short_placed}
 use Rattle.xf_ir.proofs.Lists.{not_left, once_left, once_right}
 use Rattle.xf_ir_laws.proofs.Obeys.{FunctionsObey, BlocksObey, blocks_obey}
 use Rattle.xf_ir.proofs.Root.{one_block}
@@ -29,13 +30,13 @@ use Rattle.xf_read.specs.Written.{says_yield_last}
 use Rattle.xf_ir.specs.PrintedNames.{Names, first_args, next_number}
 use Rattle.xf_ir.specs.PrintedNames.{no_names as no_numbers}
 use Rattle.xf_roundtrip.specs.Laws.{PrintedSaysTheModule}
-use Rattle.xf_roundtrip.specs.Printable.{AllBytes, HasFewArguments, FunctionsNumber, IsPrintable}
+use Rattle.xf_roundtrip.specs.Printable.{AllBytes, FunctionsNumber, IsPrintable}
 use Rattle.xf_roundtrip.specs.SaidPrinted.{head_by, has_row, row_of, results_printed}
 use Rattle.xf_roundtrip.proofs.Again.{regions_count, regions_number, regions_argument, regions_argument_more, SaysIt, RegionsSo}
 use Rattle.xf_roundtrip.proofs.Entries.{index_of, same_place, Counts, all_counted, counts_left, counts_right, regions_names_count, ops_entered, number_after, argument_after}
 use Rattle.xf_roundtrip.proofs.Fits.{types_are, have_is}
 use Rattle.xf_roundtrip.proofs.Functions.{numbers_of, FunctionsSo, ModuleSo, module_again}
-use Rattle.xf_roundtrip.proofs.Numbers.{first_few}
+use Rattle.xf_roundtrip.proofs.Numbers.{first_short}
 use Rattle.xf_roundtrip.proofs.Operations.{KnowsTypes, types_known, blocks_are, named_by, regions_so}
 use Rattle.xf_roundtrip.proofs.Says.{symbol_named, says_it}
 use Rattle.xf_roundtrip.proofs.Yields.{Good, keeps_it}
@@ -114,7 +115,7 @@ functions_so (op m k ds os ts rs rest) sigs h g n good alone see once c numbers 
         (
           f.before,
           (
-            record { operands = b.operands; results = b.results; entry = entered.0; says = says_named; room = omega (arith, more, argument); small = first_few rs good.0.arguments },
+            record { operands = b.operands; results = b.results; entry = entered.0; says = says_named; room = omega (arith, more, argument); small = let few = first_short rs good.0.short.arguments in omega (arith, few) },
             (so', functions_so rest sigs h g (n + (1 + regions_count rs)) good.1.1 alone.1.1 see.1.1 (once_right inner (ops_names rest) once.1) c_rest numbers.1.1),
           ),
         ),
@@ -135,9 +136,9 @@ module_by k e = absurd cc
 
 -- all rules at once
 pub all_good : (sigs : Signatures) (ps : List Placed) → Each (λ p. has_its_regions p ≡ true) ps → Each (λ p. ends_its_blocks p ≡ true) ps → Each (λ p. has_its_types sigs p ≡ true) ps → Each (λ p. has_its_callee sigs p ≡ true) ps
-    → Each (λ p. has_its_attributes p ≡ true) ps → Each (λ (p : Placed). has_row p.tree.kind ≡ true) ps → Each AllBytes ps → Each HasFewArguments ps → Each (Good sigs) ps
+    → Each (λ p. has_its_attributes p ≡ true) ps → Each (λ (p : Placed). has_row p.tree.kind ≡ true) ps → Each AllBytes ps → Each IsShortThere ps → Each (Good sigs) ps
 all_good sigs [] a b c d e f g h = tt
-all_good sigs (p ∷ ps) a b c d e f g h = (record { regions = a.0; blocks = b.0; types = c.0; callee = d.0; attributes = e.0; row = f.0; bytes = g.0; arguments = h.0 }, all_good sigs ps a.1 b.1 c.1 d.1 e.1 f.1 g.1 h.1)
+all_good sigs (p ∷ ps) a b c d e f g h = (record { regions = a.0; blocks = b.0; types = c.0; callee = d.0; attributes = e.0; row = f.0; bytes = g.0; short = h.0 }, all_good sigs ps a.1 b.1 c.1 d.1 e.1 f.1 g.1 h.1)
 
 module_so : (m : Module) → IsPrintable m → ModuleSo (named_by (λ o. index_of o (tree_names m.root))) m
 module_so m x =
@@ -150,7 +151,7 @@ module_so m x =
     let ts : List PayloadType = m.root.results in
     let k : Kind = m.root.kind in
     let types : List (Option PayloadType) = map (type_at []) os in
-    let good = all_good sigs (placed m) v.regions v.blocks v.types v.callees v.attributes x.rows x.bytes x.arguments in
+    let good = all_good sigs (placed m) v.regions v.blocks v.types v.callees v.attributes x.rows x.bytes (short_placed m x.lists) in
     let keeps = keeps_it sigs _ good.0 in
     let by = module_by k v.functions.root in
     let b = bare os (type_at []) ts (sym (by.row sigs [] types ts) ∙ keeps.fits) in

@@ -16,6 +16,7 @@ use Rattle.xf_ir.specs.Placed.{Typed, type_or, type_at, Holder, holder_of, place
 use Rattle.xf_ir.specs.Tree.{Ops, no_ops, op, Regions, no_regions, region}
 use Rattle.xf_ir.specs.Valid.{OpsInner, RegionsInner, FunctionsAlone, BlocksAlone, OpsSee, RegionsSee, FunctionsSee, block_of}
 use Rattle.xf_ir.specs.Walk.{ops_names, regions_names}
+use Rattle.xf_ir.proofs.ShortPlaced.{short_placed}
 use Rattle.xf_ir.proofs.Lists.{not_left, once_left, once_right}
 use Rattle.xf_ir_laws.proofs.Obeys.{OpsObey, RegionsObey, FunctionsObey, BlocksObey, blocks_obey}
 use Rattle.xf_ir.proofs.Root.{one_block}
@@ -98,9 +99,9 @@ mutual
       let keeps = keeps_it sigs _ good.0 in
       let types = types_known env names os w see.0 in
       let blocks = blocks_are sigs h.gives kd ds (map (type_at env) os) ts rs (inner_module kd inner.0) keeps in
-      let head = head_same sigs h.gives names (number_of (names.entry m.0)) (first_of (names.entry m.0)) kd ds os (map (type_at env) os) ts rs keeps types p.0 (all_narrow env os plain see.0) (all_scalar_at env os plain) p.1.0 (first_plain rs p.1.1.1.0) p.1.1.0 in
-      let inside_same = bodies_same rs sigs kd (map (type_at env) os) ts env names m (next_number k ts) (a + length (first_args rs)) k a 0 (first_args rs) blocks.args good.1.0 see.1.0 w e.0 e.1.0 inner.1.0 plain p.1.1.1.0 in
-      let rest_same = ops_same rest sigs h ((done m (length ts), ts) ∷ env) names (regions_number (next_number k ts) rs) (regions_argument (a + length (first_args rs)) rs) good.1.1 see.1.1 (knows_more_results env names m k a ts (first_args rs) e.0 w) e.1.1 inner.1.1 ((p.0, p.1.0), plain) p.1.1.1.1 in
+      let head = head_same sigs h.gives names (number_of (names.entry m.0)) (first_of (names.entry m.0)) kd ds os (map (type_at env) os) ts rs keeps types good.0.short.results (all_narrow env os plain see.0) (all_scalar_at env os plain) p.0 (first_plain rs p.1.1.0) p.1.0 in
+      let inside_same = bodies_same rs sigs kd (map (type_at env) os) ts env names m (next_number k ts) (a + length (first_args rs)) k a 0 (first_args rs) blocks.args good.1.0 see.1.0 w e.0 e.1.0 inner.1.0 plain p.1.1.0 in
+      let rest_same = ops_same rest sigs h ((done m (length ts), ts) ∷ env) names (regions_number (next_number k ts) rs) (regions_argument (a + length (first_args rs)) rs) good.1.1 see.1.1 (knows_more_results env names m k a ts (first_args rs) e.0 w) e.1.1 inner.1.1 ((good.0.short.results, p.0), plain) p.1.1.1 in
       λ j. cond (is_empty_yield kd ds os) (rest_same j) (node_said (head j) (inside_same j) (rest_same j))
 
   bodies_same : (rs : Regions) (sigs : Signatures) (kd : Kind) (types : List (Option PayloadType)) (ts : List PayloadType) (env : Typed) (names : Names) (m : OpName) (k a k0 a0 i : ℕ) (first : List PayloadType) → ArgsSo i first rs → RegionsObey (Good sigs) (holder_of kd types ts) env m i rs
@@ -126,9 +127,9 @@ functions_same (op m k ds os ts rs rest) sigs h good alone see once p =
     let entered = ops_entered one no_numbers names one_once (same_entries names (ops_names one)) in
     let known = types_known [] names os (nothing_seen names) see.0 in
     let blocks = blocks_are sigs h.gives k ds types ts rs f.other keeps in
-    let head = head_same sigs h.gives names (number_of (names.entry m.0)) (first_of (names.entry m.0)) k ds os types ts rs keeps known p.0 (all_narrow [] os tt see.0) (all_scalar_at [] os tt) p.1.0 (first_plain rs p.1.1.1.0) p.1.1.0 in
-    let inside_same = bodies_same rs sigs k types ts [] names m (next_number 0 ts) (0 + length (first_args rs)) 0 0 0 (first_args rs) blocks.args good.1.0 see.1.0 (nothing_seen names) entered.0 entered.1.0 alone.1.0 tt p.1.1.1.0 in
-    let rest_same = functions_same rest sigs h good.1.1 alone.1.1 see.1.1 (once_right inner (ops_names rest) once.1) p.1.1.1.1 in
+    let head = head_same sigs h.gives names (number_of (names.entry m.0)) (first_of (names.entry m.0)) k ds os types ts rs keeps known good.0.short.results (all_narrow [] os tt see.0) (all_scalar_at [] os tt) p.0 (first_plain rs p.1.1.0) p.1.0 in
+    let inside_same = bodies_same rs sigs k types ts [] names m (next_number 0 ts) (0 + length (first_args rs)) 0 0 0 (first_args rs) blocks.args good.1.0 see.1.0 (nothing_seen names) entered.0 entered.1.0 alone.1.0 tt p.1.1.0 in
+    let rest_same = functions_same rest sigs h good.1.1 alone.1.1 see.1.1 (once_right inner (ops_names rest) once.1) p.1.1.1 in
     λ j. node_said (head j) (inside_same j) (rest_same j)
 
 -- ---- modules
@@ -147,7 +148,7 @@ module_same m x p =
     let ts : List PayloadType = m.root.results in
     let k : Kind = m.root.kind in
     let types : List (Option PayloadType) = map (type_at []) os in
-    let good = all_good sigs (placed m) v.regions v.blocks v.types v.callees v.attributes x.rows x.bytes x.arguments in
+    let good = all_good sigs (placed m) v.regions v.blocks v.types v.callees v.attributes x.rows x.bytes (short_placed m x.lists) in
     let keeps = keeps_it sigs _ good.0 in
     let by = module_by k v.functions.root in
     let b = bare os (type_at []) ts (sym (by.row sigs [] types ts) ∙ keeps.fits) in

@@ -38,7 +38,7 @@ use Rattle.xf_ir.specs.RuleAttributes.{is_index as is_index_width, fits_bits, va
 use Rattle.xf_ir.specs.Types.{element_of}
 use Rattle.xf_ir.specs.PrintedAttributes.{string_text}
 use Rattle.xf_ir.specs.PrintedNames.{Names}
-use Rattle.xf_read.specs.Short.{HasShortText, HasShortSymbol}
+use Rattle.xf_ir.specs.Bounds.{HasShortText, HasShortSymbol}
 use Rattle.xf_roundtrip.specs.Printable.{HasBytes}
 use Rattle.xf_roundtrip.specs.Printing.{part_digits, use_of, operand_width, has_minus, digits_of, literal_piece, number_said, attribute_value, attribute_of, dictionary_piece, module_symbol, function_symbol, params_from, pairs_from, results_piece, function_results, given_piece, carried_piece, loop_width, chosen_piece, is_core, row_of, pieces_of, results_of, widths}
 use Rattle.xf_roundtrip.proofs.Dictionaries.{string_again}

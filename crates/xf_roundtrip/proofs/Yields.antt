@@ -10,6 +10,7 @@ use Rattle.xf_ir.specs.declared.kind.Attr.{Attr}
 use Rattle.xf_ir.specs.declared.kind.Kind.{Kind}
 use Rattle.xf_ir.specs.declared.kind.Kind.TheVariants as kind
 use Rattle.xf_ir.specs.declared.name.ValueName.{ValueName}
+use Rattle.xf_ir.specs.Bounds.{HasShortLists}
 use Rattle.xf_ir.specs.Calls.{Signatures, has_its_callee}
 use Rattle.xf_ir.specs.Kinds.{ends, ends_for, is_endless}
 use Rattle.xf_ir.specs.Lists.{is_empty}
@@ -25,7 +26,7 @@ use Rattle.xf_read.specs.Syntax.{ends_open, is_yield}
 use Rattle.xf_read.specs.Written.{SaidNodes, no_nodes_said, node_said, SaidBodies, says_yield_last}
 use Rattle.xf_ir.specs.PrintedNames.{Names}
 use Rattle.xf_ir.specs.PrintedForm.{is_empty_yield}
-use Rattle.xf_roundtrip.specs.Printable.{AllBytes, HasFewArguments}
+use Rattle.xf_roundtrip.specs.Printable.{AllBytes}
 use Rattle.xf_roundtrip.specs.SaidPrinted.{has_row, row_of, results_printed, ops_printed}
 use Rattle.xf_roundtrip.proofs.Again.{LastYield, ends_empty}
 use Rattle.xf_roundtrip.proofs.Says.{Keeps}
@@ -39,7 +40,7 @@ pub record Good (sigs : Signatures) (p : Placed) : Type 0 where
   pub attributes : has_its_attributes p ≡ true
   pub row : has_row p.tree.kind ≡ true
   pub bytes : AllBytes p
-  pub arguments : HasFewArguments p
+  pub short : HasShortLists p.tree
 
 pub keeps_it : (sigs : Signatures) (p : Placed) → Good sigs p → Keeps sigs p.holder.gives p.tree.kind p.tree.attrs p.types p.tree.results p.tree.regions
 keeps_it sigs p g =

@@ -1,5 +1,4 @@
--- Modules of scalars alone, with few results of each operation.
-use Rattle.std.specs.Prelude.{◌^◌, ◌<◌, length}
+-- Modules of scalars alone.
 use Rattle.xf_type.specs.declared.payload_type.PayloadType.{PayloadType}
 use Rattle.xf_type.specs.declared.payload_type.PayloadType.TheVariants.{Scalar, Tensor}
 use Rattle.xf_ir.specs.declared.op.Module.{Module}
@@ -12,11 +11,11 @@ abbrev pub IsScalar : PayloadType → Type 0
 IsScalar (Scalar w) = Unit {0}
 IsScalar (Tensor s) = ⊥
 
--- operations have fewer than 2 ^ 32 results, and these, block arguments and what functions return are scalars
+-- results, block arguments and what functions return are scalars
 abbrev mutual
   pub OpsPlain : Ops → Type 0
   OpsPlain no_ops = Unit {0}
-  OpsPlain (op n k ds os ts rs rest) = (length ts < 2 ^ 32) × (Each IsScalar ts × (Each IsScalar (returned_types k) × (RegionsPlain rs × OpsPlain rest)))
+  OpsPlain (op n k ds os ts rs rest) = Each IsScalar ts × (Each IsScalar (returned_types k) × (RegionsPlain rs × OpsPlain rest))
 
   pub RegionsPlain : Regions → Type 0
   RegionsPlain no_regions = Unit {0}

@@ -1,12 +1,12 @@
 -- Modules whose printed form says them again: valid ones of builtin, func, arith and scf.
-use Rattle.std.specs.Prelude.{◌^◌, ◌<◌, ◌≤◌, length}
+use Rattle.std.specs.Prelude.{◌^◌, ◌<◌}
 use Rattle.xf_type.specs.declared.attribute.AttrValue.{AttrValue}
 use Rattle.xf_type.specs.declared.attribute.AttrValue.TheVariants as attr
 use Rattle.xf_ir.specs.declared.kind.Attr.{Attr}
 use Rattle.xf_ir.specs.declared.op.Module.{Module}
+use Rattle.xf_ir.specs.Bounds.{ListsAreShort}
 use Rattle.xf_ir.specs.Lists.{Each}
 use Rattle.xf_ir.specs.Placed.{Placed, placed, Everywhere, functions_of}
-use Rattle.xf_ir.specs.RuleBlocks.{block_args}
 use Rattle.xf_ir.specs.Tree.{Ops, no_ops, op}
 use Rattle.xf_ir.specs.Valid.{IsValid}
 use Rattle.xf_ir.specs.PrintedNames.{no_names, with_ops}
@@ -21,10 +21,6 @@ HasBytes (attr.Text bytes) = Each (λ b. b < 256) bytes
 abbrev pub AllBytes : Placed → Type 0
 AllBytes p = Each (λ (d : Attr). HasBytes d.value) p.tree.attrs
 
--- no block has more than 2 ^ 32 arguments
-abbrev pub HasFewArguments : Placed → Type 0
-HasFewArguments p = Each (λ ts. length ts ≤ 2 ^ 32) (block_args p.tree.regions)
-
 -- the numbers of each function's values are numbers: fewer than 2 ^ 64 of results, and of block arguments
 abbrev pub FunctionsNumber : Ops → Type 0
 FunctionsNumber no_ops = Unit {0}
@@ -35,5 +31,5 @@ pub record IsPrintable (m : Module) : Type 0 where
   pub valid : IsValid m
   pub rows : Everywhere (λ p. has_row p.tree.kind) m
   pub bytes : Each AllBytes (placed m)
-  pub arguments : Each HasFewArguments (placed m)
+  pub lists : ListsAreShort m
   pub numbers : FunctionsNumber (functions_of m)

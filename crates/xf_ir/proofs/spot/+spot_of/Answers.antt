@@ -10,14 +10,15 @@ use Rattle.xf_ir.proofs.spot.+spot_of.Goals as goal
 pub place_number-requires : goal.place_number-requires
 place_number-requires t c =
     let e : regions_length c.args.op.now.regions ≡ length c.op.inside.regions.items = ap (λ (x : Tree). regions_length x.regions) (sym c.op.view_is) ∙ long_regions c.op.inside.regions.items in
-    omega (arith, e, ap length c.deref-block-items.ensures.value)
+    let few = c.requires.lists.regions in
+    omega (arith, e, few, ap length c.deref-block-items.ensures.value)
 
 pub place_number-requires-then-eq : goal.place_number-requires-then-eq
 place_number-requires-then-eq t c =
     let bs = c.op.inside.regions.items in
     let b = c.block-item.result in
     let i = c.loop-region.region in
-    let s = rw (← c.op.view_is) at c.requires.inside in
+    let s = rw (← c.op.view_is) at c.requires.lists.blocks in
     let is : get_or bs i b ≡ b = sym (c.block-item.is ∙ ap (λ (xs : List Body). get_or xs i b) c.deref-block-items.ensures.value) in
     let short : ops_length b.ops < 2 ^ 32 = subst (λ (x : Body). ops_length x.ops < 2 ^ 32) is (short_length bs i b (omega (arith, ap length c.deref-block-items.ensures.value)) s) in
     let long : ops_length b.ops ≡ length c.block.inside.ops.items = ap (λ (x : Body). ops_length x.ops) (sym c.block.view_is) ∙ long_ops c.block.inside.ops.items in
