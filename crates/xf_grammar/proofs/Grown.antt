@@ -2,7 +2,7 @@
 use Rattle.std.proofs.Common.{◌≡◌, ℕ, zero, suc, ◌+◌, ◌-◌, ◌*◌, ◌≤◌, true, false, nat_lt, List, length, Ok, Err, arith}
 use Rattle.std.proofs.Math.Nat.{mul-suc}
 use Rattle.xf_lex.specs.declared.token.Token.{Token}
-use Rattle.xf_grammar.specs.Tokens.{seen, comma, looks}
+use Rattle.xf_grammar.specs.Tokens.{terminal_at, comma, looks}
 use Rattle.xf_grammar.specs.Reading.{Out, Reader, more}
 use Rattle.xf_grammar.specs.Grammar.{Grammar, finish, refuse, take, peek, both, listed, read}
 use Rattle.xf_grammar.proofs.Kept.{Has, has_either, has_behind, too_many_has}
@@ -11,8 +11,8 @@ use Rattle.xf_grammar.proofs.Kept.{Has, has_either, has_behind, too_many_has}
 abbrev pub Grows : {A D T : Type 0} → (A → ℕ) → ℕ → List Token → Grammar A D T → ℕ → Type 0
 Grows {A} size n all (finish add tell) at = (h : A) → size (add h) ≤ size h + n
 Grows size n all (refuse due) at = Unit {0}
-Grows size n all (take test on off) at = (test (seen all at) ≡ true → Grows size n all (on (seen all at) at) (at + 1)) × (test (seen all at) ≡ false → Grows size n all off at)
-Grows size n all (peek test on off) at = (test (seen all at) ≡ true → Grows size n all on at) × (test (seen all at) ≡ false → Grows size n all off at)
+Grows size n all (take test on off) at = (test (terminal_at all at) ≡ true → Grows size n all (on (terminal_at all at) at) (at + 1)) × (test (terminal_at all at) ≡ false → Grows size n all off at)
+Grows size n all (peek test on off) at = (test (terminal_at all at) ≡ true → Grows size n all on at) × (test (terminal_at all at) ≡ false → Grows size n all off at)
 Grows size n all (both g k) at = (a : ℕ) × ((b : ℕ) × ((a + b ≤ n) × (Grows size a all g at × ((i : ℕ) → Grows size b all k i))))
 Grows size n all (listed others full g) at = (a : ℕ) × ((a * (others + 1) ≤ n) × ((i : ℕ) → Grows size a all g i))
 
@@ -48,8 +48,8 @@ pub grown : {A D T : Type 0} (size : A → ℕ) (n : ℕ) (g : Grammar A D T) (a
 grown size n (finish add tell) all h at k = k h
 grown size n (refuse due) all h at k = tt
 grown {A} size n (take test on off) all h at k =
-    has_either (λ y. size y ≤ size h + n) (test (seen all at)) _ _ (λ e. grown size n (on (seen all at) at) all h (at + 1) (k.0 e)) (λ e. grown size n off all h at (k.1 e))
-grown size n (peek test on off) all h at k = has_either (λ y. size y ≤ size h + n) (test (seen all at)) _ _ (λ e. grown size n on all h at (k.0 e)) (λ e. grown size n off all h at (k.1 e))
+    has_either (λ y. size y ≤ size h + n) (test (terminal_at all at)) _ _ (λ e. grown size n (on (terminal_at all at) at) all h (at + 1) (k.0 e)) (λ e. grown size n off all h at (k.1 e))
+grown size n (peek test on off) all h at k = has_either (λ y. size y ≤ size h + n) (test (terminal_at all at)) _ _ (λ e. grown size n on all h at (k.0 e)) (λ e. grown size n off all h at (k.1 e))
 grown size n (both g j) all h at k =
     let a : ℕ = k.0 in
     let b : ℕ = k.1.0 in

@@ -1,7 +1,7 @@
 -- What a grammar keeps of what was read.
 use Rattle.std.proofs.Common.{◌≡◌, ℕ, zero, suc, ◌+◌, ◌-◌, ◌==◌, Bool, true, false, cond, nat_lt, List, length, Ok, Err, refl}
 use Rattle.xf_lex.specs.declared.token.Token.{Token}
-use Rattle.xf_grammar.specs.Tokens.{seen, comma, looks}
+use Rattle.xf_grammar.specs.Tokens.{terminal_at, comma, looks}
 use Rattle.xf_grammar.specs.Reading.{Out, ◌>>=◌, one_too_many, Reader, more}
 use Rattle.xf_grammar.specs.Grammar.{Grammar, finish, refuse, take, peek, both, listed, read}
 
@@ -9,8 +9,8 @@ use Rattle.xf_grammar.specs.Grammar.{Grammar, finish, refuse, take, peek, both, 
 abbrev pub Keeps : {A D T : Type 0} → (A → Type 0) → List Token → Grammar A D T → ℕ → Type 0
 Keeps {A} P all (finish add tell) at = (h : A) → P h → P (add h)
 Keeps P all (refuse due) at = Unit {0}
-Keeps P all (take test on off) at = (test (seen all at) ≡ true → Keeps P all (on (seen all at) at) (at + 1)) × (test (seen all at) ≡ false → Keeps P all off at)
-Keeps P all (peek test on off) at = (test (seen all at) ≡ true → Keeps P all on at) × (test (seen all at) ≡ false → Keeps P all off at)
+Keeps P all (take test on off) at = (test (terminal_at all at) ≡ true → Keeps P all (on (terminal_at all at) at) (at + 1)) × (test (terminal_at all at) ≡ false → Keeps P all off at)
+Keeps P all (peek test on off) at = (test (terminal_at all at) ≡ true → Keeps P all on at) × (test (terminal_at all at) ≡ false → Keeps P all off at)
 Keeps P all (both g k) at = Keeps P all g at × ((n : ℕ) → Keeps P all k n)
 Keeps P all (listed others full g) at = (n : ℕ) → Keeps P all g n
 
@@ -43,8 +43,8 @@ more_kept P (suc f) n full all item s h at p =
 pub kept : {A D T : Type 0} (P : A → Type 0) (g : Grammar A D T) (all : List Token) (h : A) (at : ℕ) → Keeps P all g at → P h → Has P (read g all h at)
 kept P (finish add tell) all h at k p = k h p
 kept P (refuse due) all h at k p = tt
-kept P (take test on off) all h at k p = has_either P (test (seen all at)) _ _ (λ e. kept P (on (seen all at) at) all h (at + 1) (k.0 e) p) (λ e. kept P off all h at (k.1 e) p)
-kept P (peek test on off) all h at k p = has_either P (test (seen all at)) _ _ (λ e. kept P on all h at (k.0 e) p) (λ e. kept P off all h at (k.1 e) p)
+kept P (take test on off) all h at k p = has_either P (test (terminal_at all at)) _ _ (λ e. kept P (on (terminal_at all at) at) all h (at + 1) (k.0 e) p) (λ e. kept P off all h at (k.1 e) p)
+kept P (peek test on off) all h at k p = has_either P (test (terminal_at all at)) _ _ (λ e. kept P on all h at (k.0 e) p) (λ e. kept P off all h at (k.1 e) p)
 kept P (both g j) all h at k p = has_behind P P (read g all h at) (λ x. read j all x.0 x.1) (kept P g all h at k.0 p) (λ x q. kept P j all x.0 x.1 (k.1 x.1) q)
 kept P (listed others full g) all h at k p =
     has_behind P P (read g all h at) (λ x. more (length all) others full all (read g) x.0 x.1) (kept P g all h at (k at) p) (λ x q. more_kept P (length all) others full all (read g) (λ h' n r. kept P g all h' n (k n) r) x.0 x.1 q)

@@ -1,5 +1,5 @@
 pub mod Grammar
-pub mod Laid
-pub mod Place
+pub mod Layout
+pub mod Lookahead
 pub mod Reading
 pub mod Tokens

@@ -9,9 +9,9 @@ use Rattle.xf_lex.specs.declared.token.Token.{Token}
 use Rattle.xf_type.specs.Bytes.{is_digit}
 
 -- a token by its kind, and by its bytes where they tell more than the kind; or the end of the text
-pub data Seen : Type 0 where
-  the_end : Seen
-  sees : (kind : TokenKind) (bytes : List ℕ) → Seen
+pub data Terminal : Type 0 where
+  the_end : Terminal
+  terminal : (kind : TokenKind) (bytes : List ℕ) → Terminal
 
 -- an arrow and a mark are told by their kinds
 abbrev pub telling : TokenKind → List ℕ → List ℕ
@@ -19,43 +19,43 @@ telling kind.Arrow bytes = []
 telling (kind.Mark b) bytes = []
 telling k bytes = bytes
 
-abbrev pub seen_of : Option Token → Seen
-seen_of None = the_end
-seen_of (Some t) = sees t.kind (telling t.kind t.bytes)
+abbrev pub terminal_of : Option Token → Terminal
+terminal_of None = the_end
+terminal_of (Some t) = terminal t.kind (telling t.kind t.bytes)
 
 -- what stands at a number in a list of tokens; behind the last token the end
-abbrev pub seen : List Token → ℕ → Seen
-seen all at = seen_of (slice_get all at)
+abbrev pub terminal_at : List Token → ℕ → Terminal
+terminal_at all at = terminal_of (slice_get all at)
 
 -- ---- tests
 
 abbrev pub same_kind : TokenKind → TokenKind → Bool
 same_kind = (kind_eq.ghosts).eq
 
-abbrev pub is_kind : TokenKind → Seen → Bool
+abbrev pub is_kind : TokenKind → Terminal → Bool
 is_kind k the_end = false
-is_kind k (sees j bytes) = same_kind j k
+is_kind k (terminal j bytes) = same_kind j k
 
 -- the bytes of a word; none where it is no word
-abbrev pub word_of : Seen → List ℕ
-word_of (sees kind.Word bytes) = bytes
+abbrev pub word_of : Terminal → List ℕ
+word_of (terminal kind.Word bytes) = bytes
 word_of x = []
 
-abbrev pub is_word : List ℕ → Seen → Bool
-is_word w (sees kind.Word bytes) = bytes_eq bytes w
+abbrev pub is_word : List ℕ → Terminal → Bool
+is_word w (terminal kind.Word bytes) = bytes_eq bytes w
 is_word w x = false
 
 -- whether a token of a kind stands there
 abbrev pub looks : List Token → ℕ → TokenKind → Bool
-looks all at k = is_kind k (seen all at)
+looks all at k = is_kind k (terminal_at all at)
 
 -- whether a word stands there
 abbrev pub says : List Token → ℕ → List ℕ → Bool
-says all at w = is_word w (seen all at)
+says all at w = is_word w (terminal_at all at)
 
 -- the bytes of the word that stands there
 abbrev pub word_at : List Token → ℕ → List ℕ
-word_at all at = word_of (seen all at)
+word_at all at = word_of (terminal_at all at)
 
 -- ---- marks
 
@@ -95,23 +95,23 @@ close_brace = kind.Mark 125
 abbrev pub number_of : List ℕ → ℕ
 number_of digits = min (digits_value 10 digits) (2 ^ 64 - 1)
 
-abbrev pub digits_of : Seen → List ℕ
-digits_of (sees kind.Integer bytes) = bytes
-digits_of (sees kind.Hash (b ∷ bytes)) = bytes
+abbrev pub digits_of : Terminal → List ℕ
+digits_of (terminal kind.Integer bytes) = bytes
+digits_of (terminal kind.Hash (b ∷ bytes)) = bytes
 digits_of x = []
 
 -- the number that an integer, or a # and digits, writes there
 abbrev pub number_at : List Token → ℕ → ℕ
-number_at all at = number_of (digits_of (seen all at))
+number_at all at = number_of (digits_of (terminal_at all at))
 
 -- a # and digits, as behind a value's name
 abbrev pub starts_digit : List ℕ → Bool
 starts_digit [] = false
 starts_digit (b ∷ bs) = is_digit b
 
-abbrev pub is_index : Seen → Bool
-is_index (sees kind.Hash (b ∷ bytes)) = starts_digit bytes
+abbrev pub is_index : Terminal → Bool
+is_index (terminal kind.Hash (b ∷ bytes)) = starts_digit bytes
 is_index x = false
 
 abbrev pub is_index_at : List Token → ℕ → Bool
-is_index_at all at = is_index (seen all at)
+is_index_at all at = is_index (terminal_at all at)

@@ -12,13 +12,13 @@ use Rattle.xf_ir.specs.Tree.{Ops, no_ops, op, Regions, no_regions, region, Tree}
 use Rattle.xf_ir.specs.Walk.{ops_names, regions_names, ops_find, regions_find, tree_find}
 use Rattle.xf_ir.specs.Lists.{Each, Once, same_name, is_among}
 use Rattle.xf_ir.specs.Places.{Seen, done, inside, results_of, args_of, sees, AllSeen}
-use Rattle.xf_ir.specs.Kinds.{is_container, ends}
+use Rattle.xf_ir.specs.Kinds.{is_container, is_terminator}
 use Rattle.xf_ir.specs.Uses.{ops_operands, regions_operands, tree_operands}
 use Rattle.xf_ir.specs.Choices.{bare, scope_of, scope_at, stands_before, MayErase, IsDead, IsNormal, dead_code, IsFirstDead}
 use Rattle.xf_ir.specs.Used.{with_uses, goes_unused, ops_first, regions_first}
 use Rattle.xf_ir.specs.Valid.{IsValid, block_of, OpsSee, RegionsSee, FunctionsSee}
 use Rattle.xf_ir.proofs.Lists.{name_is, own_name, not_left, not_right, once_left, once_right, absent_before, apart_names, each_both}
-use Rattle.xf_ir.proofs.Found.{tree, none_of, first_cases, found_in, found_name, found_name_regions, found_named_regions, lost_name, lost_name_regions, OpsWhere, RegionsWhere, where_found_regions, block_where, Gives, Outside}
+use Rattle.xf_ir.proofs.Found.{tree, none_of, first_cases, found_in, found_name, found_name_regions, found_named_regions, lost_name, lost_name_regions, OpsWhere, RegionsWhere, where_found_regions, block_where, HasResults, Outside}
 use Rattle.xf_ir.proofs.Root.{one_block}
 use Rattle.xf_ir.proofs.Bare.{once_bare, found_inside}
 
@@ -95,14 +95,14 @@ all_fit name count ss (v ∷ vs) f h = (f v h.0, all_fit name count ss vs f h.1)
 
 module _ (name : OpName) (count : ℕ) where
   mutual
-    ops_fit : (ss : List Seen) (ops : Ops) → SeenFit name count ss → OpsWhere name (Gives count) ops → OpsSee ss ops → Each (Fits name count) (ops_operands ops)
+    ops_fit : (ss : List Seen) (ops : Ops) → SeenFit name count ss → OpsWhere name (HasResults count) ops → OpsSee ss ops → Each (Fits name count) (ops_operands ops)
     ops_fit ss no_ops f w h = tt
     ops_fit ss (op n k ds os ts rs rest) f w h =
         let more : SeenFit name count (done n (length ts) ∷ ss) = λ v s. elim (or_cases (is_some (results_of n (length ts) v)) (sees ss v) s) [ inl a ↦ fit_result name n count (length ts) v w.0 a | inr a ↦ f v a ] in
         each_both (Fits name count) os (regions_operands rs ++ ops_operands rest) (all_fit name count ss os f h.0)
         (each_both (Fits name count) (regions_operands rs) (ops_operands rest) (regions_fit ss n 0 rs f w.1.0 h.1.0) (ops_fit (done n (length ts) ∷ ss) rest more w.1.1 h.1.1))
 
-    regions_fit : (ss : List Seen) (n : OpName) (i : ℕ) (rs : Regions) → SeenFit name count ss → RegionsWhere name (Gives count) rs → RegionsSee ss n i rs → Each (Fits name count) (regions_operands rs)
+    regions_fit : (ss : List Seen) (n : OpName) (i : ℕ) (rs : Regions) → SeenFit name count ss → RegionsWhere name (HasResults count) rs → RegionsSee ss n i rs → Each (Fits name count) (regions_operands rs)
     regions_fit ss n i no_regions f w h = tt
     regions_fit ss n i (region args ops rest) f w h =
         let more : SeenFit name count (inside n i (length args) ∷ ss) = λ v s. elim (or_cases (is_some (args_of n i (length args) v)) (sees ss v) s) [ inl a ↦ fit_arg name n i count (length args) v a | inr a ↦ f v a ] in
@@ -111,16 +111,16 @@ module _ (name : OpName) (count : ℕ) where
   none_seen : SeenFit name count []
   none_seen v s = absurd (cc)
 
-  functions_fit : (fs : Ops) → OpsWhere name (Gives count) fs → FunctionsSee fs → Each (Fits name count) (ops_operands fs)
+  functions_fit : (fs : Ops) → OpsWhere name (HasResults count) fs → FunctionsSee fs → Each (Fits name count) (ops_operands fs)
   functions_fit no_ops w h = tt
   functions_fit (op n k ds os ts rs rest) w h =
       each_both (Fits name count) os (regions_operands rs ++ ops_operands rest) (all_fit name count [] os none_seen h.0)
       (each_both (Fits name count) (regions_operands rs) (ops_operands rest) (regions_fit [] n 0 rs none_seen w.1.0 h.1.0) (functions_fit rest w.1.1 h.1.1))
 
   -- the one block of a module has all that its regions have
-  module_fit : (rs : Regions) → rs ≡ region [] (block_of rs) no_regions → RegionsWhere name (Gives count) rs → FunctionsSee (block_of rs) → Each (Fits name count) (regions_operands rs)
+  module_fit : (rs : Regions) → rs ≡ region [] (block_of rs) no_regions → RegionsWhere name (HasResults count) rs → FunctionsSee (block_of rs) → Each (Fits name count) (regions_operands rs)
   module_fit rs e w h =
-      subst (λ x. Each (Fits name count) (regions_operands x)) (sym e) (each_both (Fits name count) (ops_operands (block_of rs)) [] (functions_fit (block_of rs) (block_where name (Gives count) rs w) h) tt)
+      subst (λ x. Each (Fits name count) (regions_operands x)) (sym e) (each_both (Fits name count) (ops_operands (block_of rs)) [] (functions_fit (block_of rs) (block_where name (HasResults count) rs w) h) tt)
 
 no_results : (n : OpName) (count : ℕ) (vs : List ValueName) → Each (Fits n count) vs → Each (Outside (results_of n count)) vs → Each (λ v. is_result n v ≡ false) vs
 no_results n count [] f o = tt
@@ -132,7 +132,7 @@ pub dead_not_used : (m : Module) (t : Tree) → IsValid m → regions_find t.nam
 dead_not_used m t v found d =
     let count = length t.results in
     let rs = m.root.regions in
-    let w = where_found_regions t.name (Gives count) t rs v.names.once.1 found refl in
+    let w = where_found_regions t.name (HasResults count) t rs v.names.once.1 found refl in
     let f : Each (Fits t.name count) (tree_operands m.root) = each_both (Fits t.name count) m.root.operands (regions_operands rs)
     (all_fit t.name count [] m.root.operands (none_seen t.name count) v.uses.root)
     (module_fit t.name count rs (one_block m.root.kind v.functions.root _ _ rs v.regions.0) w v.uses.functions) in
@@ -349,7 +349,7 @@ module _ (m : Module) (target : OpName) (v : IsValid m) where
       let w = found_inside m target name r.0 v.names r.1 in
       let t = w.0 in
       let p : goes_unused (used_of m) t ≡ true = subst (λ x. goes_unused (used_of m) x ≡ true) w.2 r.2 in
-      let q = passes (is_container t.kind) (ends t.kind) (set.contains (used_of m) t.name.0) p in
+      let q = passes (is_container t.kind) (is_terminator t.kind) (set.contains (used_of m) t.name.0) p in
       record {
         within = found_name_regions name r.0 (scope_at m target) r.1;
         tree = t;
@@ -371,7 +371,7 @@ module _ (m : Module) (target : OpName) (v : IsValid m) where
       let g = subst (λ x. regions_find x m.root.regions ≡ Some e.tree) (sym n) e.inside in
       let a : goes_unused (used_of m) w.0 ≡ false = subst (λ x. goes_unused (used_of m) x ≡ false) w.2 h in
       let k : goes_unused (used_of m) e.tree ≡ false = subst (λ x. goes_unused (used_of m) x ≡ false) s a in
-      fails (is_container e.tree.kind) (ends e.tree.kind) (set.contains (used_of m) e.tree.name.0) k e.suits.inner e.suits.goes (dead_not_used m e.tree v g e.suits)
+      fails (is_container e.tree.kind) (is_terminator e.tree.kind) (set.contains (used_of m) e.tree.name.0) k e.suits.inner e.suits.goes (dead_not_used m e.tree v g e.suits)
 
   none_applies : regions_first (goes_unused (used_of m)) (scope_at m target) ≡ None → (name : OpName) → MayErase m target name → ⊥
   none_applies h name e =

@@ -9,7 +9,7 @@ use Rattle.xf_ir.specs.declared.kind.Attr.{Attr}
 use Rattle.xf_ir.specs.Tree.{Ops, no_ops, op, Regions, no_regions, region, Tree}
 use Rattle.xf_ir.specs.Walk.{ops_names, regions_names, tree_names, first_of, ops_find, regions_find, tree_find}
 use Rattle.xf_ir.specs.Lists.{same_name, is_among, Once}
-use Rattle.xf_ir.specs.Places.{Place}
+use Rattle.xf_ir.specs.Places.{Numbering}
 use Rattle.xf_ir.specs.Valid.{block_of}
 use Rattle.xf_ir.proofs.Lists.{not_both, name_is, not_left, not_right, once_left, once_right, once_apart, among_left, among_right, absent_before, apart_names}
 
@@ -245,9 +245,9 @@ pub block_where : (name : OpName) (Q : Tree → Type 0) (rs : Regions) → Regio
 block_where name Q no_regions w = tt
 block_where name Q (region args ops rest) w = w.0
 
-abbrev pub Gives : ℕ → Tree → Type 0
-Gives count t = length t.results ≡ count
+abbrev pub HasResults : ℕ → Tree → Type 0
+HasResults count t = length t.results ≡ count
 
 -- a value that the place does not define
-abbrev pub Outside : Place → ValueName → Type 0
+abbrev pub Outside : Numbering → ValueName → Type 0
 Outside p v = p v ≡ None

@@ -9,7 +9,7 @@ use Rattle.xf_ir.specs.Tree.{Ops, no_ops, op, Regions, no_regions, region, Tree}
 use Rattle.xf_ir.specs.Walk.{tree_find, regions_find, regions_names}
 use Rattle.xf_ir.specs.Lists.{Each, same_name, is_among}
 use Rattle.xf_ir.specs.Places.{results_of}
-use Rattle.xf_ir.specs.Kinds.{is_container, ends, is_generic}
+use Rattle.xf_ir.specs.Kinds.{is_container, is_terminator, is_generic}
 use Rattle.xf_ir.specs.Uses.{tree_operands}
 use Rattle.xf_ir.specs.Edits.{edited}
 
@@ -45,7 +45,7 @@ is_in_scope m target name = is_among name (regions_names (scope_at m target))
 -- an operation that is no terminator, no function and no module, and whose results are all unused
 pub record IsDead (m : Module) (t : Tree) : Type 0 where
   pub inner : is_container t.kind ≡ false
-  pub goes : ends t.kind ≡ false
+  pub goes : is_terminator t.kind ≡ false
   pub unused : Each (λ v. results_of t.name (length t.results) v ≡ None) (tree_operands m.root)
 
 -- ---- the table of choices: a line for each in the four definitions

@@ -28,11 +28,11 @@ abbrev pub is_container : Kind → Bool
 is_container k = is_module k || is_function k
 
 -- whether an operation ends a block
-abbrev pub ends : Kind → Bool
-ends kind.Return = true
-ends kind.Yield = true
-ends kind.LinalgYield = true
-ends _ = false
+abbrev pub is_terminator : Kind → Bool
+is_terminator kind.Return = true
+is_terminator kind.Yield = true
+is_terminator kind.LinalgYield = true
+is_terminator _ = false
 
 -- whether an operation ends a function, a block of scf, or the body of a linalg.generic
 abbrev pub is_return : Kind → Bool

@@ -9,7 +9,7 @@ use Rattle.xf_ir.specs.declared.kind.Kind.TheVariants as kind
 use Rattle.xf_ir.specs.declared.op.Module.{Module}
 use Rattle.xf_ir.specs.Tree.{Ops, no_ops, op, Regions, no_regions, region, Tree}
 use Rattle.xf_ir.specs.Lists.{Each}
-use Rattle.xf_ir.specs.Places.{Seen, done, inside, place_of}
+use Rattle.xf_ir.specs.Places.{Seen, done, inside, numbering_of}
 use Rattle.xf_ir.specs.Types.{element_of, last_type}
 
 -- ---- the types of visible values
@@ -25,7 +25,7 @@ type_or (Some i) ts later = slice_get ts i
 -- the type of a visible value, none where the value is not visible
 abbrev pub type_at : Typed → ValueName → Option PayloadType
 type_at [] v = None
-type_at (x ∷ xs) v = type_or (place_of x.0 v) x.1 (type_at xs v)
+type_at (x ∷ xs) v = type_or (numbering_of x.0 v) x.1 (type_at xs v)
 
 -- ---- where an operation stands
 

@@ -6,20 +6,20 @@ use Rattle.xf_ir.specs.declared.name.ValueName.TheVariants.{Result, Arg, Free}
 use Rattle.xf_ir.specs.Tree.{Ops, no_ops, op, Regions, no_regions, region}
 
 -- the number of a value among those that one place defines
-abbrev pub Place : Type 0
-Place = ValueName → Option ℕ
+abbrev pub Numbering : Type 0
+Numbering = ValueName → Option ℕ
 
 abbrev pub below : ℕ → ℕ → Option ℕ
 below num count = if nat_lt num count then Some num else None
 
 -- the results of an operation
-abbrev pub results_of : OpName → ℕ → Place
+abbrev pub results_of : OpName → ℕ → Numbering
 results_of n count (Result o num) = if o.0 == n.0 then below num count else None
 results_of n count (Arg o r num) = None
 results_of n count (Free num) = None
 
 -- the arguments of the block of a region
-abbrev pub args_of : OpName → ℕ → ℕ → Place
+abbrev pub args_of : OpName → ℕ → ℕ → Numbering
 args_of n i count (Result o num) = None
 args_of n i count (Arg o r num) = if (o.0 == n.0) && (r == i) then below num count else None
 args_of n i count (Free num) = None
@@ -29,14 +29,14 @@ pub data Seen : Type 0 where
   done : (name : OpName) (count : ℕ) → Seen
   inside : (name : OpName) (region count : ℕ) → Seen
 
-abbrev pub place_of : Seen → Place
-place_of (done n count) = results_of n count
-place_of (inside n i count) = args_of n i count
+abbrev pub numbering_of : Seen → Numbering
+numbering_of (done n count) = results_of n count
+numbering_of (inside n i count) = args_of n i count
 
 -- whether a value is visible
 abbrev pub sees : List Seen → ValueName → Bool
 sees [] v = false
-sees (s ∷ ss) v = is_some (place_of s v) || sees ss v
+sees (s ∷ ss) v = is_some (numbering_of s v) || sees ss v
 
 -- each of these values is visible
 abbrev pub AllSeen : List Seen → List ValueName → Type 0
@@ -44,7 +44,7 @@ AllSeen ss [] = Unit {0}
 AllSeen ss (v ∷ vs) = (sees ss v ≡ true) × AllSeen ss vs
 
 -- no visible value is defined here again
-pub record IsFresh (ss : List Seen) (p : Place) : Type 0 where
+pub record IsFresh (ss : List Seen) (p : Numbering) : Type 0 where
   pub apart : (v : ValueName) → sees ss v ≡ true → p v ≡ None
 
 -- each operand is visible where it stands, and each value is defined once among those that are visible

@@ -11,7 +11,7 @@ use Rattle.xf_ir.specs.PrintedWords.{listed, type_text}
 
 -- what an operation defines: results, which have one number, and the arguments of its first block, which have numbers of their own
 -- from `first` on
-pub record Entry : Type 0 where
+pub record DefinedValues : Type 0 where
   pub number : ℕ
   pub results : List PayloadType
   pub first : ℕ
@@ -19,14 +19,14 @@ pub record Entry : Type 0 where
 
 -- what operations define, by their names, and the next numbers
 pub record Names : Type 0 where
-  pub entry : ℕ → Option Entry
+  pub entry : ℕ → Option DefinedValues
   pub number : ℕ
   pub argument : ℕ
 
 -- ---- numbers, in preorder
 
 -- one more entry
-abbrev pub with_entry : ℕ → Entry → (ℕ → Option Entry) → ℕ → Option Entry
+abbrev pub with_entry : ℕ → DefinedValues → (ℕ → Option DefinedValues) → ℕ → Option DefinedValues
 with_entry n e entries m = if m == n then Some e else entries m
 
 -- one number is taken by an operation with results
@@ -65,17 +65,17 @@ abbrev pub result_part : List PayloadType → ℕ → List ℕ
 result_part (t ∷ (u ∷ ts)) num = codes "#" ++ decimal num
 result_part ts num = []
 
-abbrev pub result_text : Entry → ℕ → List ℕ
+abbrev pub result_text : DefinedValues → ℕ → List ℕ
 result_text e num = codes "%" ++ (decimal e.number ++ result_part e.results num)
 
-abbrev pub text_or_none : (Entry → List ℕ) → Option Entry → List ℕ
+abbrev pub text_or_none : (DefinedValues → List ℕ) → Option DefinedValues → List ℕ
 text_or_none text None = []
 text_or_none text (Some e) = text e
 
 -- `%4`, `%4#1`, `%arg2`
 abbrev pub name_text : Names → ValueName → List ℕ
 name_text names (Result o num) = text_or_none (λ e. result_text e num) (names.entry o.0)
-name_text names (Arg o r num) = text_or_none (λ (e : Entry). argument_text (e.first + num)) (names.entry o.0)
+name_text names (Arg o r num) = text_or_none (λ (e : DefinedValues). argument_text (e.first + num)) (names.entry o.0)
 name_text names (Free num) = []
 
 abbrev pub values_text : Names → List ValueName → List ℕ
@@ -84,8 +84,8 @@ values_text names vs = listed (map (name_text names) vs)
 -- ---- the types of values
 
 abbrev pub type_of : Names → ValueName → Option PayloadType
-type_of names (Result o num) = option_and_then (λ (e : Entry). slice_get e.results num) (names.entry o.0)
-type_of names (Arg o r num) = option_and_then (λ (e : Entry). slice_get e.args num) (names.entry o.0)
+type_of names (Result o num) = option_and_then (λ (e : DefinedValues). slice_get e.results num) (names.entry o.0)
+type_of names (Arg o r num) = option_and_then (λ (e : DefinedValues). slice_get e.args num) (names.entry o.0)
 type_of names (Free num) = None
 
 abbrev pub known_type : Option PayloadType → List ℕ
@@ -100,11 +100,11 @@ value_types names vs = listed (map (value_type names) vs)
 
 -- ---- the numbers of an operation
 
-abbrev pub number_of : Option Entry → ℕ
+abbrev pub number_of : Option DefinedValues → ℕ
 number_of None = 0
 number_of (Some e) = e.number
 
-abbrev pub first_of : Option Entry → ℕ
+abbrev pub first_of : Option DefinedValues → ℕ
 first_of None = 0
 first_of (Some e) = e.first
 

@@ -2,7 +2,7 @@
 use Rattle.std.specs.Prelude.{ℕ, List, length, map, Option, Some, None, slice_get, unwrap_or}
 use Rattle.xf_ir.specs.declared.name.ValueName.{ValueName}
 use Rattle.xf_ir.specs.Tree.{Ops, no_ops, op, Regions, no_regions, region}
-use Rattle.xf_ir.specs.Places.{Place, results_of}
+use Rattle.xf_ir.specs.Places.{Numbering, results_of}
 
 -- operands moved to other values
 abbrev mutual
@@ -23,7 +23,7 @@ item_of None by v = v
 item_of (Some i) by v = unwrap_or (slice_get by i) v
 
 -- the value that stands for another, where those that a place defines are replaced
-abbrev pub in_place_of : Place → List ValueName → ValueName → ValueName
+abbrev pub in_place_of : Numbering → List ValueName → ValueName → ValueName
 in_place_of p by v = item_of (p v) by v
 
 -- other operations in the place of the first, and other values in the place of its results

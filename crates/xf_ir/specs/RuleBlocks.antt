@@ -5,7 +5,7 @@ use Rattle.xf_type.specs.declared.payload_type.PayloadType.TheVariants.{Scalar}
 use Rattle.xf_ir.specs.declared.kind.Kind.{Kind}
 use Rattle.xf_ir.specs.declared.kind.Kind.TheVariants as kind
 use Rattle.xf_ir.specs.Tree.{Ops, no_ops, op, Regions, no_regions, region}
-use Rattle.xf_ir.specs.Kinds.{ends, ends_for, is_endless}
+use Rattle.xf_ir.specs.Kinds.{is_terminator, ends_for, is_endless}
 use Rattle.xf_ir.specs.Lists.{every, is_empty}
 use Rattle.xf_ir.specs.Types.{element_of, known, have_types, same_types, same_items}
 use Rattle.xf_ir.specs.Placed.{Placed}
@@ -65,7 +65,7 @@ blocks_end holder (region args ops rest) = block_ends holder ops && blocks_end h
 
 -- whether a terminator stands at the end of a block that it ends
 abbrev pub stands_at_end : Kind → Kind → Ops → Bool
-stands_at_end holder k after = not (ends k) || (is_end after && ends_for holder k)
+stands_at_end holder k after = not (is_terminator k) || (is_end after && ends_for holder k)
 
 abbrev pub ends_its_blocks : Placed → Bool
 ends_its_blocks p = blocks_end p.tree.kind p.tree.regions && stands_at_end p.holder.kind p.tree.kind p.after

@@ -18,11 +18,11 @@ use Rattle.xf_ir.specs.Calls.{Signature, Signatures}
 use Rattle.xf_ir.specs.Placed.{Placed}
 
 -- the types of the operands and of the results of an operation
-abbrev pub Row : Type 0
-Row = List (Option PayloadType) → List PayloadType → Bool
+abbrev pub TypeRule : Type 0
+TypeRule = List (Option PayloadType) → List PayloadType → Bool
 
 -- operands of these types and results of those
-abbrev pub takes_gives : List PayloadType → List PayloadType → Row
+abbrev pub takes_gives : List PayloadType → List PayloadType → TypeRule
 takes_gives wanted given os ts = have_types os wanted && same_types ts given
 
 -- operands that a function takes; where a call has none, and what its results are, is another rule's
@@ -33,19 +33,19 @@ are_inputs (Some s) os = have_types os s.inputs
 -- ---- tensors
 
 -- one size for each dynamic dimension
-abbrev pub empty_row : Row
+abbrev pub empty_row : TypeRule
 empty_row os [] = false
 empty_row os (t ∷ ts) = is_tensor_with (λ s. are_indices (dynamic_count s.dims) os) (Some t) && is_empty ts
 
-abbrev pub dim_row : Row
+abbrev pub dim_row : TypeRule
 dim_row os ts = is_tensor_with (λ s. true) (first_type os) && (are_indices 1 (behind_first os) && same_types ts (Scalar Index ∷ []))
 
 -- one index for each dimension, and the element
-abbrev pub extract_row : Row
+abbrev pub extract_row : TypeRule
 extract_row os ts = is_tensor_with (λ s. are_indices (length s.dims) (behind_first os) && same_types ts (Scalar s.elem ∷ [])) (first_type os)
 
 -- the element, the target, and one index for each dimension of it
-abbrev pub insert_row : Row
+abbrev pub insert_row : TypeRule
 insert_row os ts = is_tensor_with (λ s. takes_gives (Scalar s.elem ∷ (Tensor s ∷ [])) (Tensor s ∷ []) (first_type os ∷ (first_type (behind_first os) ∷ [])) ts && are_indices (length s.dims) (behind_first (behind_first os))) (first_type (behind_first os))
 
 abbrev pub is_open : SliceIndex → Bool
@@ -67,11 +67,11 @@ is_one_tensor [] = false
 is_one_tensor (t ∷ ts) = is_tensor_with (λ s. true) (Some t) && is_empty ts
 
 -- the source, and a tensor as result
-abbrev pub extract_slice_row : List SliceIndex → List SliceIndex → Row
+abbrev pub extract_slice_row : List SliceIndex → List SliceIndex → TypeRule
 extract_slice_row offsets sizes os ts = is_tensor_with (λ s. slice_indices offsets sizes s (behind_first os)) (first_type os) && is_one_tensor ts
 
 -- the source, the target, and the target's type as result
-abbrev pub insert_slice_row : List SliceIndex → List SliceIndex → Row
+abbrev pub insert_slice_row : List SliceIndex → List SliceIndex → TypeRule
 insert_slice_row offsets sizes os ts =
     is_tensor_with (λ s. true) (first_type os)
     && is_tensor_with (λ s. slice_indices offsets sizes s (behind_first (behind_first os)) && same_types ts (Tensor s ∷ [])) (first_type (behind_first os))
@@ -81,7 +81,7 @@ abbrev pub dims_cast : Dim → Dim → Bool
 dims_cast a b = same_dim a b || (is_dynamic a || is_dynamic b)
 
 -- rank and element type stay
-abbrev pub cast_row : Row
+abbrev pub cast_row : TypeRule
 cast_row os [] = false
 cast_row os (t ∷ ts) =
     is_tensor_with (λ a. is_tensor_with (λ b. same_width a.elem b.elem && same_items dims_cast a.dims b.dims) (Some t)) (first_type os)
@@ -90,7 +90,7 @@ cast_row os (t ∷ ts) =
 -- ---- structured operations
 
 -- the out is a tensor, and the result has its type
-abbrev pub out_row : Row
+abbrev pub out_row : TypeRule
 out_row os ts = is_tensor_with (λ s. same_types ts (Tensor s ∷ [])) (last_type os)
 
 abbrev pub operand_count : NamedKind → ℕ
@@ -110,12 +110,12 @@ fill_fits Fill os = is_scalar (first_type os)
 fill_fits _ os = true
 
 -- so many operands, all of the out's element type
-abbrev pub named_row : NamedKind → Row
+abbrev pub named_row : NamedKind → TypeRule
 named_row k os ts = (length os == operand_count k) && (out_row os ts && (is_tensor_with (λ s. every (has_element s.elem) os) (last_type os) && fill_fits k os))
 
 -- ---- the row of each kind, in a block whose terminator gives these types
 
-abbrev pub row_of : Signatures → List PayloadType → Kind → Row
+abbrev pub row_of : Signatures → List PayloadType → Kind → TypeRule
 row_of sigs gives (kind.Module symbol) = takes_gives [] []
 row_of sigs gives (kind.Func symbol private results) = takes_gives [] []
 row_of sigs gives kind.Return = takes_gives gives []

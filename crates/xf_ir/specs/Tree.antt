@@ -44,11 +44,11 @@ abbrev pub cons : Tree → Ops → Ops
 cons t rest = op t.name t.kind t.attrs t.operands t.results t.regions rest
 
 -- what an operation holds beside other operations
-abbrev pub Head : Type 0
-Head = OpName × (Kind × (List Attr × (List ValueName × List PayloadType)))
+abbrev pub OpFields : Type 0
+OpFields = OpName × (Kind × (List Attr × (List ValueName × List PayloadType)))
 
-abbrev pub head_code : Coded Head
-head_code = coded× name_type.the_row.coded (coded× kind_type.the_row.coded (coded× (coded_list attr_type.the_row.coded) (coded× (coded_list value_type.the_row.coded) (coded_list payload_type.the_row.coded))))
+abbrev pub fields_code : Coded OpFields
+fields_code = coded× name_type.the_row.coded (coded× kind_type.the_row.coded (coded× (coded_list attr_type.the_row.coded) (coded× (coded_list value_type.the_row.coded) (coded_list payload_type.the_row.coded))))
 
 abbrev pub types_code : Coded (List PayloadType)
 types_code = coded_list payload_type.the_row.coded
@@ -56,13 +56,13 @@ types_code = coded_list payload_type.the_row.coded
 abbrev mutual
   pub ops_code : Ops → Gv
   ops_code no_ops = gnil
-  ops_code (op n k ds os ts rs rest) = gcons (head_code.code (n, (k, (ds, (os, ts))))) (gcons (regions_code rs) (ops_code rest))
+  ops_code (op n k ds os ts rs rest) = gcons (fields_code.code (n, (k, (ds, (os, ts))))) (gcons (regions_code rs) (ops_code rest))
 
   pub regions_code : Regions → Gv
   regions_code no_regions = gnil
   regions_code (region args ops rest) = gcons (types_code.code args) (gcons (ops_code ops) (regions_code rest))
 
-same_op : (h h' : Head) (rs rs' : Regions) (rest rest' : Ops) → h ≡ h' → rs ≡ rs' → rest ≡ rest' → op h.0 h.1.0 h.1.1.0 h.1.1.1.0 h.1.1.1.1 rs rest ≡ op h'.0 h'.1.0 h'.1.1.0 h'.1.1.1.0 h'.1.1.1.1 rs' rest'
+same_op : (h h' : OpFields) (rs rs' : Regions) (rest rest' : Ops) → h ≡ h' → rs ≡ rs' → rest ≡ rest' → op h.0 h.1.0 h.1.1.0 h.1.1.1.0 h.1.1.1.1 rs rest ≡ op h'.0 h'.1.0 h'.1.1.0 h'.1.1.1.0 h'.1.1.1.1 rs' rest'
 same_op h h' rs rs' rest rest' p q r = cc
 
 mutual
@@ -71,8 +71,8 @@ mutual
   ops_inj no_ops (op n k ds os ts rs rest) p = cc
   ops_inj (op n k ds os ts rs rest) no_ops p = cc
   ops_inj (op n k ds os ts rs rest) (op n' k' ds' os' ts' rs' rest') p =
-      let e : head_code.code (n, (k, (ds, (os, ts)))) ≡ head_code.code (n', (k', (ds', (os', ts')))) = cc in
-      same_op _ _ rs rs' rest rest' (head_code.inj _ _ e) (regions_inj rs rs' (cc)) (ops_inj rest rest' (cc))
+      let e : fields_code.code (n, (k, (ds, (os, ts)))) ≡ fields_code.code (n', (k', (ds', (os', ts')))) = cc in
+      same_op _ _ rs rs' rest rest' (fields_code.inj _ _ e) (regions_inj rs rs' (cc)) (ops_inj rest rest' (cc))
 
   pub regions_inj : (x y : Regions) → regions_code x ≡ regions_code y → x ≡ y
   regions_inj no_regions no_regions p = refl
@@ -86,7 +86,7 @@ mutual
       cc
 
 abbrev pub tree_code : Coded Tree
-tree_code = code_by (Head × Regions) (coded× head_code (record { code = regions_code; inj = regions_inj })) (λ t. ((t.name, (t.kind, (t.attrs, (t.operands, t.results)))), t.regions)) (λ p. record { name = p.0.0; kind = p.0.1.0; attrs = p.0.1.1.0; operands = p.0.1.1.1.0; results = p.0.1.1.1.1; regions = p.1 }) (λ _. refl)
+tree_code = code_by (OpFields × Regions) (coded× fields_code (record { code = regions_code; inj = regions_inj })) (λ t. ((t.name, (t.kind, (t.attrs, (t.operands, t.results)))), t.regions)) (λ p. record { name = p.0.0; kind = p.0.1.0; attrs = p.0.1.1.0; operands = p.0.1.1.1.0; results = p.0.1.1.1.1; regions = p.1 }) (λ _. refl)
 
 abbrev pub body_code : Coded Body
 body_code = code_by (List PayloadType × Ops) (coded× types_code (record { code = ops_code; inj = ops_inj })) (λ b. (b.args, b.ops)) (λ p. record { args = p.0; ops = p.1 }) (λ _. refl)

@@ -7,7 +7,7 @@ use Rattle.xf_ir.specs.declared.name.ValueName.{ValueName}
 use Rattle.xf_ir.specs.declared.name.ValueName.TheVariants.{Result, Arg, Free}
 use Rattle.xf_ir.specs.Tree.{Ops, no_ops, op, Regions, no_regions, region, Tree}
 use Rattle.xf_ir.specs.Walk.{first_of}
-use Rattle.xf_ir.specs.Kinds.{is_container, ends}
+use Rattle.xf_ir.specs.Kinds.{is_container, is_terminator}
 
 -- with the operation of which the value is a result
 abbrev pub with_use : set.FinSet nat_cmp → ValueName → set.FinSet nat_cmp
@@ -20,7 +20,7 @@ with_uses s vs = fold with_use s vs
 
 -- no module, function or terminator, and none of the operations that are used
 abbrev pub goes_unused : set.FinSet nat_cmp → Tree → Bool
-goes_unused used t = not (is_container t.kind || ends t.kind) && not (set.contains used t.name.0)
+goes_unused used t = not (is_container t.kind || is_terminator t.kind) && not (set.contains used t.name.0)
 
 -- the name of the first operation that passes, in preorder
 abbrev mutual

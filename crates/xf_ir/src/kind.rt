@@ -1,6 +1,6 @@
 //! What an operation is, with the attributes of its own.
 ghost use Rattle.std.specs.Prelude.{◌≡◌};
-ghost use Rattle.xf_ir.specs.Kinds.{is_container, ends, is_generic};
+ghost use Rattle.xf_ir.specs.Kinds.{is_container, is_terminator, is_generic};
 
 use xf_type::{
     AffineMap, AttrValue, BinKind, ByteList, CmpKind, ConvKind, ListOf, Shape, TypeList, Width,
@@ -161,7 +161,7 @@ impl Kind {
 
     /// Whether it is a terminator, which ends a block.
     pub fn ends_block(&self) -> bool
-        ensures { result ≡ ends self.now }
+        ensures { result ≡ is_terminator self.now }
     {
         match self {
             Kind::Return => true,

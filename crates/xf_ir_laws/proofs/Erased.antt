@@ -9,7 +9,7 @@ use Rattle.xf_ir.specs.declared.kind.Kind.TheVariants as kind
 use Rattle.xf_ir.specs.Tree.{Ops, no_ops, op, Regions, no_regions, region, Tree}
 use Rattle.xf_ir.specs.Walk.{ops_names, regions_names}
 use Rattle.xf_ir.specs.Lists.{same_name, is_among}
-use Rattle.xf_ir.specs.Kinds.{symbol_of, ends, ends_for, is_endless, is_return, is_yield, is_linalg_yield}
+use Rattle.xf_ir.specs.Kinds.{symbol_of, is_terminator, ends_for, is_endless, is_return, is_yield, is_linalg_yield}
 use Rattle.xf_ir.specs.Edits.{ops_at, regions_at, tail}
 use Rattle.xf_ir.specs.Calls.{first_args}
 use Rattle.xf_ir.specs.RuleBlocks.{block_args, is_end, block_ends, blocks_end, stands_at_end}
@@ -100,22 +100,22 @@ first_args_at name (region args ops rest) = refl
 -- ---- blocks still end
 
 abbrev pub Goes : Tree → Type 0
-Goes t = ends t.kind ≡ false
+Goes t = is_terminator t.kind ≡ false
 
-no_return : (k : Kind) → ends k ≡ false → is_return k ≡ false
+no_return : (k : Kind) → is_terminator k ≡ false → is_return k ≡ false
 no_return kind.Return h = absurd (cc)
 no_return _ h = refl
 
-no_yield : (k : Kind) → ends k ≡ false → is_yield k ≡ false
+no_yield : (k : Kind) → is_terminator k ≡ false → is_yield k ≡ false
 no_yield kind.Yield h = absurd (cc)
 no_yield _ h = refl
 
-no_linalg_yield : (k : Kind) → ends k ≡ false → is_linalg_yield k ≡ false
+no_linalg_yield : (k : Kind) → is_terminator k ≡ false → is_linalg_yield k ≡ false
 no_linalg_yield kind.LinalgYield h = absurd (cc)
 no_linalg_yield _ h = refl
 
 -- what ends no block ends no block of the holder
-ends_none : (holder k : Kind) → ends k ≡ false → ends_for holder k ≡ false
+ends_none : (holder k : Kind) → is_terminator k ≡ false → ends_for holder k ≡ false
 ends_none (kind.Func symbol private results) k h = no_return k h
 ends_none (kind.For width) k h = no_yield k h
 ends_none kind.If k h = no_yield k h
@@ -128,7 +128,7 @@ ended holder k no_ops h = rw h refl
 ended holder k (op n k' ds os ts rs rest) h = h
 
 -- without an operation that ends no block
-end_left : (holder k : Kind) (rest : Ops) → ends k ≡ false → (if is_end rest then (is_endless holder || ends_for holder k) else block_ends holder rest) ≡ true → block_ends holder rest ≡ true
+end_left : (holder k : Kind) (rest : Ops) → is_terminator k ≡ false → (if is_end rest then (is_endless holder || ends_for holder k) else block_ends holder rest) ≡ true → block_ends holder rest ≡ true
 end_left holder k no_ops e h = elim (or_cases (is_endless holder) (ends_for holder k) h) [ inl t ↦ t | inr t ↦ absurd (let z = ends_none holder k e in cc) ]
 end_left holder k (op n k' ds os ts rs rest) e h = h
 
@@ -153,4 +153,4 @@ ends_kept name holder (region args ops rest) w h =
 pub end_kept : (name : OpName) (holder k : Kind) (rest : Ops) → stands_at_end holder k rest ≡ true → stands_at_end holder k (ops_at name tail rest) ≡ true
 end_kept name holder k no_ops h = h
 end_kept name holder k (op n k' ds os ts rs rest) h =
-    elim (cases_Bool (ends k)) [ inl t ↦ absurd (let z = rw t at h in cc) | inr f ↦ rw f refl ]
+    elim (cases_Bool (is_terminator k)) [ inl t ↦ absurd (let z = rw t at h in cc) | inr f ↦ rw f refl ]

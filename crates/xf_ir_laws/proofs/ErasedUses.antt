@@ -8,37 +8,37 @@ use Rattle.xf_ir.specs.declared.name.ValueName.{ValueName}
 use Rattle.xf_ir.specs.Tree.{Ops, no_ops, op, Regions, no_regions, region}
 use Rattle.xf_ir.specs.Lists.{Each}
 use Rattle.xf_ir.specs.Edits.{ops_at, regions_at, tail}
-use Rattle.xf_ir.specs.Places.{Place, Seen, done, inside, place_of, results_of, sees, AllSeen}
+use Rattle.xf_ir.specs.Places.{Numbering, Seen, done, inside, numbering_of, results_of, sees, AllSeen}
 use Rattle.xf_ir.specs.Uses.{ops_operands, regions_operands}
 use Rattle.xf_ir.specs.Valid.{OpsSee, RegionsSee, FunctionsSee, Typed, type_or, type_at}
 use Rattle.xf_ir.proofs.Lists.{name_is, at_cases, each_left, each_right}
-use Rattle.xf_ir.proofs.Found.{OpsWhere, RegionsWhere, Gives, Outside}
+use Rattle.xf_ir.proofs.Found.{OpsWhere, RegionsWhere, HasResults, Outside}
 
 -- ---- visible uses
 
 -- what is visible stays so, but for the values of a place
-abbrev pub Still : Place → List Seen → List Seen → Type 0
+abbrev pub Still : Numbering → List Seen → List Seen → Type 0
 Still p ss ss' = (v : ValueName) → Outside p v → sees ss v ≡ true → sees ss' v ≡ true
 
 or_true : (a b : Bool) → b ≡ true → (a || b) ≡ true
 or_true true b h = refl
 or_true false b h = h
 
-still_more : (p : Place) (ss ss' : List Seen) (s : Seen) → Still p ss ss' → Still p (s ∷ ss) (s ∷ ss')
+still_more : (p : Numbering) (ss ss' : List Seen) (s : Seen) → Still p ss ss' → Still p (s ∷ ss) (s ∷ ss')
 still_more p ss ss' s k v o h =
-    elim (or_cases (is_some (place_of s v)) (sees ss v) h) [ inl t ↦ rw t refl | inr t ↦ (let z = k v o t in or_true (is_some (place_of s v)) (sees ss' v) z) ]
+    elim (or_cases (is_some (numbering_of s v)) (sees ss v) h) [ inl t ↦ rw t refl | inr t ↦ (let z = k v o t in or_true (is_some (numbering_of s v)) (sees ss' v) z) ]
 
 still_without : (name n : OpName) (count count' : ℕ) (ss ss' : List Seen) → n ≡ name → count' ≡ count → Still (results_of name count) ss ss' → Still (results_of name count) (done n count' ∷ ss) ss'
 still_without name n count count' ss ss' e f k v o h =
     let q : results_of n count' v ≡ None = ap (λ x. results_of x count' v) e ∙ ap (λ c. results_of name c v) f ∙ o in
     k v o (rw q at h)
 
-all_still : (p : Place) (ss ss' : List Seen) (vs : List ValueName) → Still p ss ss' → Each (Outside p) vs → AllSeen ss vs → AllSeen ss' vs
+all_still : (p : Numbering) (ss ss' : List Seen) (vs : List ValueName) → Still p ss ss' → Each (Outside p) vs → AllSeen ss vs → AllSeen ss' vs
 all_still p ss ss' [] k o h = tt
 all_still p ss ss' (v ∷ vs) k o h = (k v o.0 h.0, all_still p ss ss' vs k o.1 h.1)
 
 mutual
-  ops_still : (p : Place) (ss ss' : List Seen) (ops : Ops) → Still p ss ss' → Each (Outside p) (ops_operands ops) → OpsSee ss ops → OpsSee ss' ops
+  ops_still : (p : Numbering) (ss ss' : List Seen) (ops : Ops) → Still p ss ss' → Each (Outside p) (ops_operands ops) → OpsSee ss ops → OpsSee ss' ops
   ops_still p ss ss' no_ops k o h = tt
   ops_still p ss ss' (op n x ds os ts rs rest) k o h =
       let more = regions_operands rs ++ ops_operands rest in
@@ -50,7 +50,7 @@ mutual
         ),
       )
 
-  regions_still : (p : Place) (ss ss' : List Seen) (n : OpName) (i : ℕ) (rs : Regions) → Still p ss ss' → Each (Outside p) (regions_operands rs) → RegionsSee ss n i rs → RegionsSee ss' n i rs
+  regions_still : (p : Numbering) (ss ss' : List Seen) (n : OpName) (i : ℕ) (rs : Regions) → Still p ss ss' → Each (Outside p) (regions_operands rs) → RegionsSee ss n i rs → RegionsSee ss' n i rs
   regions_still p ss ss' n i no_regions k o h = tt
   regions_still p ss ss' n i (region args ops rest) k o h = (
     ops_still p (inside n i (length args) ∷ ss) (inside n i (length args) ∷ ss') ops (still_more p ss ss' (inside n i (length args)) k) (each_left (Outside p) (ops_operands ops) (regions_operands rest) o) h.0,
@@ -59,7 +59,7 @@ mutual
 
 module _ (name : OpName) (count : ℕ) where
   mutual
-    uses_kept_ops : (ss ss' : List Seen) (ops : Ops) → Still (results_of name count) ss ss' → OpsWhere name (Gives count) ops → Each (Outside (results_of name count)) (ops_operands ops) → OpsSee ss ops → OpsSee ss' (ops_at name tail ops)
+    uses_kept_ops : (ss ss' : List Seen) (ops : Ops) → Still (results_of name count) ss ss' → OpsWhere name (HasResults count) ops → Each (Outside (results_of name count)) (ops_operands ops) → OpsSee ss ops → OpsSee ss' (ops_at name tail ops)
     uses_kept_ops ss ss' no_ops k w o h = tt
     uses_kept_ops ss ss' (op n x ds os ts rs rest) k w o h =
         let p = results_of name count in
@@ -78,7 +78,7 @@ module _ (name : OpName) (count : ℕ) where
           ),
         ))
 
-    uses_kept : (ss ss' : List Seen) (n : OpName) (i : ℕ) (rs : Regions) → Still (results_of name count) ss ss' → RegionsWhere name (Gives count) rs → Each (Outside (results_of name count)) (regions_operands rs) → RegionsSee ss n i rs → RegionsSee ss' n i (regions_at name tail rs)
+    uses_kept : (ss ss' : List Seen) (n : OpName) (i : ℕ) (rs : Regions) → Still (results_of name count) ss ss' → RegionsWhere name (HasResults count) rs → Each (Outside (results_of name count)) (regions_operands rs) → RegionsSee ss n i rs → RegionsSee ss' n i (regions_at name tail rs)
     uses_kept ss ss' n i no_regions k w o h = tt
     uses_kept ss ss' n i (region args ops rest) k w o h =
         let p = results_of name count in
@@ -87,7 +87,7 @@ module _ (name : OpName) (count : ℕ) where
           uses_kept ss ss' n (suc i) rest k w.1 (each_right (Outside p) (ops_operands ops) (regions_operands rest) o) h.1,
         )
 
-  pub functions_see_kept : (fs : Ops) → OpsWhere name (Gives count) fs → Each (Outside (results_of name count)) (ops_operands fs) → FunctionsSee fs → FunctionsSee (ops_at name tail fs)
+  pub functions_see_kept : (fs : Ops) → OpsWhere name (HasResults count) fs → Each (Outside (results_of name count)) (ops_operands fs) → FunctionsSee fs → FunctionsSee (ops_at name tail fs)
   functions_see_kept no_ops w o h = tt
   functions_see_kept (op n x ds os ts rs rest) w o h =
       let p = results_of name count in
@@ -101,17 +101,17 @@ module _ (name : OpName) (count : ℕ) where
 -- ---- types
 
 -- types stay, but for the values of a place
-abbrev pub Same : Place → Typed → Typed → Type 0
+abbrev pub Same : Numbering → Typed → Typed → Type 0
 Same p env env' = (v : ValueName) → Outside p v → type_at env v ≡ type_at env' v
 
-pub same_more : (p : Place) (env env' : Typed) (x : Seen × List PayloadType) → Same p env env' → Same p (x ∷ env) (x ∷ env')
-same_more p env env' x k v o = ap (type_or (place_of x.0 v) x.1) (k v o)
+pub same_more : (p : Numbering) (env env' : Typed) (x : Seen × List PayloadType) → Same p env env' → Same p (x ∷ env) (x ∷ env')
+same_more p env env' x k v o = ap (type_or (numbering_of x.0 v) x.1) (k v o)
 
 pub same_without : (name n : OpName) (count count' : ℕ) (ts : List PayloadType) (env env' : Typed) → n ≡ name → count' ≡ count → Same (results_of name count) env env' → Same (results_of name count) ((done n count', ts) ∷ env) env'
 same_without name n count count' ts env env' e f k v o =
     let q : results_of n count' v ≡ None = ap (λ x. results_of x count' v) e ∙ ap (λ c. results_of name c v) f ∙ o in
     ap (λ z. type_or z ts (type_at env v)) q ∙ k v o
 
-pub types_same : (p : Place) (env env' : Typed) (vs : List ValueName) → Same p env env' → Each (Outside p) vs → map (type_at env) vs ≡ map (type_at env') vs
+pub types_same : (p : Numbering) (env env' : Typed) (vs : List ValueName) → Same p env env' → Each (Outside p) vs → map (type_at env) vs ≡ map (type_at env') vs
 types_same p env env' [] k o = refl
 types_same p env env' (v ∷ vs) k o = (let a = k v o.0 in let b = types_same p env env' vs k o.1 in cc)

@@ -26,11 +26,11 @@ use Rattle.xf_ir.specs.RuleLinalg.{has_its_maps, has_its_iterators, has_its_redu
 use Rattle.xf_ir.specs.RuleSlices.{has_its_slices}
 use Rattle.xf_ir.specs.Valid.{IsValid, IsNamedOnce, IsModule, FunctionsAlone, BlocksAlone, block_of, functions_of, FunctionsSee}
 use Rattle.xf_ir.proofs.Lists.{at_cases, each_left, each_right, each_part, once_part, texts_part, not_part, not_left, not_right, once_left, once_right, absent_before, apart_names, keep}
-use Rattle.xf_ir.proofs.Found.{first_cases, found_in, found_name, found_name_regions, found_named_regions, lost_name, lost_name_regions, find_inside, find_inside_regions, tree, RegionsWhere, where_found_regions, block_where, Gives, Outside}
+use Rattle.xf_ir.proofs.Found.{first_cases, found_in, found_name, found_name_regions, found_named_regions, lost_name, lost_name_regions, find_inside, find_inside_regions, tree, RegionsWhere, where_found_regions, block_where, HasResults, Outside}
 use Rattle.xf_ir_laws.proofs.Erased.{names_part, names_part_regions, blocks_kept as alone_kept, symbols_part_in, block_at, Goes}
 use Rattle.xf_ir_laws.proofs.ErasedUses.{functions_see_kept}
 use Rattle.xf_ir_laws.proofs.Obeys.{Passes, blocks_obey, each_blocks}
-use Rattle.xf_ir_laws.proofs.Kept.{RegionsApart, OpsStay, BlocksStay, Step, blocks_kept}
+use Rattle.xf_ir_laws.proofs.Kept.{RegionsApart, OpsStay, BlocksStay, KeptStep, blocks_kept}
 use Rattle.xf_ir_laws.proofs.BareErased.{found_apart, bare_erased}
 use Rattle.xf_ir_laws.proofs.KeptRules.{Inner, blocks_stay, signature_kept, regions_step, blocks_step, types_step, attributes_step, callees_step, chains_step, maps_step, iterators_step, reductions_step, extents_step, bodies_step, ranges_step, slices_step}
 use Rattle.xf_ir.proofs.Bare.{below_bare, once_bare, in_scope}
@@ -75,8 +75,8 @@ module _ (m : Module) (target name : OpName) (v : IsValid m) (e : MayErase m tar
   goes : RegionsWhere name Goes m.root.regions
   goes = of_name Goes e.suits.goes
 
-  gives : RegionsWhere name (Gives (length e.tree.results)) m.root.regions
-  gives = of_name (Gives (length e.tree.results)) refl
+  gives : RegionsWhere name (HasResults (length e.tree.results)) m.root.regions
+  gives = of_name (HasResults (length e.tree.results)) refl
 
   stay : BlocksStay name m.root.regions
   stay = blocks_stay name m.root.regions v.functions.alone (of_name Inner e.suits.inner)
@@ -93,10 +93,10 @@ module _ (m : Module) (target name : OpName) (v : IsValid m) (e : MayErase m tar
   sees_kept =
       let count = length e.tree.results in
       subst FunctionsSee (sym (block_at name tail m.root.regions))
-      (functions_see_kept name count (functions_of m) (block_where name (Gives count) m.root.regions gives) (block_operands (Outside (results_of name count)) m.root.regions inner) v.uses.functions)
+      (functions_see_kept name count (functions_of m) (block_where name (HasResults count) m.root.regions gives) (block_operands (Outside (results_of name count)) m.root.regions inner) v.uses.functions)
 
   -- a rule stays that the step keeps
-  kept : (passes passes' : Placed → Bool) → Step name (Passes passes) (Passes passes') → Everywhere passes m → Everywhere passes' after
+  kept : (passes passes' : Placed → Bool) → KeptStep name (Passes passes) (Passes passes') → Everywhere passes m → Everywhere passes' after
   kept passes passes' step h =
       let P = Passes passes in
       let P' = Passes passes' in

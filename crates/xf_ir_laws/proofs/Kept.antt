@@ -12,7 +12,7 @@ use Rattle.xf_ir.specs.Uses.{ops_operands, regions_operands}
 use Rattle.xf_ir.specs.Edits.{ops_at, regions_at, tail, tree_erased}
 use Rattle.xf_ir.specs.Placed.{Typed, type_at, Holder, holder_of, Placed}
 use Rattle.xf_ir.proofs.Lists.{name_is, at_cases, each_left, each_right, not_right, once_left, once_right}
-use Rattle.xf_ir.proofs.Found.{tree, OpsWhere, RegionsWhere, Gives, Outside}
+use Rattle.xf_ir.proofs.Found.{tree, OpsWhere, RegionsWhere, HasResults, Outside}
 use Rattle.xf_ir_laws.proofs.Erased.{at_absent, Goes}
 use Rattle.xf_ir_laws.proofs.ErasedUses.{Same, same_more, same_without, types_same}
 use Rattle.xf_ir_laws.proofs.Obeys.{OpsObey, RegionsObey, FunctionsObey, BlocksObey}
@@ -41,16 +41,16 @@ placed_at h types t after = record { holder = h; types = types; tree = t; after 
 
 -- what the first property says of an operation, the second says of it where the operation of the name is taken out of what it holds
 -- and of what stands behind it
-pub record Step (name : OpName) (P P' : Placed → Type 0) : Type 0 where
+pub record KeptStep (name : OpName) (P P' : Placed → Type 0) : Type 0 where
   pub turn : (h : Holder) (types : List (Option PayloadType)) (t : Tree) (after : Ops) → (is_generic t.kind ≡ true → is_among name (regions_names t.regions) ≡ false) → RegionsWhere name Goes t.regions → P (placed_at h types t after) → P' (placed_at h types (tree_erased name t) (ops_at name tail after))
 
-module _ (name : OpName) (count : ℕ) (P P' : Placed → Type 0) (step : Step name P P') where
+module _ (name : OpName) (count : ℕ) (P P' : Placed → Type 0) (step : KeptStep name P P') where
   -- the operation itself, with other types that are the same at its operands
   here : (h : Holder) (env env' : Typed) (t : Tree) (after : Ops) → map (type_at env) t.operands ≡ map (type_at env') t.operands → (is_generic t.kind ≡ true → is_among name (regions_names t.regions) ≡ false) → RegionsWhere name Goes t.regions → P (placed_at h (map (type_at env) t.operands) t after) → P' (placed_at h (map (type_at env') t.operands) (tree_erased name t) (ops_at name tail after))
   here h env env' t after e a g p = subst (λ types. P' (placed_at h types (tree_erased name t) (ops_at name tail after))) e (step.turn h (map (type_at env) t.operands) t after a g p)
 
   mutual
-    ops_kept : (h : Holder) (env env' : Typed) (ops : Ops) → Same (results_of name count) env env' → Once (ops_names ops) → OpsWhere name (Gives count) ops → OpsWhere name Goes ops → OpsApart name ops → Each (Outside (results_of name count)) (ops_operands ops) → OpsObey P h env ops → OpsObey P' h env' (ops_at name tail ops)
+    ops_kept : (h : Holder) (env env' : Typed) (ops : Ops) → Same (results_of name count) env env' → Once (ops_names ops) → OpsWhere name (HasResults count) ops → OpsWhere name Goes ops → OpsApart name ops → Each (Outside (results_of name count)) (ops_operands ops) → OpsObey P h env ops → OpsObey P' h env' (ops_at name tail ops)
     ops_kept h env env' no_ops s o w g a u e = tt
     ops_kept h env env' (op n k ds os ts rs rest) s o w g a u e =
         let p = results_of name count in
@@ -76,7 +76,7 @@ module _ (name : OpName) (count : ℕ) (P P' : Placed → Type 0) (step : Step n
           ),
         ))
 
-    regions_kept : (h : Holder) (env env' : Typed) (n : OpName) (i : ℕ) (rs : Regions) → Same (results_of name count) env env' → Once (regions_names rs) → RegionsWhere name (Gives count) rs → RegionsWhere name Goes rs → RegionsApart name rs → Each (Outside (results_of name count)) (regions_operands rs) → RegionsObey P h env n i rs → RegionsObey P' h env' n i (regions_at name tail rs)
+    regions_kept : (h : Holder) (env env' : Typed) (n : OpName) (i : ℕ) (rs : Regions) → Same (results_of name count) env env' → Once (regions_names rs) → RegionsWhere name (HasResults count) rs → RegionsWhere name Goes rs → RegionsApart name rs → Each (Outside (results_of name count)) (regions_operands rs) → RegionsObey P h env n i rs → RegionsObey P' h env' n i (regions_at name tail rs)
     regions_kept h env env' n i no_regions s o w g a u e = tt
     regions_kept h env env' n i (region args ops rest) s o w g a u e =
         let p = results_of name count in
@@ -85,7 +85,7 @@ module _ (name : OpName) (count : ℕ) (P P' : Placed → Type 0) (step : Step n
           regions_kept h env env' n (suc i) rest s (once_right (ops_names ops) (regions_names rest) o) w.1 g.1 a.1 (each_right (Outside p) (ops_operands ops) (regions_operands rest) u) e.1,
         )
 
-  functions_kept : (h : Holder) (fs : Ops) → OpsStay name fs → Once (ops_names fs) → OpsWhere name (Gives count) fs → OpsWhere name Goes fs → OpsApart name fs → Each (Outside (results_of name count)) (ops_operands fs) → FunctionsObey P h fs → FunctionsObey P' h (ops_at name tail fs)
+  functions_kept : (h : Holder) (fs : Ops) → OpsStay name fs → Once (ops_names fs) → OpsWhere name (HasResults count) fs → OpsWhere name Goes fs → OpsApart name fs → Each (Outside (results_of name count)) (ops_operands fs) → FunctionsObey P h fs → FunctionsObey P' h (ops_at name tail fs)
   functions_kept h no_ops t o w g a u e = tt
   functions_kept h (op n k ds os ts rs rest) t o w g a u e =
       let p = results_of name count in
@@ -104,7 +104,7 @@ module _ (name : OpName) (count : ℕ) (P P' : Placed → Type 0) (step : Step n
         ),
       )
 
-  pub blocks_kept : (h : Holder) (rs : Regions) → BlocksStay name rs → Once (regions_names rs) → RegionsWhere name (Gives count) rs → RegionsWhere name Goes rs → RegionsApart name rs → Each (Outside (results_of name count)) (regions_operands rs) → BlocksObey P h rs → BlocksObey P' h (regions_at name tail rs)
+  pub blocks_kept : (h : Holder) (rs : Regions) → BlocksStay name rs → Once (regions_names rs) → RegionsWhere name (HasResults count) rs → RegionsWhere name Goes rs → RegionsApart name rs → Each (Outside (results_of name count)) (regions_operands rs) → BlocksObey P h rs → BlocksObey P' h (regions_at name tail rs)
   blocks_kept h no_regions t o w g a u e = tt
   blocks_kept h (region args ops rest) t o w g a u e =
       let p = results_of name count in (

@@ -19,7 +19,7 @@ use Rattle.xf_ir.specs.Valid.{FunctionsAlone, BlocksAlone}
 use Rattle.xf_ir.proofs.Lists.{at_cases, Part, none, skip, keep, item_skip, item_keep, part_append, part_behind}
 use Rattle.xf_ir.proofs.Found.{OpsWhere, RegionsWhere}
 use Rattle.xf_ir_laws.proofs.Erased.{args_at, first_args_at, at_absent_regions, ends_kept, end_kept}
-use Rattle.xf_ir_laws.proofs.Kept.{OpsStay, BlocksStay, Step}
+use Rattle.xf_ir_laws.proofs.Kept.{OpsStay, BlocksStay, KeptStep}
 use Rattle.xf_ir_laws.proofs.Obeys.{Passes}
 
 -- ---- functions stay
@@ -105,10 +105,10 @@ chain_kept name fs t (Some callee) h = chains_kept name fs t 31 callee h
 -- ---- the rules
 
 module _ (name : OpName) where
-  pub regions_step : Step name (Passes has_its_regions) (Passes has_its_regions)
+  pub regions_step : KeptStep name (Passes has_its_regions) (Passes has_its_regions)
   regions_step = record { turn = λ h types t after a g e. subst (λ blocks. blocks_fit t.kind types t.results blocks ≡ true) (sym (args_at name t.regions)) e }
 
-  pub blocks_step : Step name (Passes ends_its_blocks) (Passes ends_its_blocks)
+  pub blocks_step : KeptStep name (Passes ends_its_blocks) (Passes ends_its_blocks)
   blocks_step = record {
     turn = λ h types t after a g e. (
         let p = and_parts (blocks_end t.kind t.regions) (stands_at_end h.kind t.kind after) e in
@@ -119,26 +119,26 @@ module _ (name : OpName) where
   row_kept sigs sigs' gives q (kind.Call callee) os ts e = (let z = q callee in rw z e)
   row_kept sigs sigs' gives q _ os ts e = e
 
-  pub types_step : (sigs sigs' : Signatures) → ((s : List ℕ) → sigs' s ≡ sigs s) → Step name (Passes (has_its_types sigs)) (Passes (has_its_types sigs'))
+  pub types_step : (sigs sigs' : Signatures) → ((s : List ℕ) → sigs' s ≡ sigs s) → KeptStep name (Passes (has_its_types sigs)) (Passes (has_its_types sigs'))
   types_step sigs sigs' q = record { turn = λ h types t after a g e. row_kept sigs sigs' h.gives q t.kind types t.results e }
 
-  pub attributes_step : Step name (Passes has_its_attributes) (Passes has_its_attributes)
+  pub attributes_step : KeptStep name (Passes has_its_attributes) (Passes has_its_attributes)
   attributes_step = record { turn = λ h types t after a g e. e }
 
   agrees_kept : (sigs sigs' : Signatures) → ((s : List ℕ) → sigs' s ≡ sigs s) → (k : Kind) (ts : List PayloadType) → callee_agrees sigs k ts ≡ true → callee_agrees sigs' k ts ≡ true
   agrees_kept sigs sigs' q (kind.Call callee) ts e = (let z = q callee in rw z e)
   agrees_kept sigs sigs' q _ ts e = e
 
-  pub callees_step : (sigs sigs' : Signatures) → ((s : List ℕ) → sigs' s ≡ sigs s) → Step name (Passes (has_its_callee sigs)) (Passes (has_its_callee sigs'))
+  pub callees_step : (sigs sigs' : Signatures) → ((s : List ℕ) → sigs' s ≡ sigs s) → KeptStep name (Passes (has_its_callee sigs)) (Passes (has_its_callee sigs'))
   callees_step sigs sigs' q = record { turn = λ h types t after a g e. agrees_kept sigs sigs' q t.kind t.results e }
 
-  pub chains_step : (fs : Ops) → OpsStay name fs → Step name (Passes (has_short_chains fs)) (Passes (has_short_chains (ops_at name tail fs)))
+  pub chains_step : (fs : Ops) → OpsStay name fs → KeptStep name (Passes (has_short_chains fs)) (Passes (has_short_chains (ops_at name tail fs)))
   chains_step fs s = record { turn = λ h types t after a g e. chain_kept name fs s (callee_of t.kind) e }
 
-  pub maps_step : Step name (Passes has_its_maps) (Passes has_its_maps)
+  pub maps_step : KeptStep name (Passes has_its_maps) (Passes has_its_maps)
   maps_step = record { turn = λ h types t after a g e. e }
 
-  pub iterators_step : Step name (Passes has_its_iterators) (Passes has_its_iterators)
+  pub iterators_step : KeptStep name (Passes has_its_iterators) (Passes has_its_iterators)
   iterators_step = record { turn = λ h types t after a g e. e }
 
   -- a body stays whole
@@ -146,17 +146,17 @@ module _ (name : OpName) where
   reduction_kept (kind.Generic maps iterators) t a e = (let q = a refl in rw q e)
   reduction_kept _ t a e = e
 
-  pub reductions_step : Step name (Passes has_its_reduction) (Passes has_its_reduction)
+  pub reductions_step : KeptStep name (Passes has_its_reduction) (Passes has_its_reduction)
   reductions_step = record { turn = λ h types t after a g e. reduction_kept t.kind t (λ y. at_absent_regions name t.regions (a y)) e }
 
-  pub extents_step : Step name (Passes has_its_extents) (Passes has_its_extents)
+  pub extents_step : KeptStep name (Passes has_its_extents) (Passes has_its_extents)
   extents_step = record { turn = λ h types t after a g e. e }
 
-  pub bodies_step : Step name (Passes fits_its_body) (Passes fits_its_body)
+  pub bodies_step : KeptStep name (Passes fits_its_body) (Passes fits_its_body)
   bodies_step = record { turn = λ h types t after a g e. e }
 
-  pub ranges_step : Step name (Passes has_types_in_range) (Passes has_types_in_range)
+  pub ranges_step : KeptStep name (Passes has_types_in_range) (Passes has_types_in_range)
   ranges_step = record { turn = λ h types t after a g e. rw (args_at name t.regions) e }
 
-  pub slices_step : Step name (Passes has_its_slices) (Passes has_its_slices)
+  pub slices_step : KeptStep name (Passes has_its_slices) (Passes has_its_slices)
   slices_step = record { turn = λ h types t after a g e. e }

@@ -9,7 +9,7 @@ use Rattle.xf_ir.specs.declared.name.ValueName.{ValueName}
 use Rattle.xf_ir.specs.declared.name.ValueName.TheVariants.{Result, Arg, Free}
 use Rattle.xf_ir.specs.Lists.{Each, Once, same_name, is_among}
 use Rattle.xf_ir.specs.Placed.{Typed, type_or, type_at, Holder, holder_of, Placed, ops_placed, regions_placed, functions_placed, blocks_placed}
-use Rattle.xf_ir.specs.Places.{Seen, done, inside, below, place_of, sees, AllSeen}
+use Rattle.xf_ir.specs.Places.{Seen, done, inside, below, numbering_of, sees, AllSeen}
 use Rattle.xf_ir.specs.Tree.{Ops, no_ops, op, Regions, no_regions, region, Tree}
 use Rattle.xf_ir.specs.Valid.{OpsSee, RegionsSee, FunctionsSee}
 use Rattle.xf_ir.specs.Walk.{ops_names, regions_names}
@@ -102,7 +102,7 @@ owner (inside n i count) = n
 abbrev pub Owned : List OpName → List Seen → Type 0
 Owned all ss = Each (λ s. is_among (owner s) all ≡ true) ss
 
-of_place : (all : List OpName) (s : Seen) (v : ValueName) → is_among (owner s) all ≡ true → is_some (place_of s v) ≡ true → IsOf all v
+of_place : (all : List OpName) (s : Seen) (v : ValueName) → is_among (owner s) all ≡ true → is_some (numbering_of s v) ≡ true → IsOf all v
 of_place all (done n count) (Result o num) h k =
     elim (cases_Bool (eqb o.0 n.0)) [ inl t ↦ subst (λ m. is_among m all ≡ true) (sym (name_is o n t)) h | inr f ↦ absurd (let z = rw f at k in cc) ]
 of_place all (done n count) (Arg o r num) h k = absurd (cc)
@@ -114,7 +114,7 @@ of_place all (inside n i count) (Free num) h k = tt
 
 of_seen : (all : List OpName) (ss : List Seen) (v : ValueName) → Owned all ss → sees ss v ≡ true → IsOf all v
 of_seen all [] v w h = absurd (cc)
-of_seen all (s ∷ ss) v w h = elim (or_cases (is_some (place_of s v)) (sees ss v) h) [ inl t ↦ of_place all s v w.0 t | inr t ↦ of_seen all ss v w.1 t ]
+of_seen all (s ∷ ss) v w h = elim (or_cases (is_some (numbering_of s v)) (sees ss v) h) [ inl t ↦ of_place all s v w.0 t | inr t ↦ of_seen all ss v w.1 t ]
 
 -- visible values are those of operations that are known
 pub all_of : (all : List OpName) (ss : List Seen) (vs : List ValueName) → Owned all ss → AllSeen ss vs → Each (IsOf all) vs
@@ -126,7 +126,7 @@ module _ (f : OpName → OpName) (all : List OpName) (stay : StayApart f all) wh
   seen_renamed (done n count) = done (f n) count
   seen_renamed (inside n i count) = inside (f n) i count
 
-  place_same : (s : Seen) (v : ValueName) → is_among (owner s) all ≡ true → IsOf all v → place_of (seen_renamed s) (value_renamed f v) ≡ place_of s v
+  place_same : (s : Seen) (v : ValueName) → is_among (owner s) all ≡ true → IsOf all v → numbering_of (seen_renamed s) (value_renamed f v) ≡ numbering_of s v
   place_same (done n count) (Result o num) h k = ap (λ b. cond b (below num count) None) (same_test f all o n stay k h)
   place_same (done n count) (Arg o r num) h k = refl
   place_same (done n count) (Free num) h k = refl

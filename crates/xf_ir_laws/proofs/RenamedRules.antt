@@ -6,7 +6,7 @@ use Rattle.xf_ir.specs.declared.kind.Kind.{Kind}
 use Rattle.xf_ir.specs.declared.kind.Kind.TheVariants as kind
 use Rattle.xf_ir.specs.declared.name.OpName.{OpName}
 use Rattle.xf_ir.specs.Calls.{Signature, signature, first_args, function_of, has_symbol, callee_before, ops_callees, regions_callees, callees_of, chains_end, chain_ends, has_short_chains}
-use Rattle.xf_ir.specs.Kinds.{callee_of, ends, ends_for, is_endless, returned_types}
+use Rattle.xf_ir.specs.Kinds.{callee_of, is_terminator, ends_for, is_endless, returned_types}
 use Rattle.xf_ir.specs.Lists.{every, option_passes}
 use Rattle.xf_ir.specs.Placed.{Placed}
 use Rattle.xf_ir.specs.RuleAttributes.{type_fits, has_types_in_range}
@@ -81,7 +81,7 @@ module _ (f : OpName → OpName) where
   blocks_same p =
       let a = blocks_end_same p.tree.kind p.tree.regions in
       let b = end_same p.after in
-      λ i. a i && (not (ends p.tree.kind) || (b i && ends_for p.holder.kind p.tree.kind))
+      λ i. a i && (not (is_terminator p.tree.kind) || (b i && ends_for p.holder.kind p.tree.kind))
 
   -- ---- V6 and V8: what symbols name
 

@@ -8,7 +8,7 @@ use Rattle.xf_ir.specs.declared.op.Module.{Module}
 use Rattle.xf_ir.specs.Tree.{Ops, no_ops, op, Regions, no_regions, region}
 use Rattle.xf_ir.specs.Walk.{ops_names, regions_names}
 use Rattle.xf_ir.specs.Lists.{same_name, is_among, Once}
-use Rattle.xf_ir.specs.Places.{Seen, done, inside, place_of, results_of, args_of, sees, IsFresh, OpsScoped, RegionsScoped, FunctionsScoped}
+use Rattle.xf_ir.specs.Places.{Seen, done, inside, numbering_of, results_of, args_of, sees, IsFresh, OpsScoped, RegionsScoped, FunctionsScoped}
 use Rattle.xf_ir.specs.Valid.{IsValid, OpsSee, RegionsSee, FunctionsSee, block_of, functions_of}
 use Rattle.xf_ir.proofs.Lists.{name_is, other_way, not_left, not_right, once_left, once_right}
 
@@ -41,7 +41,7 @@ apart_rest [] n ns h = tt
 apart_rest (s ∷ ss) n ns h = ((or_parts (same_name n (owner s)) (is_among (owner s) ns) h.0).1, apart_rest ss n ns h.1)
 
 -- a value of a place names the place's operation
-of_place : (s : Seen) (v : ValueName) (ns : List OpName) → is_some (place_of s v) ≡ true → is_among (owner s) ns ≡ false → is_of ns v ≡ false
+of_place : (s : Seen) (v : ValueName) (ns : List OpName) → is_some (numbering_of s v) ≡ true → is_among (owner s) ns ≡ false → is_of ns v ≡ false
 of_place (done n count) (Result o num) ns h k =
     elim (cases_Bool (eqb o.0 n.0)) [ inl t ↦ subst (λ m. is_among m ns ≡ false) (sym (name_is o n t)) k | inr f ↦ absurd (let z = rw f at h in cc) ]
 of_place (done n count) (Arg o r num) ns h k = absurd (cc)
@@ -54,7 +54,7 @@ of_place (inside n i count) (Free num) ns h k = refl
 of_seen : (ss : List Seen) (v : ValueName) (ns : List OpName) → Apart ss ns → sees ss v ≡ true → is_of ns v ≡ false
 of_seen [] v ns a h = absurd (cc)
 of_seen (s ∷ ss) v ns a h =
-    elim (or_cases (is_some (place_of s v)) (sees ss v) h) [ inl t ↦ of_place s v ns t a.0 | inr t ↦ of_seen ss v ns a.1 t ]
+    elim (or_cases (is_some (numbering_of s v)) (sees ss v) h) [ inl t ↦ of_place s v ns t a.0 | inr t ↦ of_seen ss v ns a.1 t ]
 
 no_result : (n : OpName) (count : ℕ) (v : ValueName) (ns : List OpName) → is_of (n ∷ ns) v ≡ false → results_of n count v ≡ None
 no_result n count (Result o num) ns h = (let f = other_way n o (or_parts (same_name n o) (is_among o ns) h).0 in rw f refl)

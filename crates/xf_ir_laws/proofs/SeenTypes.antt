@@ -9,7 +9,7 @@ use Rattle.xf_ir.specs.declared.name.ValueName.TheVariants.{Result, Arg, Free}
 use Rattle.xf_ir.specs.Tree.{Ops, no_ops, op, Regions, no_regions, region}
 use Rattle.xf_ir.specs.Lists.{Each, every}
 use Rattle.xf_ir.specs.Types.{known}
-use Rattle.xf_ir.specs.Places.{Seen, done, inside, below, place_of, sees, AllSeen}
+use Rattle.xf_ir.specs.Places.{Seen, done, inside, below, numbering_of, sees, AllSeen}
 use Rattle.xf_ir.specs.Placed.{Typed, type_or, type_at, Holder, holder_of, Placed}
 use Rattle.xf_ir.specs.Valid.{OpsSee, RegionsSee, FunctionsSee}
 use Rattle.xf_ir_laws.proofs.Obeys.{OpsObey, RegionsObey, FunctionsObey}
@@ -42,7 +42,7 @@ if_below : (b : Bool) (num count i : ℕ) → (if b then below num count else No
 if_below true num count i h = below_is num count i h
 if_below false num count i h = absurd (cc)
 
-place_below : (s : Seen) (v : ValueName) (i : ℕ) → place_of s v ≡ Some i → nat_lt i (size s) ≡ true
+place_below : (s : Seen) (v : ValueName) (i : ℕ) → numbering_of s v ≡ Some i → nat_lt i (size s) ≡ true
 place_below (done n count) (Result o num) i h = if_below (eqb o.0 n.0) num count i h
 place_below (done n count) (Arg o r num) i h = absurd (cc)
 place_below (done n count) (Free num) i h = absurd (cc)
@@ -62,7 +62,7 @@ or_known (Some i) ts later f = get_known ts i (f i refl)
 pub known_seen : (env : Typed) (v : ValueName) → Aligned env → known (type_at env v) ≡ sees (seen_of env) v
 known_seen [] v a = refl
 known_seen (x ∷ env) v a =
-    or_known (place_of x.0 v) x.1 (type_at env v) (λ i h. subst (λ k. nat_lt i k ≡ true) a.0 (place_below x.0 v i h)) ∙ ap (λ b. is_some (place_of x.0 v) || b) (known_seen env v a.1)
+    or_known (numbering_of x.0 v) x.1 (type_at env v) (λ i h. subst (λ k. nat_lt i k ≡ true) a.0 (place_below x.0 v i h)) ∙ ap (λ b. is_some (numbering_of x.0 v) || b) (known_seen env v a.1)
 
 -- ---- all operands
 

@@ -10,9 +10,9 @@ use Rattle.xf_span.specs.declared.fault.Fault.{Fault}
 use Rattle.xf_span.specs.Fault.{fault_at}
 use Rattle.xf_lex.specs.declared.token.TokenKind.{TokenKind}
 use Rattle.xf_lex.specs.declared.token.Token.{Token}
-use Rattle.xf_lex.specs.declared.front.Front.TheVariants as front
+use Rattle.xf_lex.specs.declared.lexeme.Lexeme.TheVariants as front
 use Rattle.xf_lex.specs.Bytes.{gap}
-use Rattle.xf_lex.specs.Fronts.{token_at}
+use Rattle.xf_lex.specs.Lexemes.{token_at}
 use Rattle.xf_span.specs.Place.{place_after, first_place}
 use Rattle.xf_lex.specs.Lexes.{Position, start, text_at, front_of, is_tensor, IsFirst, behind, Tokens, bytes_before, place_inside, BreaksAt, IsIllFormed}
 use Rattle.xf_lex.specs.Laws.{OneReading, OneFault, NeverBoth}

@@ -1,4 +1,4 @@
-pub mod Fronts
-pub mod LaidLemmas
+pub mod Lexemes
+pub mod LayoutLemmas
 pub mod Lexing
 pub mod Stays

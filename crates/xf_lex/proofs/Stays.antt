@@ -6,7 +6,7 @@ use Rattle.std.proofs.lemmas.Fmt.{decimal_by_steps}
 use Rattle.xf_lex.specs.declared.token.TokenKind.TheVariants as kind
 use Rattle.xf_type.specs.Bytes.{is_digit, is_letter, is_word_byte}
 use Rattle.xf_lex.specs.Bytes.{run}
-use Rattle.xf_lex.specs.Laid.{Plain, Stays}
+use Rattle.xf_lex.specs.Layout.{Plain, Stays}
 
 abbrev pub AllPass : (ℕ → Bool) → List ℕ → Type 0
 AllPass p [] = Unit {0}

@@ -4,7 +4,7 @@ use Rattle.std.specs.Str.{IsUtf8}
 use Rattle.xf_span.specs.declared.fault.Fault.{Fault}
 use Rattle.xf_lex.specs.declared.token.Token.{Token}
 use Rattle.xf_lex.specs.Lexes.{Lexes, HasFault}
-use Rattle.xf_lex.specs.Laid.{plain, Piece, laid, AllStay}
+use Rattle.xf_lex.specs.Layout.{plain, SpacedToken, layout, AllStay}
 
 -- a text has at most one list of tokens
 abbrev pub OneReading : Type 0
@@ -19,6 +19,6 @@ abbrev pub NeverBoth : Type 0
 NeverBoth = (bs : List ℕ) (ts : List Token) (f : Fault) → Lexes bs ts → HasFault bs f → ⊥
 
 -- a text that is laid out has the tokens of its pieces
-abbrev pub LaidAgain : Type 0
-LaidAgain = (ws : List Piece) (tail : List ℕ) → AllStay false ws tail → IsUtf8 (laid ws tail)
-    → (ts : List Token) × Lexes (laid ws tail) ts × (map plain ts ≡ map (λ w. w.token) ws)
+abbrev pub LayoutIsRead : Type 0
+LayoutIsRead = (ws : List SpacedToken) (tail : List ℕ) → AllStay false ws tail → IsUtf8 (layout ws tail)
+    → (ts : List Token) × Lexes (layout ws tail) ts × (map plain ts ≡ map (λ w. w.token) ws)

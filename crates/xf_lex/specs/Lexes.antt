@@ -13,10 +13,10 @@ use Rattle.xf_span.specs.Place.{place_after, first_place}
 use Rattle.xf_lex.specs.declared.token.TokenKind.{TokenKind}
 use Rattle.xf_lex.specs.declared.token.TokenKind.TheVariants as kind
 use Rattle.xf_lex.specs.declared.token.Token.{Token}
-use Rattle.xf_lex.specs.declared.front.Front.{Front}
-use Rattle.xf_lex.specs.declared.front.Front.TheVariants as front
+use Rattle.xf_lex.specs.declared.lexeme.Lexeme.{Lexeme}
+use Rattle.xf_lex.specs.declared.lexeme.Lexeme.TheVariants as front
 use Rattle.xf_lex.specs.Bytes.{gap}
-use Rattle.xf_lex.specs.Fronts.{token_at}
+use Rattle.xf_lex.specs.Lexemes.{token_at}
 
 -- ---- tokens
 
@@ -38,7 +38,7 @@ abbrev pub place_at : Place → List ℕ → Place
 place_at p bs = place_after p (take (gap bs) bs)
 
 -- what stands first behind a position
-abbrev pub front_of : Position → Front
+abbrev pub front_of : Position → Lexeme
 front_of p = token_at p.after_tensor (text_at p.rest)
 
 -- the word tensor

@@ -1,6 +1,6 @@
 pub mod Bytes
 pub mod Classes
-pub mod Fronts
-pub mod Laid
+pub mod Lexemes
+pub mod Layout
 pub mod Laws
 pub mod Lexes

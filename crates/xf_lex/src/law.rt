@@ -1,5 +1,5 @@
 //! What holds of the tokens of all texts.
-ghost use Rattle.xf_lex.specs.Laws.{OneReading, OneFault, NeverBoth, LaidAgain};
+ghost use Rattle.xf_lex.specs.Laws.{OneReading, OneFault, NeverBoth, LayoutIsRead};
 
 /// A text has one list of tokens or one first fault, and not both.
 pub fn one_answer()
@@ -9,6 +9,6 @@ pub fn one_answer()
 {}
 
 /// A text of blanks and tokens, none of which goes on in what follows, has these tokens.
-pub fn laid_again()
-    ensures { LaidAgain }
+pub fn layout_is_read()
+    ensures { LayoutIsRead }
 {}

@@ -8,7 +8,7 @@ ghost use Rattle.xf_span.specs.Place.{place_after, first_place};
 ghost use Rattle.xf_lex.specs.Lexes.{is_tensor, Lexes, IsRefused};
 
 use crate::byte_class::gap;
-use crate::front::{Front, token_at};
+use crate::lexeme::{Lexeme, token_at};
 use crate::token::{Token, TokenKind, TokenList};
 use std::alloc::Global;
 use xf_span::{Code, FIRST_PLACE, Fault, LexFault, place_after};
@@ -60,9 +60,9 @@ pub fn tokens(alloc: Global, bytes: &[u8]) -> Result<TokenList, LexFault>
         let (blanks, text) = rest.split_at(gap(rest));
         let at = place_after(place, blanks);
         let (kind, length) = match token_at(after_tensor, text) {
-            Front::Token(kind, length) => (kind, length),
-            Front::End if valid == bytes.len() => return Ok(tokens),
-            Front::Fault(code, inside) if bytes.len() - text.len() + inside < valid => {
+            Lexeme::Token(kind, length) => (kind, length),
+            Lexeme::End if valid == bytes.len() => return Ok(tokens),
+            Lexeme::Fault(code, inside) if bytes.len() - text.len() + inside < valid => {
                 return Err(Fault::at(code, place_after(at, &text[..inside])).into());
             }
             _ => return Err(ill_formed(bytes, valid).into()),

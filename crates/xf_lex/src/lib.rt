@@ -2,12 +2,12 @@
 #![tactic(auto)]
 
 mod byte_class;
-mod front;
 mod law;
 mod lex;
+mod lexeme;
 mod quoted;
 mod token;
 
-pub use law::{laid_again, one_answer};
+pub use law::{layout_is_read, one_answer};
 pub use lex::tokens;
 pub use token::{Token, TokenKind, TokenList};

@@ -1,6 +1,6 @@
 //! What stands between the quotes of a string.
 ghost use Rattle.std.specs.Prelude.{◌≡◌, ◌≤◌, length, false};
-ghost use Rattle.xf_lex.specs.Fronts.{quoted_in, starts_hex, is_escape, escaped_in};
+ghost use Rattle.xf_lex.specs.Lexemes.{quoted_in, starts_hex, is_escape, escaped_in};
 
 use xf_type::is_hex;
 

@@ -59,13 +59,13 @@ step_kind (kind.Constant width bits) e = record { core = refl; returns = refl }
 step_kind (kind.Binary which width) e = record { core = refl; returns = refl }
 step_kind _ e = absurd cc
 
-record Step (k : Kind) (ds : List Attr) (ts : List PayloadType) (rs : Regions) : Type 0 where
+record StepParts (k : Kind) (ds : List Attr) (ts : List PayloadType) (rs : Regions) : Type 0 where
   kind_is : IsCoreKind k
   bare : ds ≡ []
   scalars : all_scalar ts ≡ true
   leaf : rs ≡ no_regions
 
-step_parts : (k : Kind) (ds : List Attr) (ts : List PayloadType) (rs : Regions) → is_step k ds ts rs ≡ true → Step k ds ts rs
+step_parts : (k : Kind) (ds : List Attr) (ts : List PayloadType) (rs : Regions) → is_step k ds ts rs ≡ true → StepParts k ds ts rs
 step_parts k ds ts rs e =
     let p = and_parts (is_step_kind k) (is_empty ds && (is_i32_at_most ts && has_no_regions rs)) e in
     let q = and_parts (is_empty ds) (is_i32_at_most ts && has_no_regions rs) p.1 in

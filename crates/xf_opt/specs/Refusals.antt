@@ -8,7 +8,7 @@ use Rattle.xf_span.specs.declared.fault.TextFault.TheVariants as text_fault
 use Rattle.xf_span.specs.Fault.{plain_fault}
 use Rattle.xf_opt.specs.declared.outcome.File.{File}
 use Rattle.xf_opt.specs.declared.outcome.File.TheVariants as file
-use Rattle.xf_opt.specs.declared.outcome.Row.{Row}
+use Rattle.xf_opt.specs.declared.outcome.StatusRow.{StatusRow}
 use Rattle.xf_opt.specs.declared.outcome.Refusal.{Refusal}
 use Rattle.xf_opt.specs.declared.outcome.Refusal.TheVariants as because
 use Rattle.xf_opt.specs.declared.words.Command.{Command}
@@ -26,11 +26,11 @@ asked_by (command.Print payload) = print payload.now
 
 -- ---- the table
 
-abbrev pub row : ℕ → Fault → File → Row
+abbrev pub row : ℕ → Fault → File → StatusRow
 row status fault file = record { status = status; fault = fault; file = file }
 
 -- the status of a call that is refused so, its fault, and the file that the line names
-abbrev pub row_of : Refusal → Row
+abbrev pub row_of : Refusal → StatusRow
 row_of because.Words = row 1 (plain_fault code.Words) file.Neither
 row_of because.ScriptRead = row 2 (plain_fault code.ReadFailed) file.Script
 row_of because.PayloadRead = row 2 (plain_fault code.ReadFailed) file.Payload

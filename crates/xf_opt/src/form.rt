@@ -121,7 +121,9 @@ fn is_plain_head(kind: &Kind) -> bool
 {
     match kind {
         Kind::Func {
-            private, results, ..
+            private,
+            results,
+            ..
         } => !*private && is_one_i32(results.as_slice()),
         _ => false,
     }

@@ -55,17 +55,17 @@ enum File {
 
 /// What a call that is refused tells.
 #[derive(Clone, Copy, Debug)]
-struct Row {
+struct StatusRow {
     status: u8,
     fault: Fault,
     file: File,
 }
 
 /// The row of a refusal that has no more to it than its code.
-fn plain_row(status: u8, code: Code, file: File) -> Row
+fn plain_row(status: u8, code: Code, file: File) -> StatusRow
     ensures { result ≡ row status (plain_fault code) file }
 {
-    Row {
+    StatusRow {
         status,
         fault: Fault::plain(code),
         file,
@@ -74,7 +74,7 @@ fn plain_row(status: u8, code: Code, file: File) -> Row
 
 impl Refusal {
     /// The status of a call that ends so, its fault, and the file that the line names.
-    fn row(self) -> Row
+    fn row(self) -> StatusRow
         ensures { result ≡ row_of self }
     {
         match self {
@@ -82,7 +82,7 @@ impl Refusal {
             Refusal::ScriptRead => plain_row(2, Code::ReadFailed, File::Script),
             Refusal::PayloadRead => plain_row(2, Code::ReadFailed, File::Payload),
             Refusal::Script => plain_row(5, Code::N1, File::Script),
-            Refusal::Payload(fault) => Row {
+            Refusal::Payload(fault) => StatusRow {
                 status: 4,
                 fault,
                 file: File::Payload,

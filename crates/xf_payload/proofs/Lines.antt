@@ -11,11 +11,11 @@ use Rattle.xf_span.specs.Line.{HasLine}
 use Rattle.xf_lex.specs.declared.token.Token.{Token}
 use Rattle.xf_lex.specs.declared.token.TokenKind.{TokenKind}
 use Rattle.xf_lex.specs.declared.token.TokenKind.TheVariants as kind
-use Rattle.xf_lex.specs.declared.front.Front.{Front}
-use Rattle.xf_lex.specs.declared.front.Front.TheVariants as front
+use Rattle.xf_lex.specs.declared.lexeme.Lexeme.{Lexeme}
+use Rattle.xf_lex.specs.declared.lexeme.Lexeme.TheVariants as front
 use Rattle.xf_type.specs.Bytes.{is_digit, is_letter, is_word_byte}
 use Rattle.xf_lex.specs.Bytes.{is_name_start, is_name_byte, is_mark, run, starts}
-use Rattle.xf_lex.specs.Fronts.{quoted_in, string_of, string_at, value_at, named_at, hash_at, shape_at, integer_of, sign_at, token_at}
+use Rattle.xf_lex.specs.Lexemes.{quoted_in, string_of, string_at, value_at, named_at, hash_at, shape_at, integer_of, sign_at, token_at}
 use Rattle.xf_lex.specs.Lexes.{HasFault, text_at}
 use Rattle.xf_read_base.specs.declared.verdict.Verdict.{Verdict}
 use Rattle.xf_read_base.specs.declared.verdict.Verdict.TheVariants.{Syntax, OutOfProfile, NotBuilt, TooMany}
@@ -31,7 +31,7 @@ use Rattle.xf_payload.specs.Payload.{rule_code, IsNoPayload, IsRefused, IsTellab
 -- ---- tokens
 
 -- the fault of a front has what its line tells, at any place
-record IsPlaced (f : Front) : Type 0 where
+record IsPlaced (f : Lexeme) : Type 0 where
   pub line : (code : Code) (inside : ℕ) (p : Place) → f ≡ front.Fault code inside → HasLine (fault_at code p)
 
 token : (k : TokenKind) (count : ℕ) → IsPlaced (front.Token k count)
@@ -46,7 +46,7 @@ fault c n l = record { line = λ code inside p e. let same : c ≡ code = cc in 
 bad_byte : (n : ℕ) → IsPlaced (front.Fault L1 n)
 bad_byte n = fault L1 n (λ p. refl)
 
-either : (b : Bool) (x y : Front) → IsPlaced x → IsPlaced y → IsPlaced (if b then x else y)
+either : (b : Bool) (x y : Lexeme) → IsPlaced x → IsPlaced y → IsPlaced (if b then x else y)
 either true x y p q = p
 either false x y p q = q
 

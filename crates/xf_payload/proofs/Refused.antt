@@ -11,7 +11,7 @@ use Rattle.xf_ir.specs.declared.rule.Rule.TheVariants as rule
 use Rattle.xf_ir.specs.Rules.{number, numbered}
 use Rattle.xf_ir.specs.Violations.{Violation, first_violation}
 use Rattle.xf_verify.specs.declared.fault.VerifyFault.TheVariants as verify_fault
-use Rattle.xf_verify.specs.Verdict.{fault_of}
+use Rattle.xf_verify.specs.Answers.{fault_of}
 use Rattle.xf_read.specs.Spells.{Spells, HasPlaces, IsUnread}
 use Rattle.xf_span.specs.Limit.{file_limit}
 use Rattle.xf_payload.specs.Payload.{rule_fault, IsRefused, IsJudged}

@@ -11,4 +11,3 @@ mod row;
 mod tensor_rows;
 
 pub use printer::print;
-

@@ -8,15 +8,15 @@ use Rattle.xf_read_base.specs.declared.parts.Ref.{Ref}
 use Rattle.xf_read.specs.declared.scope.Named.{Named}
 use Rattle.xf_read.specs.Names.{earlier, argument_named, with_args, args_twice}
 use Rattle.xf_read_base.specs.Values.{text}
-use Rattle.xf_read.specs.Scopes.{Scope, with_name}
+use Rattle.xf_read.specs.Scopes.{Meanings, with_name}
 use Rattle.xf_read.proofs.Earlier.{earlier_regrouped}
 
-module _ (all : List Token) (n i : ℕ) (ts : List PayloadType) (rs : List Ref) (d : Ref) (name : List ℕ) (named : Named) (old new : Scope) (lt : i < length rs) (p : name ≡ text all (get_or rs i d).token) (q : named ≡ argument_named n i (slice_get ts i)) (e : new ≡ with_name name named old)
+module _ (all : List Token) (n i : ℕ) (ts : List PayloadType) (rs : List Ref) (d : Ref) (name : List ℕ) (named : Named) (old new : Meanings) (lt : i < length rs) (p : name ≡ text all (get_or rs i d).token) (q : named ≡ argument_named n i (slice_get ts i)) (e : new ≡ with_name name named old)
   where
     is_new : new ≡ with_name (text all (get_or rs i d).token) (argument_named n i (slice_get ts i)) old
     is_new = e ∙ ap (λ s. with_name s named old) p ∙ ap (λ x. with_name (text all (get_or rs i d).token) x old) q
 
-    pub args_more : (total : Scope) → with_args all n i ts (drop i rs) old ≡ total → with_args all n (i + 1) ts (drop (i + 1) rs) new ≡ total
+    pub args_more : (total : Meanings) → with_args all n i ts (drop i rs) old ≡ total → with_args all n (i + 1) ts (drop (i + 1) rs) new ≡ total
     args_more total h = ap (λ s. with_args all n (i + 1) ts (drop (i + 1) rs) s) is_new ∙ sym (at_drop_more (λ xs. with_args all n i ts xs old) rs i d lt) ∙ h
 
     pub args_twice_more : (t u total : Option ℕ) (seen : Bool) → seen ≡ is_some (old name) → u ≡ earlier t (if seen then Some (get_or rs i d).token else None)

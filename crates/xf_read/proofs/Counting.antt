@@ -3,11 +3,11 @@ use Rattle.std.proofs.Common.{◌≡◌, ℕ, zero, suc, ◌+◌, ◌<◌, ◌�
 use Rattle.std.specs.Prelude.{if◌then◌else◌, codes}
 use Rattle.std.proofs.lemmas.Bool.{ltb-true}
 use Rattle.xf_lex.specs.declared.token.Token.{Token}
-use Rattle.xf_grammar.specs.Tokens.{seen, looks, says, open_brace, close_brace}
+use Rattle.xf_grammar.specs.Tokens.{terminal_at, looks, says, open_brace, close_brace}
 use Rattle.xf_grammar.specs.Reading.{Out, ◌>>=◌}
 use Rattle.xf_grammar.proofs.Grammar.{not_too_many}
-use Rattle.xf_read_base.specs.declared.due.Due.{Due}
-use Rattle.xf_read_base.specs.declared.due.Due.TheVariants as due
+use Rattle.xf_read_base.specs.declared.expected.Expected.{Expected}
+use Rattle.xf_read_base.specs.declared.expected.Expected.TheVariants as due
 use Rattle.xf_read_base.specs.declared.parts.Parts.{Parts}
 use Rattle.xf_read_base.specs.declared.row.Level.{Level}
 use Rattle.xf_read_base.specs.declared.row.Level.TheVariants as level
@@ -140,7 +140,7 @@ node_adds all f h l depth count at le =
 nodes_add : (fuel : ℕ) (all : List Token) → InnerAdds (nodes_at fuel all)
 nodes_add zero all l depth count at le = tt
 nodes_add (suc fuel) all l depth count at le =
-    adds_if count nodes_count (closes (seen all at)) _ _ (λ yes. (omega arith, le))
+    adds_if count nodes_count (closes (terminal_at all at)) _ _ (λ yes. (omega arith, le))
     (λ no. adds_then count nodes_count (node_at all (nodes_at fuel all) l depth count at) _
     (λ n e. let a = added count tree_count (node_at all (nodes_at fuel all) l depth count at) n e (node_adds all (nodes_at fuel all) (nodes_add fuel all) l depth count at le) in
     adds_then count nodes_count (nodes_at fuel all (behind l) depth n.0.1 n.1) _
@@ -160,8 +160,8 @@ few_if : (b : Bool) (x y : Out File Cause) → Few x → Few y → Few (if b the
 few_if true x y p q = p
 few_if false x y p q = q
 
-ended_few : (all : List Token) (d : Due) (file : File) (at : ℕ) → file_count file ≤ most_operations → Few (ended all d file at)
-ended_few all d file at le = few_if (is_end (seen all at)) (Ok (file, at)) (Err (at, cause.Due d)) le tt
+ended_few : (all : List Token) (d : Expected) (file : File) (at : ℕ) → file_count file ≤ most_operations → Few (ended all d file at)
+ended_few all d file at le = few_if (is_end (terminal_at all at)) (Ok (file, at)) (Err (at, cause.Expected d)) le tt
 
 file_few : (fuel : ℕ) (all : List Token) → Few (file_at fuel all)
 file_few fuel all =

@@ -5,9 +5,9 @@ use Rattle.xf_lex.specs.declared.token.Token.{Token}
 use Rattle.xf_lex.specs.declared.token.TokenKind.{TokenKind}
 use Rattle.xf_lex.specs.declared.token.TokenKind.TheVariants as kind
 use Rattle.xf_type.specs.declared.payload_type.Width.TheVariants as width
-use Rattle.xf_grammar.specs.Tokens.{seen, is_kind, word_of, close_paren, colon, equals, open_brace, close_brace, open_paren}
-use Rattle.xf_read_base.specs.declared.due.Due.{Due}
-use Rattle.xf_read_base.specs.declared.due.Due.TheVariants as due
+use Rattle.xf_grammar.specs.Tokens.{terminal_at, is_kind, word_of, close_paren, colon, equals, open_brace, close_brace, open_paren}
+use Rattle.xf_read_base.specs.declared.expected.Expected.{Expected}
+use Rattle.xf_read_base.specs.declared.expected.Expected.TheVariants as due
 use Rattle.xf_read_base.specs.declared.list.Item.{Item}
 use Rattle.xf_read_base.specs.declared.list.Item.TheVariants as item
 use Rattle.xf_read_base.specs.declared.parts.EntryValue.{EntryValue}
@@ -19,8 +19,8 @@ use Rattle.xf_read_base.specs.declared.parts.Ref.{Ref}
 use Rattle.xf_read_base.specs.declared.row.Level.{Level}
 use Rattle.xf_read_base.specs.declared.row.Level.TheVariants as level
 use Rattle.xf_read_base.specs.declared.row.Row.{Row}
-use Rattle.xf_read_base.specs.declared.row.Slot.{Slot}
-use Rattle.xf_read_base.specs.declared.row.Slot.TheVariants as slot
+use Rattle.xf_read_base.specs.declared.row.FormatElement.{FormatElement}
+use Rattle.xf_read_base.specs.declared.row.FormatElement.TheVariants as slot
 use Rattle.xf_read_base.specs.Words.{spelling, opening_of}
 use Rattle.xf_read_base.specs.Rows.{slots}
 use Rattle.xf_read_base.specs.Parts.{no_parts, ref, count_of, with_symbol, with_literal, with_define, with_arg, with_use, with_entry}
@@ -30,13 +30,13 @@ use Rattle.xf_read.proofs.OfKind.{IsOf, LiteralOf, ValueOf, EntryOf, NameOf, Use
 
 -- ---- what is added
 
-symbol_added : (all : List Token) (at : ℕ) (h : Parts) → is_symbol (seen all at) ≡ true → Inside all h → Inside all (with_symbol at h)
+symbol_added : (all : List Token) (at : ℕ) (h : Parts) → is_symbol (terminal_at all at) ≡ true → Inside all h → Inside all (with_symbol at h)
 symbol_added all at h p w = (p, w.1)
 
 literal_added : (all : List Token) (l : Literal) (h : Parts) → LiteralOf all (Some l) → Inside all h → Inside all (with_literal l h)
 literal_added all l h p w = (w.0, (p, w.1.1))
 
-entry_added : (all : List Token) (name : ℕ) (v : EntryValue) (h : Parts) → is_name (seen all name) ≡ true → ValueOf all v → Inside all h → Inside all (with_entry name v h)
+entry_added : (all : List Token) (name : ℕ) (v : EntryValue) (h : Parts) → is_name (terminal_at all name) ≡ true → ValueOf all v → Inside all h → Inside all (with_entry name v h)
 entry_added all name v h k p w = (w.0, (w.1.0, (All-push (EntryOf all) h.entries _ w.1.1.0 (k, p), w.1.1.1)))
 
 define_added : (all : List Token) (r : Ref) (h : Parts) → NameOf all r → Inside all h → Inside all (with_define r h)
@@ -53,7 +53,7 @@ use_added all r h p w = (w.0, (w.1.0, (w.1.1.0, (w.1.1.1.0, (w.1.1.1.1.0, All-pu
 abbrev Stays : Rule → Type 0
 Stays rule = (all : List Token) (at : ℕ) → Keeps (Inside all) all rule at
 
-kind_stays : (d : Due) (k : TokenKind) → Stays (kind_rule d k)
+kind_stays : (d : Expected) (k : TokenKind) → Stays (kind_rule d k)
 unfolding kind_rule
 kind_stays d k all at = (λ e h w. w, λ e. tt)
 
@@ -81,13 +81,13 @@ use_stays : Stays use_rule
 unfolding use_rule
 use_stays all at = (
   λ e. (
-    λ i h w. use_added all (ref at (count_of (seen all (at + 1)))) h (e, λ none. absurd (let f : true ≡ false = sym i ∙ none in cc)) w,
+    λ i h w. use_added all (ref at (count_of (terminal_at all (at + 1)))) h (e, λ none. absurd (let f : true ≡ false = sym i ∙ none in cc)) w,
     λ i h w. use_added all (ref at 0) h (e, λ none. refl) w,
   ),
   λ e. tt,
 )
 
-width_stays : (d : Due) → Stays (width_rule d)
+width_stays : (d : Expected) → Stays (width_rule d)
 unfolding width_rule
 width_stays d all at = (λ e h w. w, λ e. tt)
 
@@ -99,7 +99,7 @@ predicate_stays : Stays predicate_rule
 unfolding predicate_rule
 predicate_stays all at = (λ e h w. w, λ e. tt)
 
-number_stays : (negative : Bool) (d : Due) → Stays (number_rule negative d)
+number_stays : (negative : Bool) (d : Expected) → Stays (number_rule negative d)
 unfolding number_rule
 number_stays negative d all at =
     (λ e. (λ h w. literal_added all (literal.Integer negative at) h e w, λ n. (kind_stays due.Other colon all n, λ m. width_stays due.Width all m)), λ e. tt)
@@ -112,11 +112,11 @@ unfolding literal_rule
 literal_stays all at =
     (λ e. truth_stays true all (at + 1), λ e. (λ e. truth_stays false all (at + 1), λ e. (λ e. tt, λ e. (λ e. number_stays true due.Other all (at + 1), λ e. number_stays false due.ConstantValue all at))))
 
-entry_width_stays : (all : List Token) (name : ℕ) (bytes : List ℕ) (negative : Bool) (digits at : ℕ) → is_name (seen all name) ≡ true → IsOf kind.Integer all digits → Keeps (Inside all) all (entry_width_rule name bytes negative digits (seen all digits)) at
+entry_width_stays : (all : List Token) (name : ℕ) (bytes : List ℕ) (negative : Bool) (digits at : ℕ) → is_name (terminal_at all name) ≡ true → IsOf kind.Integer all digits → Keeps (Inside all) all (entry_width_rule name bytes negative digits (terminal_at all digits)) at
 unfolding entry_width_rule
 entry_width_stays all name bytes negative digits at lt le = (λ e. (λ o h w. entry_added all name _ h lt le w, λ o. tt), λ e. tt)
 
-entry_number_stays : (all : List Token) (name : ℕ) (bytes : List ℕ) (negative : Bool) (d : Due) (at : ℕ) → is_name (seen all name) ≡ true → Keeps (Inside all) all (entry_number_rule name bytes negative d) at
+entry_number_stays : (all : List Token) (name : ℕ) (bytes : List ℕ) (negative : Bool) (d : Expected) (at : ℕ) → is_name (terminal_at all name) ≡ true → Keeps (Inside all) all (entry_number_rule name bytes negative d) at
 unfolding entry_number_rule
 entry_number_stays all name bytes negative d at lt = (
   λ e. (
@@ -129,7 +129,7 @@ entry_number_stays all name bytes negative d at lt = (
   λ e. tt,
 )
 
-entry_value_stays : (all : List Token) (name : ℕ) (bytes : List ℕ) (at : ℕ) → is_name (seen all name) ≡ true → Keeps (Inside all) all (entry_value_rule name bytes) at
+entry_value_stays : (all : List Token) (name : ℕ) (bytes : List ℕ) (at : ℕ) → is_name (terminal_at all name) ≡ true → Keeps (Inside all) all (entry_value_rule name bytes) at
 unfolding entry_value_rule
 entry_value_stays all name bytes at lt = (
   λ e h w. entry_added all name (value.Truth true) h lt tt w,
@@ -169,11 +169,11 @@ item_stays item.Entry all at = entry_stays all at
 list_stays : (i : Item) → Stays (list_rule i)
 list_stays i all at = λ n. item_stays i all n
 
-until_stays : (close : TokenKind) (d : Due) (i : Item) → Stays (until_rule close d i)
+until_stays : (close : TokenKind) (d : Expected) (i : Item) → Stays (until_rule close d i)
 unfolding until_rule
 until_stays close d i all at = (λ e h w. w, λ e. (list_stays i all at, λ n. kind_stays d close all n))
 
-enclosed_stays : (i : Item) (d : Due) → Stays (enclosed_rule i d)
+enclosed_stays : (i : Item) (d : Expected) → Stays (enclosed_rule i d)
 enclosed_stays i d all at = until_stays close_paren d i all at
 
 pub dictionary_stays : (all : List Token) (at : ℕ) → Keeps (Inside all) all dictionary_rule at
@@ -184,7 +184,7 @@ attributes_stays : Stays attributes_rule
 unfolding attributes_rule
 attributes_stays all at = (λ e. (kind_stays due.Other open_brace all (at + 1), λ n. until_stays close_brace due.Other item.Entry all n), λ e h w. w)
 
-result_types_stays : (d : Due) → Stays (result_types_rule d)
+result_types_stays : (d : Expected) → Stays (result_types_rule d)
 unfolding result_types_rule
 result_types_stays d all at = (λ e. enclosed_stays item.Result d all (at + 1), λ e. result_stays all at)
 
@@ -217,7 +217,7 @@ loop_width_stays : Stays loop_width_rule
 unfolding loop_width_rule
 loop_width_stays all at = (λ e. width_stays due.Width all (at + 1), λ e h w. w)
 
-slot_stays : (s : Slot) → Stays (slot_rule s)
+slot_stays : (s : FormatElement) → Stays (slot_rule s)
 slot_stays (slot.Mark b) all at = kind_stays due.Other (kind.Mark b) all at
 slot_stays (slot.Word k) all at = word_stays (spelling k) all at
 slot_stays slot.ModuleName all at = module_name_stays all at
@@ -240,18 +240,18 @@ slot_stays slot.IfResults all at = if_results_stays all at
 slot_stays slot.IterArgs all at = iter_args_stays all at
 slot_stays slot.LoopWidth all at = loop_width_stays all at
 
-slots_stays : (ss : List Slot) (all : List Token) (at : ℕ) → Keeps (Inside all) all (slots_rule ss) at
+slots_stays : (ss : List FormatElement) (all : List Token) (at : ℕ) → Keeps (Inside all) all (slots_rule ss) at
 slots_stays [] all at = λ h w. w
 slots_stays (s ∷ ss) all at = (slot_stays s all at, λ n. slots_stays ss all n)
 
 row_stays : (l : Level) → Stays (row_rule l)
 unfolding row_rule
-row_stays l all at = (λ e. (λ h w. w, λ n. slots_stays (slots (row_opened (opening_of (word_of (seen all at))))) all n), λ e. (λ o. tt, λ o. tt))
+row_stays l all at = (λ e. (λ h w. w, λ n. slots_stays (slots (row_opened (opening_of (word_of (terminal_at all at))))) all n), λ e. (λ o. tt, λ o. tt))
 
-defines_stays : (all : List Token) (name at : ℕ) → IsOf kind.Value all name → Keeps (Inside all) all (defines_rule (seen all name) name) at
+defines_stays : (all : List Token) (name at : ℕ) → IsOf kind.Value all name → Keeps (Inside all) all (defines_rule (terminal_at all name) name) at
 unfolding defines_rule
 defines_stays all name at lt = (
-  λ e. (λ o. (λ h w. define_added all (ref name (count_of (seen all (at + 1)))) h lt w, λ n. kind_stays due.Other equals all n), λ o. tt),
+  λ e. (λ o. (λ h w. define_added all (ref name (count_of (terminal_at all (at + 1)))) h lt w, λ n. kind_stays due.Other equals all n), λ o. tt),
   λ e. (λ h w. define_added all (ref name 1) h lt w, λ n. kind_stays due.Other equals all n),
 )
 
@@ -262,7 +262,7 @@ both_true false b e = absurd cc
 pub head_stays : (l : Level) (all : List Token) (at : ℕ) → Keeps (Inside all) all (head_rule l) at
 unfolding head_rule
 head_stays l all at =
-    (λ e. (defines_stays all at (at + 1) (both_true (has_operations l) (is_kind kind.Value (seen all at)) e), λ n. row_stays level.Body all n), λ e. row_stays l all at)
+    (λ e. (defines_stays all at (at + 1) (both_true (has_operations l) (is_kind kind.Value (terminal_at all at)) e), λ n. row_stays level.Body all n), λ e. row_stays l all at)
 
 pub nothing_inside : (all : List Token) (r : Row) → Inside all (no_parts r)
 nothing_inside all r = (tt, (tt, (All-nil (EntryOf all), (All-nil (NameOf all), (All-nil (NameOf all), All-nil (UseOf all))))))

@@ -7,12 +7,12 @@ use Rattle.std.proofs.lemmas.Slice.Eq.{bytes_eq-Decides}
 use Rattle.xf_lex.specs.declared.token.Token.{Token}
 use Rattle.xf_lex.specs.declared.token.TokenKind.{TokenKind}
 use Rattle.xf_lex.specs.declared.token.TokenKind.TheVariants as kind
-use Rattle.xf_grammar.specs.Tokens.{Seen, sees, seen, seen_of, telling, same_kind, is_kind, is_word, looks, says, open_brace, close_brace}
+use Rattle.xf_grammar.specs.Tokens.{Terminal, terminal, terminal_at, terminal_of, telling, same_kind, is_kind, is_word, looks, says, open_brace, close_brace}
 use Rattle.xf_grammar.specs.Reading.{Out, ◌>>=◌}
 use Rattle.xf_grammar.specs.Grammar.{AllStand, first_seen, Writes}
 use Rattle.xf_grammar.proofs.Grammar.{join, first_is, ends_at, not_too_many, found}
-use Rattle.xf_grammar.proofs.Steady.{true_or_false}
-use Rattle.xf_read_base.specs.declared.due.Due.{Due}
+use Rattle.xf_grammar.proofs.Lookahead.{true_or_false}
+use Rattle.xf_read_base.specs.declared.expected.Expected.{Expected}
 use Rattle.xf_read_base.specs.declared.parts.Parts.{Parts}
 use Rattle.xf_read_base.specs.declared.row.Level.{Level}
 use Rattle.xf_read_base.specs.declared.row.Row.{Row}
@@ -34,19 +34,19 @@ use Rattle.xf_read.proofs.TailLemmas.{SameRow, tail_leaves}
 
 -- ---- tokens that pass a test
 
-mark_kind : (b : ℕ) (k : TokenKind) (bytes : List ℕ) → same_kind k (kind.Mark b) ≡ true → sees k (telling k bytes) ≡ sees (kind.Mark b) []
-mark_kind b (kind.Mark c) bytes e = let q : c ≡ b = grind (arith, nat_tests) in ap (λ d. sees (kind.Mark d) []) q
+mark_kind : (b : ℕ) (k : TokenKind) (bytes : List ℕ) → same_kind k (kind.Mark b) ≡ true → terminal k (telling k bytes) ≡ terminal (kind.Mark b) []
+mark_kind b (kind.Mark c) bytes e = let q : c ≡ b = grind (arith, nat_tests) in ap (λ d. terminal (kind.Mark d) []) q
 mark_kind b k bytes e = absurd cc
 
-mark_token : (b : ℕ) (o : Option Token) → is_kind (kind.Mark b) (seen_of o) ≡ true → seen_of o ≡ sees (kind.Mark b) []
+mark_token : (b : ℕ) (o : Option Token) → is_kind (kind.Mark b) (terminal_of o) ≡ true → terminal_of o ≡ terminal (kind.Mark b) []
 mark_token b None e = absurd cc
 mark_token b (Some t) e = mark_kind b t.kind t.bytes e
 
-pub mark_is : (b : ℕ) (all : List Token) (at : ℕ) → is_kind (kind.Mark b) (seen all at) ≡ true → seen all at ≡ sees (kind.Mark b) []
+pub mark_is : (b : ℕ) (all : List Token) (at : ℕ) → is_kind (kind.Mark b) (terminal_at all at) ≡ true → terminal_at all at ≡ terminal (kind.Mark b) []
 mark_is b all at e = mark_token b (slice_get all at) e
 
-word_seen : (w : List ℕ) (x : Seen) → is_word w x ≡ true → x ≡ sees kind.Word w
-word_seen w (sees kind.Word bytes) e = ap (sees kind.Word) ((bytes_eq-Decides bytes w).0 e)
+word_seen : (w : List ℕ) (x : Terminal) → is_word w x ≡ true → x ≡ terminal kind.Word w
+word_seen w (terminal kind.Word bytes) e = ap (terminal kind.Word) ((bytes_eq-Decides bytes w).0 e)
 word_seen w x e = absurd cc
 
 -- ---- answers
@@ -59,7 +59,7 @@ pub bind_ok : {A B D : Type 0} (r : Out A D) (f : A × ℕ → Out B D) (y : B �
 bind_ok (Ok x) f y e = (x, (refl, e))
 bind_ok (Err d) f y e = absurd cc
 
-pub part_ok : {A : Type 0} (o : Out A Due) (x : A × ℕ) → part o ≡ Ok x → o ≡ Ok x
+pub part_ok : {A : Type 0} (o : Out A Expected) (x : A × ℕ) → part o ≡ Ok x → o ≡ Ok x
 part_ok (Ok z) x e = ap (λ y. Ok y) (same_answer z x (Ok z) refl e)
 part_ok (Err d) x e = absurd cc
 
@@ -88,11 +88,11 @@ yielded_found false ns count at x e =
     subst (Yielded false ns count at) (same_answer ((block ns at, count), at + 1) x (Ok ((block ns at, count), at + 1)) refl e) (refl, (z, (λ le. le, refl)))
 
 record BlockFound (all : List Token) (inner : Level → ℕ → From Nodes) (p : Parts) (depth count at : ℕ) (x : (Block × ℕ) × ℕ) : Type 0 where
-  opens : seen all at ≡ sees open_brace []
+  opens : terminal_at all at ≡ terminal open_brace []
   room : depth < most_open
   before : ℕ
   inside_read : inner (inside p.row) (depth + 1) count (at + 1) ≡ Ok ((x.0.0.nodes, before), x.0.0.close)
-  shuts : seen all x.0.0.close ≡ sees close_brace []
+  shuts : terminal_at all x.0.0.close ≡ terminal close_brace []
   total : x.0.1 ≡ before + cond (lacks_yield p x.0.0.nodes) 1 0
   limit : before ≤ most_operations → x.0.1 ≤ most_operations
   ends : x.1 ≡ x.0.0.close + 1
@@ -112,7 +112,7 @@ block_found all inner p depth count at x e = elim (either (looks all at open_bra
                 room = ltb-true depth most_open v.0;
                 before = b.0.0.1;
                 inside_read = subst (λ k. inner (inside p.row) (depth + 1) count (at + 1) ≡ Ok ((k.nodes, b.0.0.1), k.close)) (sym o) b.1.0;
-                shuts = subst (λ k. seen all k.close ≡ sees close_brace []) (sym o) (mark_is 125 all b.0.1 u.0);
+                shuts = subst (λ k. terminal_at all k.close ≡ terminal close_brace []) (sym o) (mark_is 125 all b.0.1 u.0);
                 total = subst (λ k. x.0.1 ≡ b.0.0.1 + cond (lacks_yield p k.nodes) 1 0) (sym o) z.1.0;
                 limit = z.1.1.0;
                 ends = subst (λ k. x.1 ≡ k.close + 1) (sym o) z.1.1.1;
@@ -127,7 +127,7 @@ block_found all inner p depth count at x e = elim (either (looks all at open_bra
 -- operations that are read, with the tokens that write them
 abbrev pub NodesFound : List Token → Level → ℕ → ℕ → ℕ → Nodes → ℕ → ℕ → Type 0
 NodesFound all l depth count at ns c next =
-    (ps : List Seen) × (AllStand all at ps next × (NodesWritten l at ps (seen all next) (nodes_said all ns) × (NestsWell depth (nodes_said all ns)
+    (ps : List Terminal) × (AllStand all at ps next × (NodesWritten l at ps (terminal_at all next) (nodes_said all ns) × (NestsWell depth (nodes_said all ns)
     × ((c ≡ count + operations (nodes_said all ns)) × (count ≤ most_operations → c ≤ most_operations)))))
 
 abbrev Finds : List Token → (Level → ℕ → From Nodes) → Type 0
@@ -135,13 +135,13 @@ Finds all inner = (l : Level) (depth count at : ℕ) (ns : Nodes) (c next : ℕ)
 
 abbrev BodiesFound : List Token → Parts → ℕ → ℕ → ℕ → (Bodies × ℕ) × ℕ → Type 0
 BodiesFound all p depth count at x =
-    (ps : List Seen) × (AllStand all at ps x.1 × (BodiesWritten p.row at ps (seen all x.1) (bodies_said all x.0.0) × (BodiesNestWell depth (bodies_said all x.0.0)
+    (ps : List Terminal) × (AllStand all at ps x.1 × (BodiesWritten p.row at ps (terminal_at all x.1) (bodies_said all x.0.0) × (BodiesNestWell depth (bodies_said all x.0.0)
     × ((x.0.1 ≡ count + operations_inside (said all p) (bodies_said all x.0.0)) × (count ≤ most_operations → x.0.1 ≤ most_operations)))))
 
 -- one block with the tokens that write it
 abbrev OneFound : List Token → Parts → ℕ → ℕ → ℕ → (Block × ℕ) × ℕ → Type 0
 OneFound all p depth count at x =
-    (ps : List Seen) × (AllStand all at ps x.1 × (Braced (λ qs. NodesWritten (inside p.row) (at + 1) qs (sees close_brace []) (nodes_said all x.0.0.nodes)) ps
+    (ps : List Terminal) × (AllStand all at ps x.1 × (Braced (λ qs. NodesWritten (inside p.row) (at + 1) qs (terminal close_brace []) (nodes_said all x.0.0.nodes)) ps
     × ((depth < most_open) × (NestsWell (depth + 1) (nodes_said all x.0.0.nodes)
     × ((x.0.1 ≡ count + (operations (nodes_said all x.0.0.nodes) + left_out (said all p) (nodes_said all x.0.0.nodes))) × (count ≤ most_operations → x.0.1 ≤ most_operations))))))
 
@@ -152,9 +152,9 @@ one_found all inner find p depth count at x e =
     let l = left_is all p x.0.0.nodes in
     let t = b.total in
     let m = n.1.1.1.1.0 in (
-      sees open_brace [] ∷ (n.0 ++ sees close_brace [] ∷ []),
+      terminal open_brace [] ∷ (n.0 ++ terminal close_brace [] ∷ []),
       (
-        (b.opens, join n.0 (sees close_brace [] ∷ []) all (at + 1) x.0.0.close x.1 n.1.0 (b.shuts, sym b.ends)),
+        (b.opens, join n.0 (terminal close_brace [] ∷ []) all (at + 1) x.0.0.close x.1 n.1.0 (b.shuts, sym b.ends)),
         (
           (n.0, (refl, subst (λ y. NodesWritten (inside p.row) (at + 1) n.0 y (nodes_said all x.0.0.nodes)) b.shuts n.1.1.0)),
           (b.room, (n.1.1.1.0, (omega (arith, l, t, m), λ le. b.limit (n.1.1.1.1.1 le)))),
@@ -178,16 +178,16 @@ single_found all p depth count at b c k e n o =
 else_found : (all : List Token) (p : Parts) (depth count at : ℕ) (b : Block) (c k : ℕ) (b' : Block) (c' k' : ℕ) → has_body p.row ≡ true → has_else p.row ≡ true → says all k (codes "else") ≡ true → OneFound all p depth count at ((b, c), k)
     → OneFound all p depth c (k + 1) ((b', c'), k') → BodiesFound all p depth count at ((body b.nodes b.close (body b'.nodes b'.close no_bodies), c'), k')
 else_found all p depth count at b c k b' c' k' e f s o o' =
-    let w = word_seen (codes "else") (seen all k) s in
+    let w = word_seen (codes "else") (terminal_at all k) s in
     let m : k ≡ at + length o.0 = ends_at o.0 all at k o.1.0 in
     let t = o.1.1.1.1.1.0 in
     let t' = o'.1.1.1.1.1.0 in
-    let z = subst (λ i. Braced (λ qs. NodesWritten (inside p.row) (i + 1 + 1) qs (sees close_brace []) (nodes_said all b'.nodes)) o'.0) m o'.1.1.0 in (
-      o.0 ++ (sees kind.Word (codes "else") ∷ o'.0),
+    let z = subst (λ i. Braced (λ qs. NodesWritten (inside p.row) (i + 1 + 1) qs (terminal close_brace []) (nodes_said all b'.nodes)) o'.0) m o'.1.1.0 in (
+      o.0 ++ (terminal kind.Word (codes "else") ∷ o'.0),
       (
-        join o.0 (sees kind.Word (codes "else") ∷ o'.0) all at k k' o.1.0 (w, o'.1.0),
+        join o.0 (terminal kind.Word (codes "else") ∷ o'.0) all at k k' o.1.0 (w, o'.1.0),
         (
-          (e, (o.0, (sees kind.Word (codes "else") ∷ o'.0, (refl, (o.1.1.0, (f, (o'.0, (refl, (z, refl))))))))),
+          (e, (o.0, (terminal kind.Word (codes "else") ∷ o'.0, (refl, (o.1.1.0, (f, (o'.0, (refl, (z, refl))))))))),
           ((o.1.1.1.0, (o.1.1.1.1.0, (o'.1.1.1.0, (o'.1.1.1.1.0, tt)))), (omega (arith, t, t'), λ le. o'.1.1.1.1.1.1 (o.1.1.1.1.1.1 le))),
         ),
       ),
@@ -237,17 +237,17 @@ bodies_found all inner find p depth count at x r =
 -- ---- the tail
 
 abbrev TailFound : List Token → Row → Parts → ℕ → Parts → ℕ → Type 0
-TailFound all r p at q next = (ps : List Seen) × (AllStand all at ps next × (TailWritten (has_tail r) at ps (seen all next) (said all p) (said all q) × SameRow p q))
+TailFound all r p at q next = (ps : List Terminal) × (AllStand all at ps next × (TailWritten (has_tail r) at ps (terminal_at all next) (said all p) (said all q) × SameRow p q))
 
 tail_read : (all : List Token) (p : Parts) (at : ℕ) (q : Parts) (next : ℕ) → part (dictionary_at all p at) ≡ Ok (q, next)
-    → (ps : List Seen) × (AllStand all at ps next × (Writes dictionary_rule at ps (seen all next) (said all p) (said all q) × SameRow p q))
+    → (ps : List Terminal) × (AllStand all at ps next × (Writes dictionary_rule at ps (terminal_at all next) (said all p) (said all q) × SameRow p q))
 tail_read all p at q next e =
     let d = part_ok (dictionary_at all p at) (q, next) e in
     let r = found dictionary_rule (said all) all p q at next (dictionary_tells all at) d in
     (r.0, (r.1.0, (r.1.1, tail_leaves p q all at next d)))
 
 no_tail_read : (all : List Token) (p : Parts) (at : ℕ) (q : Parts) (next : ℕ) → (let o : Out Parts Cause = Ok (p, at) in o ≡ Ok (q, next))
-    → (ps : List Seen) × (AllStand all at ps next × (((ps ≡ []) × (said all p ≡ said all q)) × SameRow p q))
+    → (ps : List Terminal) × (AllStand all at ps next × (((ps ≡ []) × (said all p ≡ said all q)) × SameRow p q))
 no_tail_read all p at q next e =
     let s = same_answer (p, at) (q, next) (Ok (p, at)) refl e in
     let t : p ≡ q = ap (λ x. x.0) s in
@@ -274,7 +274,7 @@ record TreeFound (all : List Token) (l : Level) (depth count at : ℕ) (x : (Tre
   n : ℕ
   k : ℕ
   limit : count < most_operations
-  head : (ps : List Seen) × (AllStand all at ps n × IsHead l at ps (seen all n) (said all p))
+  head : (ps : List Terminal) × (AllStand all at ps n × IsHead l at ps (terminal_at all n) (said all p))
   bodies : BodiesFound all p depth (count + 1) n ((x.0.0.bodies, x.0.1), k)
   tail : TailFound all p.row p k x.0.0.parts x.1
 
@@ -316,7 +316,7 @@ node_joined all l depth count at x ns c next t r =
     let e3 = ends_at ts all t.k x.1 d.1.0 in
     let d2 : t.k ≡ at + length hs + length bs = omega (arith, e1, e2) in
     let d3 : x.1 ≡ at + length hs + length bs + length ts = omega (arith, e1, e2, e3) in
-    let y = seen all next in
+    let y = terminal_at all next in
     let w1 = subst (λ z. IsHead l at hs z (said all p)) (first_is (bs ++ (ts ++ ms)) all t.n next s2) h.1.1 in
     let w2 = subst (λ z. BodiesWritten p.row t.n bs z (bodies_said all x.0.0.bodies)) (first_is (ts ++ ms) all t.k next s3) b.1.1.0 in
     let w2' = subst (λ i. BodiesWritten p.row i bs (first_seen (ts ++ ms) y) (bodies_said all x.0.0.bodies)) e1 w2 in
@@ -345,7 +345,7 @@ pub nodes_found : (f : ℕ) (all : List Token) → Finds all (nodes_at f all)
 nodes_found zero all l depth count at ns c next e = absurd cc
 nodes_found (suc f) all l depth count at ns c next e =
     let F : (Nodes × ℕ) × ℕ → Type 0 = λ x. NodesFound all l depth count at x.0.0 x.0.1 x.1 in
-    elim (either (closes (seen all at)) _ _ ((ns, c), next) e) [
+    elim (either (closes (terminal_at all at)) _ _ ((ns, c), next) e) [
       | inl w ↦ subst F (same_answer ((no_nodes, count), at) ((ns, c), next) (Ok ((no_nodes, count), at)) refl w.1) (none_found all l depth count at)
       | inr w ↦
           let t = bind_ok (node_at all (nodes_at f all) l depth count at) _ ((ns, c), next) w.1 in

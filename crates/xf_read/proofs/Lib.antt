@@ -9,7 +9,7 @@ pub mod Joining
 pub mod Limits
 pub mod Meanings
 pub mod OfKind
-pub mod Place
+pub mod TokenPlaces
 pub mod ReadAgain
 pub mod SameTypes
 pub mod Scoping

@@ -10,7 +10,7 @@ use Rattle.xf_read.specs.declared.tree.File.{File}
 use Rattle.xf_read.specs.Laws.{IsText}
 use Rattle.xf_read.specs.Meant.{joined, left_out, yield_tree, nodes_meant, bodies_meant, meant}
 use Rattle.xf_read.specs.Names.{yield_count, nodes_count, bodies_count, inside, behind}
-use Rattle.xf_read.specs.Scopes.{Scope, no_names}
+use Rattle.xf_read.specs.Scopes.{Meanings, no_names}
 use Rattle.xf_read.specs.Short.{SpeltIsWithinLimits}
 use Rattle.xf_read.specs.Syntax.{lacks_yield}
 use Rattle.xf_read.specs.Tree.{Nodes, no_nodes, node, Bodies, no_bodies, body}
@@ -29,12 +29,12 @@ yield_nests true n depth = (tt, tt)
 yield_nests false n depth = tt
 
 mutual
-  nodes_nest : (all : List Token) (n : ℕ) (scope : Scope) (ns : Nodes) (depth : ℕ) → NestsWell depth (nodes_said all ns) → OpsNest depth (nodes_meant all n scope ns)
+  nodes_nest : (all : List Token) (n : ℕ) (scope : Meanings) (ns : Nodes) (depth : ℕ) → NestsWell depth (nodes_said all ns) → OpsNest depth (nodes_meant all n scope ns)
   nodes_nest all n scope no_nodes depth h = tt
   nodes_nest all n scope (node first p bs rest) depth h =
       (bodies_nest all (n + 1) p (inside all n p scope) bs depth h.0, nodes_nest all (n + (1 + bodies_count p bs)) (behind all n p scope) rest depth h.1)
 
-  bodies_nest : (all : List Token) (n : ℕ) (p : Parts) (scope : Scope) (bs : Bodies) (depth : ℕ) → BodiesNestWell depth (bodies_said all bs) → RegionsNest depth (bodies_meant all n p scope bs)
+  bodies_nest : (all : List Token) (n : ℕ) (p : Parts) (scope : Meanings) (bs : Bodies) (depth : ℕ) → BodiesNestWell depth (bodies_said all bs) → RegionsNest depth (bodies_meant all n p scope bs)
   bodies_nest all n p scope no_bodies depth h = tt
   bodies_nest all n p scope (body ns close rest) depth h = (
     h.0,
@@ -55,14 +55,14 @@ left_count true n = refl
 left_count false n = refl
 
 mutual
-  nodes_counted : (all : List Token) (n : ℕ) (scope : Scope) (ns : Nodes) → ops_count (nodes_meant all n scope ns) ≡ nodes_count ns
+  nodes_counted : (all : List Token) (n : ℕ) (scope : Meanings) (ns : Nodes) → ops_count (nodes_meant all n scope ns) ≡ nodes_count ns
   nodes_counted all n scope no_nodes = refl
   nodes_counted all n scope (node first p bs rest) =
       let a = bodies_counted all (n + 1) p (inside all n p scope) bs in
       let b = nodes_counted all (n + (1 + bodies_count p bs)) (behind all n p scope) rest in
       omega (arith, a, b)
 
-  bodies_counted : (all : List Token) (n : ℕ) (p : Parts) (scope : Scope) (bs : Bodies) → regions_count (bodies_meant all n p scope bs) ≡ bodies_count p bs
+  bodies_counted : (all : List Token) (n : ℕ) (p : Parts) (scope : Meanings) (bs : Bodies) → regions_count (bodies_meant all n p scope bs) ≡ bodies_count p bs
   bodies_counted all n p scope no_bodies = refl
   bodies_counted all n p scope (body ns close rest) =
       let a = nodes_counted all n scope ns in

@@ -5,8 +5,8 @@ use Rattle.std.proofs.lemmas.List.Elements.{All-nil, All-cons, All-head, All-tai
 use Rattle.xf_lex.specs.declared.token.Token.{Token}
 use Rattle.xf_lex.specs.declared.token.TokenKind.{TokenKind}
 use Rattle.xf_lex.specs.declared.token.TokenKind.TheVariants as kind
-use Rattle.xf_grammar.specs.Tokens.{Seen, the_end, seen, is_kind, is_index}
-use Rattle.xf_read_base.specs.declared.parts.Entry.{Entry}
+use Rattle.xf_grammar.specs.Tokens.{Terminal, the_end, terminal_at, is_kind, is_index}
+use Rattle.xf_read_base.specs.declared.parts.AttrEntry.{AttrEntry}
 use Rattle.xf_read_base.specs.declared.parts.EntryValue.{EntryValue}
 use Rattle.xf_read_base.specs.declared.parts.EntryValue.TheVariants as value
 use Rattle.xf_read_base.specs.declared.parts.Literal.{Literal}
@@ -22,11 +22,11 @@ use Rattle.xf_read.specs.Within.{RefWithin, SymbolWithin, LiteralWithin, ValueWi
 
 -- a token of this kind has this number
 abbrev pub IsOf : TokenKind → List Token → ℕ → Type 0
-IsOf k all at = is_kind k (seen all at) ≡ true
+IsOf k all at = is_kind k (terminal_at all at) ≡ true
 
 abbrev pub SymbolOf : List Token → Option ℕ → Type 0
 SymbolOf all None = Unit {0}
-SymbolOf all (Some at) = is_symbol (seen all at) ≡ true
+SymbolOf all (Some at) = is_symbol (terminal_at all at) ≡ true
 
 abbrev pub LiteralOf : List Token → Option Literal → Type 0
 LiteralOf all None = Unit {0}
@@ -37,17 +37,17 @@ abbrev pub ValueOf : List Token → EntryValue → Type 0
 ValueOf all value.Unit = Unit {0}
 ValueOf all (value.Truth b) = Unit {0}
 ValueOf all (value.Integer negative at width) = IsOf kind.Integer all at
-ValueOf all (value.Text at) = is_string (seen all at) ≡ true
+ValueOf all (value.Text at) = is_string (terminal_at all at) ≡ true
 
-abbrev pub EntryOf : List Token → Entry → Type 0
-EntryOf all e = (is_name (seen all e.name) ≡ true) × ValueOf all e.value
+abbrev pub EntryOf : List Token → AttrEntry → Type 0
+EntryOf all e = (is_name (terminal_at all e.name) ≡ true) × ValueOf all e.value
 
 abbrev pub NameOf : List Token → Ref → Type 0
 NameOf all r = IsOf kind.Value all r.token
 
 -- a use without a number counts 0
 abbrev pub UseOf : List Token → Ref → Type 0
-UseOf all r = IsOf kind.Value all r.token × (is_index (seen all (r.token + 1)) ≡ false → r.count ≡ 0)
+UseOf all r = IsOf kind.Value all r.token × (is_index (terminal_at all (r.token + 1)) ≡ false → r.count ≡ 0)
 
 -- the parts of an operation
 abbrev pub Inside : List Token → Parts → Type 0
@@ -77,7 +77,7 @@ FileOf all file = RootOf all file.written file.root.first file.root.parts file.r
 -- ---- numbers
 
 -- a token stands where a test passes that the end does not pass
-pub at_token : (test : Seen → Bool) → test the_end ≡ false → (all : List Token) (at : ℕ) → test (seen all at) ≡ true → at < length all
+pub at_token : (test : Terminal → Bool) → test the_end ≡ false → (all : List Token) (at : ℕ) → test (terminal_at all at) ≡ true → at < length all
 at_token test e [] zero t = absurd (let f : true ≡ false = sym t ∙ e in cc)
 at_token test e [] (suc n) t = absurd (let f : true ≡ false = sym t ∙ e in cc)
 at_token test e (x ∷ xs) zero t = omega arith

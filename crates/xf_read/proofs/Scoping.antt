@@ -8,14 +8,14 @@ use Rattle.std.specs.Cmp.Lexicographic.{slice_cmp}
 use Rattle.std.specs.Ordering.{nat_cmp}
 use Rattle.std.specs.Str.{bytes_eq}
 use Rattle.std.proofs.lemmas.Map.Text.{btree_map_updates_str}
-use Rattle.xf_read.specs.declared.scope.Change.{Change}
+use Rattle.xf_read.specs.declared.scope.Hidden.{Hidden}
 use Rattle.xf_read.specs.declared.scope.Named.{Named}
-use Rattle.xf_read.specs.declared.scope.Scope.{Scope as Visible}
-use Rattle.xf_read.specs.Scopes.{Scope, beside, with_name}
+use Rattle.xf_read.specs.declared.scope.VisibleNames.{VisibleNames as Visible}
+use Rattle.xf_read.specs.Scopes.{Meanings, beside, with_name}
 use Rattle.xf_read.specs.Visible.{names_in, put_back, before, Grows}
 use Rattle.xf_read.specs.Walks.{Same}
 
-pub same_names : (f g : Scope) → ((q : List ℕ) → f q ≡ g q) → f ≡ g
+pub same_names : (f g : Meanings) → ((q : List ℕ) → f q ≡ g q) → f ≡ g
 same_names f g h = λ i q. h q i
 
 -- what an update of the map does to the names
@@ -29,23 +29,23 @@ pub put_beside : (name : List ℕ) (x together : Named) (s t : Visible) → Upda
 put_beside name x together s t u e =
     same_names _ _ (λ q. updated name s.visible t.visible (Some together) u q ∙ ap (λ y. if bytes_eq name q then Some y else names_in s q) e)
 
-pub before_more : (cs : List Change) (c : Change) (scope : Scope) → before (cs ++ c ∷ []) scope ≡ before cs (put_back c scope)
+pub before_more : (cs : List Hidden) (c : Hidden) (scope : Meanings) → before (cs ++ c ∷ []) scope ≡ before cs (put_back c scope)
 before_more [] c scope = refl
 before_more (d ∷ cs) c scope = ap (put_back d) (before_more cs c scope)
 
-pub before_append : (cs ds : List Change) (scope : Scope) → before (cs ++ ds) scope ≡ before cs (before ds scope)
+pub before_append : (cs ds : List Hidden) (scope : Meanings) → before (cs ++ ds) scope ≡ before cs (before ds scope)
 before_append [] ds scope = refl
 before_append (d ∷ cs) ds scope = ap (put_back d) (before_append cs ds scope)
 
 -- a change of a name is taken back
-undone_at : (name q : List ℕ) (x : Named) (scope : Scope) (b : Bool) → bytes_eq name q ≡ b → (if b then scope name else (if b then Some (beside (scope name) x) else scope q)) ≡ scope q
+undone_at : (name q : List ℕ) (x : Named) (scope : Meanings) (b : Bool) → bytes_eq name q ≡ b → (if b then scope name else (if b then Some (beside (scope name) x) else scope q)) ≡ scope q
 undone_at name q x scope true e = ap scope ((bytes_eq-Decides name q).0 e)
 undone_at name q x scope false e = refl
 
-undone : (name : List ℕ) (x : Named) (scope : Scope) (c : Change) → c.name.now ≡ name → c.before ≡ scope name → put_back c (with_name name x scope) ≡ scope
+undone : (name : List ℕ) (x : Named) (scope : Meanings) (c : Hidden) → c.name.now ≡ name → c.before ≡ scope name → put_back c (with_name name x scope) ≡ scope
 undone name x scope c p e = same_names _ _ (λ q. rw (p, e) (undone_at name q x scope (bytes_eq name q) refl))
 
-pub entered : (s t : Visible) (name : List ℕ) (x : Named) (c : Change) → t.changes.items ≡ s.changes.items ++ c ∷ [] → c.name.now ≡ name → c.before ≡ names_in s name → names_in t ≡ with_name name x (names_in s) → Grows s t
+pub entered : (s t : Visible) (name : List ℕ) (x : Named) (c : Hidden) → t.changes.items ≡ s.changes.items ++ c ∷ [] → c.name.now ≡ name → c.before ≡ names_in s name → names_in t ≡ with_name name x (names_in s) → Grows s t
 entered s t name x c changes p e names = record { more = c ∷ []; changes = changes; names = ap (put_back c) names ∙ undone name x (names_in s) c p e }
 
 -- ---- scopes that grow
@@ -94,7 +94,7 @@ take_last zero xs x le = refl
 take_last (suc n) [] x le = absurd (omega arith)
 take_last (suc n) (y ∷ xs) x le = ap (λ zs. y ∷ zs) (take_last n xs x (omega arith))
 
-pub one_back : (h : ℕ) (cs ds : List Change) (c : Change) (f g total : Scope) → ds ≡ cs ++ c ∷ [] → h ≤ length cs → g ≡ put_back c f → before (drop h ds) f ≡ total → before (drop h cs) g ≡ total
+pub one_back : (h : ℕ) (cs ds : List Hidden) (c : Hidden) (f g total : Meanings) → ds ≡ cs ++ c ∷ [] → h ≤ length cs → g ≡ put_back c f → before (drop h ds) f ≡ total → before (drop h cs) g ≡ total
 one_back h cs ds c f g total e le p h' = ap (before (drop h cs)) p ∙ sym (before_more (drop h cs) c f) ∙ ap (λ xs. before xs f) (sym (drop_last h cs c le)) ∙ ap (λ xs. before (drop h xs) f) (sym e) ∙ h'
 
 -- ---- scopes that are the same

@@ -7,7 +7,7 @@ use Rattle.std.proofs.lemmas.Bool.{and_parts, eqb-true}
 use Rattle.std.proofs.lemmas.List.{length-map}
 use Rattle.xf_type.specs.declared.payload_type.PayloadType.{PayloadType}
 use Rattle.xf_lex.specs.declared.token.Token.{Token}
-use Rattle.xf_read_base.specs.declared.parts.Entry.{Entry}
+use Rattle.xf_read_base.specs.declared.parts.AttrEntry.{AttrEntry}
 use Rattle.xf_read_base.specs.declared.parts.Parts.{Parts}
 use Rattle.xf_read_base.specs.declared.row.Row.{Row}
 use Rattle.xf_read_base.specs.declared.row.Row.TheVariants as row
@@ -25,7 +25,7 @@ use Rattle.xf_read.specs.declared.faults.Faults.{Faults}
 use Rattle.xf_read.specs.declared.tree.File.{File}
 use Rattle.xf_read.specs.Meant.{operands_of, joined, left_out, nodes_meant, bodies_meant, tree_meant, file_count, meant}
 use Rattle.xf_read.specs.Names.{op_name, yield_count, nodes_count, bodies_count, earlier, inside, behind, agrees, nodes_faults, bodies_faults, tree_faults}
-use Rattle.xf_read.specs.Scopes.{Scope, no_names, value_used}
+use Rattle.xf_read.specs.Scopes.{Meanings, no_names, value_used}
 use Rattle.xf_read.specs.Short.{SpeltIsShort}
 use Rattle.xf_read.specs.Syntax.{most_operations, lacks_yield}
 use Rattle.xf_read.specs.Tree.{Nodes, no_nodes, node, Bodies, no_bodies, body, Tree}
@@ -48,7 +48,7 @@ one_attr : (a : Attr) (xs : List Attr) → length (with_attr a xs) ≤ length xs
 one_attr a [] = omega arith
 one_attr a (b ∷ bs) = let r = one_attr a bs in by_order (slice_cmp nat_cmp a.name b.name) (suc (length bs) + 1) _ _ _ (omega arith) (omega arith) (omega (arith, r))
 
-entries_grow : (all : List Token) (es : List Entry) (xs : List Attr) → length (with_entries all es xs) ≤ length xs + length es
+entries_grow : (all : List Token) (es : List AttrEntry) (xs : List Attr) → length (with_entries all es xs) ≤ length xs + length es
 entries_grow all [] xs = omega arith
 entries_grow all (e ∷ es) xs = let r = entries_grow all es (with_attr (attr_of all e) xs) in let o = one_attr (attr_of all e) xs in omega (arith, r, o)
 
@@ -74,21 +74,21 @@ returned_short : (all : List Token) (r : Row) (p : Parts) → HasShortParts p �
 returned_short all row.Function p s = s.results
 returned_short all r p s = omega arith
 
-arguments_short : (all : List Token) (n : ℕ) (p : Parts) (scope : Scope) (bs : Bodies) → length (args_by p.row p) < 2 ^ 32 → Each (λ (ts : List PayloadType). length ts < 2 ^ 32) (block_args (bodies_meant all n p scope bs))
+arguments_short : (all : List Token) (n : ℕ) (p : Parts) (scope : Meanings) (bs : Bodies) → length (args_by p.row p) < 2 ^ 32 → Each (λ (ts : List PayloadType). length ts < 2 ^ 32) (block_args (bodies_meant all n p scope bs))
 arguments_short all n p scope no_bodies lt = tt
 arguments_short all n p scope (body ns close rest) lt = (lt, arguments_short all (n + (nodes_count ns + yield_count p ns)) p scope rest lt)
 
 -- there are as many names of arguments as types of them
-agreed : (all : List Token) (p : Parts) (scope : Scope) → agrees all p scope ≡ true → length p.args ≡ length (args_by p.row p)
+agreed : (all : List Token) (p : Parts) (scope : Meanings) → agrees all p scope ≡ true → length p.args ≡ length (args_by p.row p)
 agreed all p scope e = eqb-true (length p.args) (length (args_by p.row p)) (and_parts _ _ (and_parts _ _ e).1).1
 
 -- ---- regions and blocks
 
-regions_long : (all : List Token) (n : ℕ) (p : Parts) (scope : Scope) (bs : Bodies) → regions_length (bodies_meant all n p scope bs) ≡ bodies_number bs
+regions_long : (all : List Token) (n : ℕ) (p : Parts) (scope : Meanings) (bs : Bodies) → regions_length (bodies_meant all n p scope bs) ≡ bodies_number bs
 regions_long all n p scope no_bodies = refl
 regions_long all n p scope (body ns close rest) = let e = regions_long all (n + (nodes_count ns + yield_count p ns)) p scope rest in omega (arith, e)
 
-ops_long : (all : List Token) (n : ℕ) (scope : Scope) (ns : Nodes) → ops_length (nodes_meant all n scope ns) ≤ nodes_count ns
+ops_long : (all : List Token) (n : ℕ) (scope : Meanings) (ns : Nodes) → ops_length (nodes_meant all n scope ns) ≤ nodes_count ns
 ops_long all n scope no_nodes = omega arith
 ops_long all n scope (node first p bs rest) = let e = ops_long all (n + (1 + bodies_count p bs)) (behind all n p scope) rest in omega (arith, e)
 
@@ -100,7 +100,7 @@ yield_long : (b : Bool) (n : ℕ) → ops_length (if b then op (op_name n) kind.
 yield_long true n = refl
 yield_long false n = refl
 
-blocks_short : (all : List Token) (n : ℕ) (p : Parts) (scope : Scope) (bs : Bodies) → bodies_count p bs < 2 ^ 32 → Each (λ ops. ops_length ops < 2 ^ 32) (blocks_of (bodies_meant all n p scope bs))
+blocks_short : (all : List Token) (n : ℕ) (p : Parts) (scope : Meanings) (bs : Bodies) → bodies_count p bs < 2 ^ 32 → Each (λ ops. ops_length ops < 2 ^ 32) (blocks_of (bodies_meant all n p scope bs))
 blocks_short all n p scope no_bodies lt = tt
 blocks_short all n p scope (body ns close rest) lt =
     let a = ops_long all n scope ns in
@@ -109,7 +109,7 @@ blocks_short all n p scope (body ns close rest) lt =
     (omega (arith, lt, a, b, c), blocks_short all (n + (nodes_count ns + yield_count p ns)) p scope rest (omega (arith, lt)))
 
 -- operation n of a text, where it agrees with its types
-head_lists : (all : List Token) (n : ℕ) (scope : Scope) (t : Tree) → HasShortParts t.parts → Inside all t.parts → bodies_number t.bodies ≤ 2 → bodies_count t.parts t.bodies < 2 ^ 32 → agrees all t.parts scope ≡ true
+head_lists : (all : List Token) (n : ℕ) (scope : Meanings) (t : Tree) → HasShortParts t.parts → Inside all t.parts → bodies_number t.bodies ≤ 2 → bodies_count t.parts t.bodies < 2 ^ 32 → agrees all t.parts scope ≡ true
     → HasShortLists (tree_meant all n scope t)
 head_lists all n scope t s i two few e =
     let p : Parts = t.parts in
@@ -171,7 +171,7 @@ root_inside all true first p bs w = (w.1.0, bodies_inside all bs w.1.1.0)
 root_inside all false first p bs w = (w.0, functions_inside all bs w.1)
 
 mutual
-  nodes_lists : (all : List Token) (n : ℕ) (scope : Scope) (ns : Nodes) → NodesShort ns → NodesOf all ns → nodes_count ns < 2 ^ 32 → (nodes_faults all n scope ns).mismatch ≡ None → OpsShort (nodes_meant all n scope ns)
+  nodes_lists : (all : List Token) (n : ℕ) (scope : Meanings) (ns : Nodes) → NodesShort ns → NodesOf all ns → nodes_count ns < 2 ^ 32 → (nodes_faults all n scope ns).mismatch ≡ None → OpsShort (nodes_meant all n scope ns)
   nodes_lists all n scope no_nodes s w few e = tt
   nodes_lists all n scope (node first p bs rest) s w few e =
       let f = none_earlier _ _ e in
@@ -183,7 +183,7 @@ mutual
         ),
       )
 
-  bodies_lists : (all : List Token) (n : ℕ) (p : Parts) (scope : Scope) (bs : Bodies) → BodiesShort bs → BodiesInside all bs → bodies_count p bs < 2 ^ 32 → (bodies_faults all n p scope bs).mismatch ≡ None → RegionsShort (bodies_meant all n p scope bs)
+  bodies_lists : (all : List Token) (n : ℕ) (p : Parts) (scope : Meanings) (bs : Bodies) → BodiesShort bs → BodiesInside all bs → bodies_count p bs < 2 ^ 32 → (bodies_faults all n p scope bs).mismatch ≡ None → RegionsShort (bodies_meant all n p scope bs)
   bodies_lists all n p scope no_bodies s w few e = tt
   bodies_lists all n p scope (body ns close rest) s w few e =
       let f = none_earlier _ _ e in (

@@ -8,8 +8,8 @@ use Rattle.std.proofs.lemmas.List.Elements.{All-head, All-tail}
 use Rattle.xf_lex.specs.declared.token.Token.{Token}
 use Rattle.xf_lex.specs.declared.token.TokenKind.{TokenKind}
 use Rattle.xf_lex.specs.declared.token.TokenKind.TheVariants as token_kind
-use Rattle.xf_grammar.specs.Tokens.{sees, seen_of, telling}
-use Rattle.xf_read_base.specs.declared.parts.Entry.{Entry}
+use Rattle.xf_grammar.specs.Tokens.{terminal, terminal_of, telling}
+use Rattle.xf_read_base.specs.declared.parts.AttrEntry.{AttrEntry}
 use Rattle.xf_read_base.specs.declared.parts.EntryValue.{EntryValue}
 use Rattle.xf_read_base.specs.declared.parts.EntryValue.TheVariants as value
 use Rattle.xf_read_base.specs.declared.parts.Parts.{Parts}
@@ -25,27 +25,27 @@ use Rattle.xf_read.proofs.OfKind.{SymbolOf, ValueOf, EntryOf, Inside}
 
 -- ---- tokens
 
-symbol_bytes : (k : TokenKind) (bs : List ℕ) → is_symbol (sees k (telling k bs)) ≡ true → length (drop 1 bs) < 2 ^ 32
+symbol_bytes : (k : TokenKind) (bs : List ℕ) → is_symbol (terminal k (telling k bs)) ≡ true → length (drop 1 bs) < 2 ^ 32
 symbol_bytes token_kind.Symbol bs e = ltb-true (length (drop 1 bs)) (2 ^ 32) e
 symbol_bytes k bs e = absurd cc
 
-name_bytes : (k : TokenKind) (bs : List ℕ) → is_name (sees k (telling k bs)) ≡ true → length bs < 2 ^ 32
+name_bytes : (k : TokenKind) (bs : List ℕ) → is_name (terminal k (telling k bs)) ≡ true → length bs < 2 ^ 32
 name_bytes token_kind.Word bs e = ltb-true (length bs) (2 ^ 32) e
 name_bytes k bs e = absurd cc
 
-string_bytes : (k : TokenKind) (bs : List ℕ) → is_string (sees k (telling k bs)) ≡ true → length (decoded bs) < 2 ^ 32
+string_bytes : (k : TokenKind) (bs : List ℕ) → is_string (terminal k (telling k bs)) ≡ true → length (decoded bs) < 2 ^ 32
 string_bytes token_kind.Text bs e = ltb-true (length (decoded bs)) (2 ^ 32) e
 string_bytes k bs e = absurd cc
 
-symbol_token : (o : Option Token) → is_symbol (seen_of o) ≡ true → length (drop 1 (bytes_of o)) < 2 ^ 32
+symbol_token : (o : Option Token) → is_symbol (terminal_of o) ≡ true → length (drop 1 (bytes_of o)) < 2 ^ 32
 symbol_token None e = absurd cc
 symbol_token (Some t) e = symbol_bytes t.kind t.bytes e
 
-name_token : (o : Option Token) → is_name (seen_of o) ≡ true → length (bytes_of o) < 2 ^ 32
+name_token : (o : Option Token) → is_name (terminal_of o) ≡ true → length (bytes_of o) < 2 ^ 32
 name_token None e = absurd cc
 name_token (Some t) e = name_bytes t.kind t.bytes e
 
-string_token : (o : Option Token) → is_string (seen_of o) ≡ true → length (decoded (bytes_of o)) < 2 ^ 32
+string_token : (o : Option Token) → is_string (terminal_of o) ≡ true → length (decoded (bytes_of o)) < 2 ^ 32
 string_token None e = absurd cc
 string_token (Some t) e = string_bytes t.kind t.bytes e
 
@@ -57,7 +57,7 @@ value_short all (value.Truth b) w = tt
 value_short all (value.Integer negative at width) w = tt
 value_short all (value.Text at) w = string_token (slice_get all at) w
 
-entry_short : (all : List Token) (e : Entry) → EntryOf all e → IsShortAttr (attr_of all e)
+entry_short : (all : List Token) (e : AttrEntry) → EntryOf all e → IsShortAttr (attr_of all e)
 entry_short all e w = (name_token (slice_get all e.name) w.0, value_short all e.value w.1)
 
 by_order : (o : Ordering) (xs ys zs : List Attr) → Each IsShortAttr xs → Each IsShortAttr ys → Each IsShortAttr zs → Each IsShortAttr (match_ordering o xs ys zs)
@@ -69,7 +69,7 @@ one_short : (a : Attr) (xs : List Attr) → IsShortAttr a → Each IsShortAttr x
 one_short a [] s w = (s, tt)
 one_short a (b ∷ bs) s w = by_order (slice_cmp nat_cmp a.name b.name) _ _ _ (s, w) ((w.0.0, s.1), w.1) (w.0, one_short a bs s w.1)
 
-pub entries_short : (all : List Token) (es : List Entry) (xs : List Attr) → All (EntryOf all) es → Each IsShortAttr xs → Each IsShortAttr (with_entries all es xs)
+pub entries_short : (all : List Token) (es : List AttrEntry) (xs : List Attr) → All (EntryOf all) es → Each IsShortAttr xs → Each IsShortAttr (with_entries all es xs)
 entries_short all [] xs w s = s
 entries_short all (e ∷ es) xs w s = entries_short all es (with_attr (attr_of all e) xs) (All-tail (EntryOf all) e es w) (one_short (attr_of all e) xs (entry_short all e (All-head (EntryOf all) e es w)) s)
 

@@ -2,11 +2,11 @@
 use Rattle.std.proofs.Common.{◌⊎◌, inl, inr, ℕ, zero, suc, ◌+◌, ◌≤◌, Bool, true, false, nat_lt, List, length, Ok, Err, subst, arith}
 use Rattle.std.specs.Prelude.{codes}
 use Rattle.xf_lex.specs.declared.token.Token.{Token}
-use Rattle.xf_grammar.specs.Tokens.{seen, looks, says, open_brace, close_brace}
+use Rattle.xf_grammar.specs.Tokens.{terminal_at, looks, says, open_brace, close_brace}
 use Rattle.xf_grammar.specs.Reading.{Out}
 use Rattle.xf_grammar.proofs.Kept.{Has, has_either, has_behind, too_many_has}
-use Rattle.xf_read_base.specs.declared.due.Due.{Due}
-use Rattle.xf_read_base.specs.declared.due.Due.TheVariants as due
+use Rattle.xf_read_base.specs.declared.expected.Expected.{Expected}
+use Rattle.xf_read_base.specs.declared.expected.Expected.TheVariants as due
 use Rattle.xf_read_base.specs.declared.parts.Parts.{Parts}
 use Rattle.xf_read_base.specs.declared.row.Level.{Level}
 use Rattle.xf_read_base.specs.declared.row.Level.TheVariants as level
@@ -63,7 +63,7 @@ FileRead f = TreeShort f.root
 abbrev HeadRead : Parts → Type 0
 HeadRead p = HasShortParts p × IsBare p
 
-part_has : (P : Parts → Type 0) (o : Out Parts Due) → Has P o → Has P (part o)
+part_has : (P : Parts → Type 0) (o : Out Parts Expected) → Has P o → Has P (part o)
 part_has P (Ok x) p = p
 part_has P (Err e) p = tt
 
@@ -145,12 +145,12 @@ node_short all inner s l depth count at =
 nodes_short : (f : ℕ) (all : List Token) → InnerShort (nodes_at f all)
 nodes_short zero all l depth count at = tt
 nodes_short (suc f) all l depth count at =
-    has_either NodesRead (closes (seen all at)) _ _ (λ e. tt) (λ e.
+    has_either NodesRead (closes (terminal_at all at)) _ _ (λ e. tt) (λ e.
     has_behind TreeRead NodesRead (node_at all (nodes_at f all) l depth count at) _ (node_short all (nodes_at f all) (nodes_short f all) l depth count at) (λ t w.
     has_behind NodesRead NodesRead (nodes_at f all (behind l) depth t.0.1 t.1) _ (nodes_short f all (behind l) depth t.0.1 t.1) (λ rest v. (w.0, (w.1, v)))))
 
-ended_short : (all : List Token) (d : Due) (file : File) (at : ℕ) → TreeShort file.root → Has FileRead (ended all d file at)
-ended_short all d file at s = has_either FileRead (is_end (seen all at)) _ _ (λ e. s) (λ e. tt)
+ended_short : (all : List Token) (d : Expected) (file : File) (at : ℕ) → TreeShort file.root → Has FileRead (ended all d file at)
+ended_short all d file at s = has_either FileRead (is_end (terminal_at all at)) _ _ (λ e. s) (λ e. tt)
 
 no_parts_short : HasShortParts (no_parts row.Module)
 no_parts_short = record { entries = omega arith; args = omega arith; uses = omega arith; types = omega arith; results = omega arith }

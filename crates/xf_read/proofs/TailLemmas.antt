@@ -2,9 +2,9 @@
 use Rattle.std.proofs.Common.{◌≡◌, ℕ, ◌+◌, Bool, true, false, List, Ok, refl, subst}
 use Rattle.xf_lex.specs.declared.token.Token.{Token}
 use Rattle.xf_lex.specs.declared.token.TokenKind.{TokenKind}
-use Rattle.xf_grammar.specs.Tokens.{seen, close_brace}
-use Rattle.xf_read_base.specs.declared.due.Due.{Due}
-use Rattle.xf_read_base.specs.declared.due.Due.TheVariants as due
+use Rattle.xf_grammar.specs.Tokens.{terminal_at, close_brace}
+use Rattle.xf_read_base.specs.declared.expected.Expected.{Expected}
+use Rattle.xf_read_base.specs.declared.expected.Expected.TheVariants as due
 use Rattle.xf_read_base.specs.declared.list.Item.TheVariants as item
 use Rattle.xf_read_base.specs.declared.parts.Parts.{Parts}
 use Rattle.xf_read_base.specs.Rules.{Rule, kind_rule, entry_width_rule, entry_number_rule, entry_value_rule, entry_rule, until_rule, dictionary_rule}
@@ -18,15 +18,15 @@ SameRow p q = (q.row ≡ p.row) × (q.results ≡ p.results)
 abbrev Leaves : Rule → Type 0
 Leaves rule = (p : Parts) (all : List Token) (at : ℕ) → Keeps (SameRow p) all rule at
 
-kind_leaves : (d : Due) (k : TokenKind) → Leaves (kind_rule d k)
+kind_leaves : (d : Expected) (k : TokenKind) → Leaves (kind_rule d k)
 unfolding kind_rule
 kind_leaves d k p all at = (λ e h w. w, λ e. tt)
 
-entry_width_leaves : (name : ℕ) (bytes : List ℕ) (negative : Bool) (digits : ℕ) (p : Parts) (all : List Token) (at : ℕ) → Keeps (SameRow p) all (entry_width_rule name bytes negative digits (seen all digits)) at
+entry_width_leaves : (name : ℕ) (bytes : List ℕ) (negative : Bool) (digits : ℕ) (p : Parts) (all : List Token) (at : ℕ) → Keeps (SameRow p) all (entry_width_rule name bytes negative digits (terminal_at all digits)) at
 unfolding entry_width_rule
 entry_width_leaves name bytes negative digits p all at = (λ e. (λ o h w. w, λ o. tt), λ e. tt)
 
-entry_number_leaves : (name : ℕ) (bytes : List ℕ) (negative : Bool) (d : Due) → Leaves (entry_number_rule name bytes negative d)
+entry_number_leaves : (name : ℕ) (bytes : List ℕ) (negative : Bool) (d : Expected) → Leaves (entry_number_rule name bytes negative d)
 unfolding entry_number_rule
 entry_number_leaves name bytes negative d p all at = (λ e. (λ o. (λ c. entry_width_leaves name bytes negative at p all (at + 1 + 1), λ c h w. w), λ o. tt), λ e. tt)
 

@@ -2,11 +2,11 @@
 use Rattle.std.proofs.Common.{◌≡◌, inl, inr, ℕ, zero, suc, ◌+◌, ◌<◌, ◌≤◌, Bool, true, false, List, length, Ok, refl, sym, ap, subst, ◌∙◌, arith}
 use Rattle.std.specs.Prelude.{codes}
 use Rattle.xf_lex.specs.declared.token.Token.{Token}
-use Rattle.xf_grammar.specs.Tokens.{Seen, the_end, sees, seen, is_word, says}
+use Rattle.xf_grammar.specs.Tokens.{Terminal, the_end, terminal, terminal_at, is_word, says}
 use Rattle.xf_grammar.specs.Grammar.{AllStand, first_seen}
 use Rattle.xf_grammar.proofs.Grammar.{first_is}
-use Rattle.xf_read_base.specs.declared.due.Due.{Due}
-use Rattle.xf_read_base.specs.declared.due.Due.TheVariants as due
+use Rattle.xf_read_base.specs.declared.expected.Expected.{Expected}
+use Rattle.xf_read_base.specs.declared.expected.Expected.TheVariants as due
 use Rattle.xf_read_base.specs.declared.parts.Parts.{Parts}
 use Rattle.xf_read_base.specs.declared.row.Level.{Level}
 use Rattle.xf_read_base.specs.declared.row.Level.TheVariants as level
@@ -24,26 +24,26 @@ use Rattle.xf_read.proofs.IsRead.{same_answer, bind_ok, NodesFound, nodes_found,
 
 -- ---- read, so written
 
-end_seen : (x : Seen) → is_end x ≡ true → x ≡ the_end
+end_seen : (x : Terminal) → is_end x ≡ true → x ≡ the_end
 end_seen the_end e = refl
-end_seen (sees k bytes) e = absurd cc
+end_seen (terminal k bytes) e = absurd cc
 
-ended_found : (all : List Token) (d : Due) (file : File) (at : ℕ) (x : File × ℕ) → ended all d file at ≡ Ok x → (seen all at ≡ the_end) × ((file ≡ x.0) × (at ≡ x.1))
-ended_found all d file at x e = elim (either (is_end (seen all at)) _ _ x e) [
-  | inl w ↦ let s = same_answer (file, at) x (Ok (file, at)) refl w.1 in (end_seen (seen all at) w.0, (ap (λ y. y.0) s, ap (λ y. y.1) s))
+ended_found : (all : List Token) (d : Expected) (file : File) (at : ℕ) (x : File × ℕ) → ended all d file at ≡ Ok x → (terminal_at all at ≡ the_end) × ((file ≡ x.0) × (at ≡ x.1))
+ended_found all d file at x e = elim (either (is_end (terminal_at all at)) _ _ x e) [
+  | inl w ↦ let s = same_answer (file, at) x (Ok (file, at)) refl w.1 in (end_seen (terminal_at all at) w.0, (ap (λ y. y.0) s, ap (λ y. y.1) s))
   | inr w ↦ absurd (let v = w.1 in cc)
 ]
 
 -- the tokens of a text and what they say
 abbrev Found : List Token → File × ℕ → Type 0
-Found all x = (ps : List Seen) × (AllStand all 0 ps x.1 × IsWritten ps (file_said all x.0))
+Found all x = (ps : List Terminal) × (AllStand all 0 ps x.1 × IsWritten ps (file_said all x.0))
 
-first_word : (all : List Token) (ps : List Seen) (next : ℕ) (b : Bool) → AllStand all 0 ps next → seen all next ≡ the_end → says all 0 (codes "module") ≡ b → is_word (codes "module") (first_seen ps the_end) ≡ b
+first_word : (all : List Token) (ps : List Terminal) (next : ℕ) (b : Bool) → AllStand all 0 ps next → terminal_at all next ≡ the_end → says all 0 (codes "module") ≡ b → is_word (codes "module") (first_seen ps the_end) ≡ b
 first_word all ps next b s e w =
-    let f : seen all 0 ≡ first_seen ps the_end = first_is ps all 0 next s ∙ ap (first_seen ps) e in
+    let f : terminal_at all 0 ≡ first_seen ps the_end = first_is ps all 0 next s ∙ ap (first_seen ps) e in
     ap (is_word (codes "module")) (sym f) ∙ w
 
-module_found : (all : List Token) (t : Tree) (c next : ℕ) → says all 0 (codes "module") ≡ true → seen all next ≡ the_end → NodesFound all level.File 0 0 0 (cons t no_nodes) c next → Found all (written_file t, next)
+module_found : (all : List Token) (t : Tree) (c next : ℕ) → says all 0 (codes "module") ≡ true → terminal_at all next ≡ the_end → NodesFound all level.File 0 0 0 (cons t no_nodes) c next → Found all (written_file t, next)
 module_found all t c next w e r =
     let ns : SaidNodes = nodes_said all (cons t no_nodes) in
     let d = r.1.1.1.1.0 in
@@ -59,7 +59,7 @@ module_found all t c next w e r =
       ),
     )
 
-functions_found : (all : List Token) (fs : Nodes) (c next : ℕ) → says all 0 (codes "module") ≡ false → seen all next ≡ the_end → NodesFound all level.File 1 1 0 fs c next → Found all (unwritten_file fs next, next)
+functions_found : (all : List Token) (fs : Nodes) (c next : ℕ) → says all 0 (codes "module") ≡ false → terminal_at all next ≡ the_end → NodesFound all level.File 1 1 0 fs c next → Found all (unwritten_file fs next, next)
 functions_found all fs c next w e r =
     let d = r.1.1.1.1.0 in
     let m = r.1.1.1.1.1 (omega arith) in
@@ -112,7 +112,7 @@ other_nodes (node first p bs rest) = rest
 none_read : (f : ℕ) (all : List Token) (l : Level) (depth count at : ℕ) (x : (Nodes × ℕ) × ℕ) → nodes_at f all l depth count at ≡ Ok x → is_none x.0.0 ≡ true → (count ≡ x.0.1) × (at ≡ x.1)
 unfolding is_none
 none_read zero all l depth count at x e n = absurd cc
-none_read (suc f) all l depth count at x e n = elim (either (closes (seen all at)) _ _ x e) [
+none_read (suc f) all l depth count at x e n = elim (either (closes (terminal_at all at)) _ _ x e) [
   | inl w ↦ let s = same_answer ((no_nodes, count), at) x (Ok ((no_nodes, count), at)) refl w.1 in (ap (λ y. y.0.1) s, ap (λ y. y.1) s)
   | inr w ↦
       let t = bind_ok (node_at all (nodes_at f all) l depth count at) _ x w.1 in
@@ -128,7 +128,7 @@ same_place t t' c c' n n' p q r = cc
 one_read : (f : ℕ) (all : List Token) (l : Level) (depth count at first : ℕ) (p : Parts) (bs : Bodies) (c next : ℕ) → nodes_at (suc f) all l depth count at ≡ Ok ((node first p bs no_nodes, c), next)
     → node_at all (nodes_at f all) l depth count at ≡ Ok ((tree first p bs, c), next)
 unfolding is_none first_tree other_nodes
-one_read f all l depth count at first p bs c next e = elim (either (closes (seen all at)) _ _ ((node first p bs no_nodes, c), next) e) [
+one_read f all l depth count at first p bs c next e = elim (either (closes (terminal_at all at)) _ _ ((node first p bs no_nodes, c), next) e) [
   | inl w ↦ absurd (let s = same_answer ((no_nodes, count), at) ((node first p bs no_nodes, c), next) (Ok ((no_nodes, count), at)) refl w.1 in let b = ap (λ y. is_none y.0.0) s in cc)
   | inr w ↦
       let t = bind_ok (node_at all (nodes_at f all) l depth count at) _ ((node first p bs no_nodes, c), next) w.1 in
@@ -138,12 +138,12 @@ one_read f all l depth count at first p bs c next e = elim (either (closes (seen
       t.1.0 ∙ ap (λ y. Ok y) (same_place t.0.0.0 (tree first p bs) t.0.0.1 c t.0.1 next (ap (λ y. first_tree y.0.0) s) (n.0 ∙ ap (λ y. y.0.1) s) (n.1 ∙ ap (λ y. y.1) s))
 ]
 
-ended_is : (all : List Token) (d : Due) (file : File) → ended all d file (length all) ≡ Ok (file, length all)
-ended_is all d file = let e = seen_past all (length all) (omega arith) in let b : is_end (seen all (length all)) ≡ true = ap is_end e in rw b refl
+ended_is : (all : List Token) (d : Expected) (file : File) → ended all d file (length all) ≡ Ok (file, length all)
+ended_is all d file = let e = seen_past all (length all) (omega arith) in let b : is_end (terminal_at all (length all)) ≡ true = ap is_end e in rw b refl
 
-says_is : (all : List Token) (ps : List Seen) (b : Bool) → AllStand all 0 ps (length all) → is_word (codes "module") (first_seen ps the_end) ≡ b → says all 0 (codes "module") ≡ b
+says_is : (all : List Token) (ps : List Terminal) (b : Bool) → AllStand all 0 ps (length all) → is_word (codes "module") (first_seen ps the_end) ≡ b → says all 0 (codes "module") ≡ b
 says_is all ps b s w =
-    let f : seen all 0 ≡ first_seen ps the_end = first_is ps all 0 (length all) s ∙ ap (first_seen ps) (seen_past all (length all) (omega arith)) in
+    let f : terminal_at all 0 ≡ first_seen ps the_end = first_is ps all 0 (length all) s ∙ ap (first_seen ps) (seen_past all (length all) (omega arith)) in
     ap (is_word (codes "module")) f ∙ w
 
 module_is : (f : ℕ) (all : List Token) (t : Tree) (c : ℕ) → says all 0 (codes "module") ≡ true → node_at all (nodes_at f all) level.File 0 0 0 ≡ Ok ((t, c), length all) → file_at f all ≡ Ok (written_file t, length all)
@@ -164,7 +164,7 @@ module_again all (node first p ys no_nodes) c t bs w g e =
     (written_file (tree first p ys), (λ f room. module_is f all (tree first p ys) c w (one_read f all level.File 0 0 0 first p ys c (length all) (g (suc f) (omega (arith, room)))), e))
 module_again all (node first p ys (node first' p' ys' rest)) c t bs w g e = absurd cc
 
-module_read_again : (all : List Token) (ps : List Seen) (ns : SaidNodes) → AllStand all 0 ps (length all) → ModuleWritten ps ns → NestsWell 0 ns → operations ns ≤ most_operations → Again all ns
+module_read_again : (all : List Token) (ps : List Terminal) (ns : SaidNodes) → AllStand all 0 ps (length all) → ModuleWritten ps ns → NestsWell 0 ns → operations ns ≤ most_operations → Again all ns
 module_read_again all ps ns s m nests le =
     let q = m.1.1.1 in
     let y = seen_past all (length all) (omega arith) in
@@ -172,7 +172,7 @@ module_read_again all ps ns s m nests le =
     let r = nodes_again ns all level.File 0 0 0 (length all) ps (omega arith) s w (ap closes y) nests (omega (arith, le)) in
     subst (Again all) (sym q.0) (module_again all r.0 (0 + operations ns) m.1.0 m.1.1.0 (says_is all ps true s m.0) r.1.0 (r.1.1 ∙ q.0))
 
-functions_read_again : (all : List Token) (ps : List Seen) (fs : SaidNodes) → AllStand all 0 ps (length all) → is_word (codes "module") (first_seen ps the_end) ≡ false → NodesWritten level.File 0 ps the_end fs → NestsWell 1 fs
+functions_read_again : (all : List Token) (ps : List Terminal) (fs : SaidNodes) → AllStand all 0 ps (length all) → is_word (codes "module") (first_seen ps the_end) ≡ false → NodesWritten level.File 0 ps the_end fs → NestsWell 1 fs
     → 1 + operations fs ≤ most_operations → Again all (node_said nothing_said (body_said fs no_bodies_said) no_nodes_said)
 functions_read_again all ps fs s e w nests le =
     let y = seen_past all (length all) (omega arith) in

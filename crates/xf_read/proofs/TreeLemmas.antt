@@ -1,7 +1,7 @@
 -- Operations one behind the other.
 use Rattle.std.proofs.Common.{◌≡◌, ℕ, zero, suc, ◌+◌, ◌-◌, ◌<◌, ◌≤◌, true, false, List, [], ◌∷◌, ◌++◌, length, Ok, Err, refl, sym, ap, ◌∙◌, arith, slice_index_or}
 use Rattle.xf_lex.specs.declared.token.Token.{Token}
-use Rattle.xf_grammar.specs.Tokens.{seen}
+use Rattle.xf_grammar.specs.Tokens.{terminal_at}
 use Rattle.xf_grammar.specs.Reading.{◌>>=◌}
 use Rattle.xf_read_base.specs.declared.row.Level.{Level}
 use Rattle.xf_read.specs.declared.fault.Cause.{Cause}
@@ -55,11 +55,11 @@ pub goes_first : (all : List Token) (depth : ℕ) (l : Level) (count at : ℕ) �
 goes_first all depth l count at f0 lt = (f0, lt, joined_none (nodes_at f0 all l depth count at))
 
 -- one more operation
-one_is : (all : List Token) (f depth : ℕ) (l : Level) (count at : ℕ) (t : Tree) (count' n : ℕ) → closes (seen all at) ≡ false → node_at all (nodes_at f all) l depth count at ≡ Ok ((t, count'), n)
+one_is : (all : List Token) (f depth : ℕ) (l : Level) (count at : ℕ) (t : Tree) (count' n : ℕ) → closes (terminal_at all at) ≡ false → node_at all (nodes_at f all) l depth count at ≡ Ok ((t, count'), n)
     → nodes_at (suc f) all l depth count at ≡ (nodes_at f all (behind l) depth count' n >>= λ rest. Ok ((cons t rest.0.0, rest.0.1), rest.1))
 one_is all f depth l count at t count' n c p = rw (c, p) refl
 
-goes_from : (all : List Token) (depth : ℕ) (ts : List Tree) (l : Level) (count at : ℕ) (t : Tree) (count' n : ℕ) → closes (seen all at) ≡ false → at < n → at ≤ length all
+goes_from : (all : List Token) (depth : ℕ) (ts : List Tree) (l : Level) (count at : ℕ) (t : Tree) (count' n : ℕ) → closes (terminal_at all at) ≡ false → at < n → at ≤ length all
     → ((f : ℕ) → length all ≤ f + at → node_at all (nodes_at f all) l depth count at ≡ Ok ((t, count'), n))
     → (r : Counted Nodes) (f : ℕ) → length all < f + at → joined (nodes_of ts) (nodes_at f all l depth count at) ≡ r
     → (f : ℕ) × (length all < f + n) × (joined (nodes_of (ts ++ t ∷ [])) (nodes_at f all (behind l) depth count' n) ≡ r)
@@ -67,7 +67,7 @@ goes_from all depth ts l count at t count' n c lt le p r zero room e = absurd (o
 goes_from all depth ts l count at t count' n c lt le p r (suc f) room e =
     (f, omega arith, joined_push ts t (nodes_at f all (behind l) depth count' n) ∙ ap (joined (nodes_of ts)) (sym (one_is all f depth l count at t count' n c (p f (omega arith)))) ∙ e)
 
-pub goes_on : (all : List Token) (depth : ℕ) (ts : List Tree) (first : Level) (count0 start : ℕ) (l : Level) (count at : ℕ) (t : Tree) (count' n : ℕ) → closes (seen all at) ≡ false → at < n → at ≤ length all
+pub goes_on : (all : List Token) (depth : ℕ) (ts : List Tree) (first : Level) (count0 start : ℕ) (l : Level) (count at : ℕ) (t : Tree) (count' n : ℕ) → closes (terminal_at all at) ≡ false → at < n → at ≤ length all
     → ((f : ℕ) → length all ≤ f + at → node_at all (nodes_at f all) l depth count at ≡ Ok ((t, count'), n))
     → Going all depth (nodes_of ts) first count0 start l count at → Going all depth (nodes_of (ts ++ t ∷ [])) first count0 start (behind l) count' n
 goes_on all depth ts first count0 start l count at t count' n c lt le p going f0 room =
@@ -75,23 +75,23 @@ goes_on all depth ts first count0 start l count at t count' n c lt le p going f0
     goes_from all depth ts l count at t count' n c lt le p (nodes_at f0 all first depth count0 start) g.0 g.1 g.2
 
 -- a brace or the end
-ends_at : (all : List Token) (depth : ℕ) (ts : List Tree) (l : Level) (count at : ℕ) → closes (seen all at) ≡ true → at ≤ length all → (r : Counted Nodes) (f : ℕ) → length all < f + at
+ends_at : (all : List Token) (depth : ℕ) (ts : List Tree) (l : Level) (count at : ℕ) → closes (terminal_at all at) ≡ true → at ≤ length all → (r : Counted Nodes) (f : ℕ) → length all < f + at
     → joined (nodes_of ts) (nodes_at f all l depth count at) ≡ r → r ≡ Ok ((nodes_of ts, count), at)
 ends_at all depth ts l count at c le r zero room e = absurd (omega arith)
 ends_at all depth ts l count at c le r (suc f) room e = sym e ∙ rw c (ap (λ n. Ok ((n, count), at)) (append_none (nodes_of ts)))
 
-pub ends : (all : List Token) (depth : ℕ) (ts : List Tree) (first : Level) (count0 start : ℕ) (l : Level) (count at : ℕ) → closes (seen all at) ≡ true → at ≤ length all
+pub ends : (all : List Token) (depth : ℕ) (ts : List Tree) (first : Level) (count0 start : ℕ) (l : Level) (count at : ℕ) → closes (terminal_at all at) ≡ true → at ≤ length all
     → Going all depth (nodes_of ts) first count0 start l count at → (f0 : ℕ) → length all < f0 + start → nodes_at f0 all first depth count0 start ≡ Ok ((nodes_of ts, count), at)
 ends all depth ts first count0 start l count at c le going f0 room = let g = going f0 room in ends_at all depth ts l count at c le _ g.0 g.1 g.2
 
 -- a fault in an operation
-stops_at : (i : ℕ) (x : Cause) (all : List Token) (depth : ℕ) (ts : List Tree) (l : Level) (count at : ℕ) → closes (seen all at) ≡ false → at ≤ length all
+stops_at : (i : ℕ) (x : Cause) (all : List Token) (depth : ℕ) (ts : List Tree) (l : Level) (count at : ℕ) → closes (terminal_at all at) ≡ false → at ≤ length all
     → ((f : ℕ) → length all ≤ f + at → node_at all (nodes_at f all) l depth count at ≡ Err (i, x))
     → (r : Counted Nodes) (f : ℕ) → length all < f + at → joined (nodes_of ts) (nodes_at f all l depth count at) ≡ r → r ≡ Err (i, x)
 stops_at i x all depth ts l count at c le p r zero room e = absurd (omega arith)
 stops_at i x all depth ts l count at c le p r (suc f) room e = sym e ∙ (let q = p f (omega arith) in rw (c, q) refl)
 
-pub fails : (e : SyntaxFault) (all : List Token) (depth : ℕ) (ts : List Tree) (first : Level) (count0 start : ℕ) (l : Level) (count at : ℕ) → closes (seen all at) ≡ false → at ≤ length all
+pub fails : (e : SyntaxFault) (all : List Token) (depth : ℕ) (ts : List Tree) (first : Level) (count0 start : ℕ) (l : Level) (count at : ℕ) → closes (terminal_at all at) ≡ false → at ≤ length all
     → ((f : ℕ) → length all ≤ f + at → Fails e (node_at all (nodes_at f all) l depth count at))
     → Going all depth (nodes_of ts) first count0 start l count at → (f0 : ℕ) → length all < f0 + start → Fails e (nodes_at f0 all first depth count0 start)
 fails fault.NoMemory all depth ts first count0 start l count at c le p going f0 room = tt

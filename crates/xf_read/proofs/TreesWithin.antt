@@ -2,10 +2,10 @@
 use Rattle.std.proofs.Common.{◌≡◌, ℕ, zero, suc, ◌+◌, ◌<◌, Bool, true, false, nat_lt, List, length, Result, Ok, Err, not, refl, ap, subst, arith}
 use Rattle.std.specs.Prelude.{codes}
 use Rattle.xf_lex.specs.declared.token.Token.{Token}
-use Rattle.xf_grammar.specs.Tokens.{seen, is_kind, is_word, looks, says, open_brace, close_brace}
+use Rattle.xf_grammar.specs.Tokens.{terminal_at, is_kind, is_word, looks, says, open_brace, close_brace}
 use Rattle.xf_grammar.specs.Reading.{Out}
-use Rattle.xf_read_base.specs.declared.due.Due.{Due}
-use Rattle.xf_read_base.specs.declared.due.Due.TheVariants as due
+use Rattle.xf_read_base.specs.declared.expected.Expected.{Expected}
+use Rattle.xf_read_base.specs.declared.expected.Expected.TheVariants as due
 use Rattle.xf_read_base.specs.declared.parts.Parts.{Parts}
 use Rattle.xf_read_base.specs.declared.row.Level.{Level}
 use Rattle.xf_read_base.specs.declared.row.Level.TheVariants as level
@@ -47,7 +47,7 @@ HasTree all r = Has (λ a. TreeOf all a.0) r
 
 -- ---- heads and tails
 
-part_has : {A : Type 0} (P : A → Type 0) (o : Out A Due) → Has P o → Has P (part o)
+part_has : {A : Type 0} (P : A → Type 0) (o : Out A Expected) → Has P o → Has P (part o)
 part_has P (Ok x) p = p
 part_has P (Err e) p = tt
 
@@ -136,19 +136,19 @@ node_has all inner s l depth count at lt =
     has_behind (λ a. BodiesOf all a.0) Q (bodies_at all (braced all inner h.0 depth) h.0.row (count + 1) h.1) _ (bodies_has all (braced all inner h.0 depth) h.0.row (λ c i. braced_has all inner s h.0 depth c i) (count + 1) h.1) (λ bs v.
     has_behind (Inside all) Q (tail_at all h.0.row h.0 bs.1) _ (tail_has all h.0.row h.0 bs.1 w) (λ p u. (lt, (u, v)))))
 
-closes_end : (all : List Token) (at : ℕ) → closes (seen all at) ≡ false → at < length all
+closes_end : (all : List Token) (at : ℕ) → closes (terminal_at all at) ≡ false → at < length all
 closes_end all at e = at_token (λ x. not (closes x)) refl all at (ap not e)
 
 nodes_has : (f : ℕ) (all : List Token) (l : Level) (depth count at : ℕ) → HasNodes all (nodes_at f all l depth count at)
 nodes_has zero all l depth count at = tt
 nodes_has (suc f) all l depth count at =
     let Q : Nodes × ℕ → Type 0 = λ a. NodesOf all a.0 in
-    has_either Q (closes (seen all at)) _ _ (λ e. tt) (λ e.
+    has_either Q (closes (terminal_at all at)) _ _ (λ e. tt) (λ e.
     has_behind (λ a. TreeOf all a.0) Q (node_at all (nodes_at f all) l depth count at) _ (node_has all (nodes_at f all) (nodes_has f all) l depth count at (closes_end all at e)) (λ t w.
     has_behind Q Q (nodes_at f all (behind l) depth t.0.1 t.1) _ (nodes_has f all (behind l) depth t.0.1 t.1) (λ rest v. (w.0, (w.1.0, (w.1.1, v))))))
 
-ended_has : (all : List Token) (d : Due) (file : File) (at : ℕ) → FileOf all file → Has (FileOf all) (ended all d file at)
-ended_has all d file at w = has_either (FileOf all) (is_end (seen all at)) _ _ (λ e. w) (λ e. tt)
+ended_has : (all : List Token) (d : Expected) (file : File) (at : ℕ) → FileOf all file → Has (FileOf all) (ended all d file at)
+ended_has all d file at w = has_either (FileOf all) (is_end (terminal_at all at)) _ _ (λ e. w) (λ e. tt)
 
 file_has : (f : ℕ) (all : List Token) → Has (FileOf all) (file_at f all)
 file_has f all =

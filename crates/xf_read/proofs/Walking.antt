@@ -10,7 +10,7 @@ use Rattle.xf_ir.specs.View.{ops_of, regions_of}
 use Rattle.xf_read.specs.declared.faults.Faults.{Faults}
 use Rattle.xf_read.specs.Meant.{joined, left_out, nodes_meant, bodies_meant, tree_meant, place_of, yield_places, nodes_places, bodies_places}
 use Rattle.xf_read.specs.Names.{with_faults, no_faults, yield_count, nodes_count, bodies_count, tree_count, inside, behind, head_faults, nodes_faults, bodies_faults, tree_faults}
-use Rattle.xf_read.specs.Scopes.{Scope}
+use Rattle.xf_read.specs.Scopes.{Meanings}
 use Rattle.xf_read.specs.Tree.{Tree, Block}
 use Rattle.xf_read.specs.Types.{args_by}
 use Rattle.xf_read.specs.View.{nodes_of, bodies_of}
@@ -26,7 +26,7 @@ module _ (all : List Token) (ts : List Tree) (i : ℕ) (this : Tree) (is : this 
     first_is : {Y : Type 0} (F : List Tree → Y) → F (drop i ts) ≡ F (this ∷ rest)
     first_is F = at_drop_more F ts i this lt ∙ ap (λ x. F (x ∷ rest)) (sym is)
 
-    pub ops_more : (n m : ℕ) (s z : Scope) (os us : List Op) (o : Op) (total : Ops) → o ≡ tree_meant all n s this → m ≡ n + tree_count this → z ≡ behind all n this.parts s → us ≡ os ++ o ∷ []
+    pub ops_more : (n m : ℕ) (s z : Meanings) (os us : List Op) (o : Op) (total : Ops) → o ≡ tree_meant all n s this → m ≡ n + tree_count this → z ≡ behind all n this.parts s → us ≡ os ++ o ∷ []
         → joined (ops_of os) (nodes_meant all n s (nodes_of (drop i ts))) ≡ total → joined (ops_of us) (nodes_meant all m z (nodes_of rest)) ≡ total
     ops_more n m s z os us o total e f g p h =
         ap (λ xs. joined (ops_of xs) (nodes_meant all m z (nodes_of rest))) p
@@ -36,7 +36,7 @@ module _ (all : List Token) (ts : List Tree) (i : ℕ) (this : Tree) (is : this 
         ∙ ap (λ y. joined (ops_of os) (cons (tree_meant all n s this) (nodes_meant all (n + tree_count this) y (nodes_of rest)))) g
         ∙ sym (first_is (λ xs. joined (ops_of os) (nodes_meant all n s (nodes_of xs)))) ∙ h
 
-    pub faults_more : (n m : ℕ) (s z : Scope) (f g total : Faults) → g ≡ with_faults f (tree_faults all n s this) → m ≡ n + tree_count this → z ≡ behind all n this.parts s
+    pub faults_more : (n m : ℕ) (s z : Meanings) (f g total : Faults) → g ≡ with_faults f (tree_faults all n s this) → m ≡ n + tree_count this → z ≡ behind all n this.parts s
         → with_faults f (nodes_faults all n s (nodes_of (drop i ts))) ≡ total → with_faults g (nodes_faults all m z (nodes_of rest)) ≡ total
     faults_more n m s z f g total p e q h =
         ap (λ x. with_faults x (nodes_faults all m z (nodes_of rest))) p
@@ -73,7 +73,7 @@ module _ (all : List Token) (p : Parts) (bs : List Block) (i : ℕ) (here : Bloc
     abbrev size : ℕ
     size = nodes_count here.nodes + yield_count p here.nodes
 
-    pub blocks_more : (n m : ℕ) (s : Scope) (xs ys : List IrBlock) (b : IrBlock) (total : Regions) → b.args ≡ args_by p.row p → b.ops ≡ joined (nodes_meant all n s here.nodes) (left_out p here.nodes (n + nodes_count here.nodes)) → m ≡ n + size
+    pub blocks_more : (n m : ℕ) (s : Meanings) (xs ys : List IrBlock) (b : IrBlock) (total : Regions) → b.args ≡ args_by p.row p → b.ops ≡ joined (nodes_meant all n s here.nodes) (left_out p here.nodes (n + nodes_count here.nodes)) → m ≡ n + size
         → ys ≡ xs ++ b ∷ [] → joined_regions (regions_of xs) (bodies_meant all n p s (bodies_of (drop i bs))) ≡ total → joined_regions (regions_of ys) (bodies_meant all m p s (bodies_of later)) ≡ total
     blocks_more n m s xs ys b total e f g q h =
         ap (λ x. joined_regions (regions_of x) (bodies_meant all m p s (bodies_of later))) q
@@ -83,7 +83,7 @@ module _ (all : List Token) (p : Parts) (bs : List Block) (i : ℕ) (here : Bloc
         ∙ ap (λ k. joined_regions (regions_of xs) (region (args_by p.row p) (joined (nodes_meant all n s here.nodes) (left_out p here.nodes (n + nodes_count here.nodes))) (bodies_meant all k p s (bodies_of later)))) g
         ∙ sym (next_is (λ x. joined_regions (regions_of xs) (bodies_meant all n p s (bodies_of x)))) ∙ h
 
-    pub block_faults_more : (n m : ℕ) (s : Scope) (f g k total : Faults) → g ≡ with_faults f (nodes_faults all n s here.nodes) → k ≡ with_faults g no_faults → m ≡ n + size
+    pub block_faults_more : (n m : ℕ) (s : Meanings) (f g k total : Faults) → g ≡ with_faults f (nodes_faults all n s here.nodes) → k ≡ with_faults g no_faults → m ≡ n + size
         → with_faults f (bodies_faults all n p s (bodies_of (drop i bs))) ≡ total → with_faults k (bodies_faults all m p s (bodies_of later)) ≡ total
     block_faults_more n m s f g k total e q r h =
         ap (λ x. with_faults x (bodies_faults all m p s (bodies_of later))) (q ∙ faults_not g ∙ e)
@@ -108,7 +108,7 @@ module _ (all : List Token) (p : Parts) (bs : List Block) (i : ℕ) (here : Bloc
 
 -- ---- one operation, from its head and its bodies
 
-module _ (all : List Token) (s z : Scope) (t : Tree) (n m : ℕ) (e : m ≡ n + 1) (q : z ≡ inside all n t.parts s)
+module _ (all : List Token) (s z : Meanings) (t : Tree) (n m : ℕ) (e : m ≡ n + 1) (q : z ≡ inside all n t.parts s)
   where
     pub tree_faults_are : (f g h : Faults) → g ≡ with_faults f (head_faults all n t.first t.parts s) → h ≡ with_faults g (bodies_faults all m t.parts z t.bodies) → h ≡ with_faults f (tree_faults all n s t)
     tree_faults_are f g h a b =

@@ -1,7 +1,7 @@
 -- What a fault's place means.
 use Rattle.std.specs.Prelude.{◌≡◌, ℕ, suc, ◌<◌, List, length, Result, Ok, Err}
 use Rattle.xf_lex.specs.declared.token.Token.{Token}
-use Rattle.xf_grammar.specs.Place.{Agree}
+use Rattle.xf_grammar.specs.Lookahead.{Agree}
 use Rattle.xf_read.specs.declared.fault.SyntaxFault.{SyntaxFault}
 use Rattle.xf_read.specs.declared.fault.SyntaxFault.TheVariants as fault
 use Rattle.xf_read.specs.declared.tree.File.{File}

@@ -14,7 +14,7 @@ use Rattle.xf_ir.specs.Tree.{Tree as Op}
 use Rattle.xf_read.specs.declared.faults.Faults.{Faults}
 use Rattle.xf_read.specs.declared.tree.File.{File}
 use Rattle.xf_read.specs.Names.{op_name, yield_count, bodies_count, nodes_count, tree_count, inside, behind, tree_faults}
-use Rattle.xf_read.specs.Scopes.{Scope, no_names, value_used}
+use Rattle.xf_read.specs.Scopes.{Meanings, no_names, value_used}
 use Rattle.xf_read.specs.Syntax.{lacks_yield}
 use Rattle.xf_read.specs.Tree.{Nodes, no_nodes, node, Bodies, no_bodies, body, Tree}
 use Rattle.xf_read.specs.Types.{results_by, args_by}
@@ -22,7 +22,7 @@ use Rattle.xf_read_base.specs.Values.{attrs_of, kind_by}
 
 -- ---- operations
 
-abbrev pub operands_of : List Token → Scope → List Ref → List ValueName
+abbrev pub operands_of : List Token → Meanings → List Ref → List ValueName
 operands_of all scope us = map (value_used all scope) us
 
 -- operations before others
@@ -38,20 +38,20 @@ abbrev pub left_out : Parts → Nodes → ℕ → Ops
 left_out p ns n = if lacks_yield p ns then cons (yield_tree n) no_ops else no_ops
 
 abbrev mutual
-  pub nodes_meant : List Token → ℕ → Scope → Nodes → Ops
+  pub nodes_meant : List Token → ℕ → Meanings → Nodes → Ops
   nodes_meant all n scope no_nodes = no_ops
   nodes_meant all n scope (node first p bs rest) =
       op (op_name n) (kind_by all p.row p) (attrs_of all p.entries) (operands_of all scope p.uses) (results_by p.row p) (bodies_meant all (n + 1) p (inside all n p scope) bs)
       (nodes_meant all (n + (1 + bodies_count p bs)) (behind all n p scope) rest)
 
-  pub bodies_meant : List Token → ℕ → Parts → Scope → Bodies → Regions
+  pub bodies_meant : List Token → ℕ → Parts → Meanings → Bodies → Regions
   bodies_meant all n p scope no_bodies = no_regions
   bodies_meant all n p scope (body ns close rest) =
       region (args_by p.row p) (joined (nodes_meant all n scope ns) (left_out p ns (n + nodes_count ns)))
       (bodies_meant all (n + (nodes_count ns + yield_count p ns)) p scope rest)
 
 -- operation n with what it holds
-abbrev pub tree_meant : List Token → ℕ → Scope → Tree → Op
+abbrev pub tree_meant : List Token → ℕ → Meanings → Tree → Op
 tree_meant all n scope t = record {
   name = op_name n;
   kind = kind_by all t.parts.row t.parts;

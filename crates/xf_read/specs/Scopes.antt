@@ -32,13 +32,13 @@ beside (Some y) x = record x { most = max y.most x.most; single = y.single || x.
 -- ---- names that are visible
 
 -- what the names of each text stand for; a text that is not visible as a name stands for nothing
-abbrev pub Scope : Type 0
-Scope = List ℕ → Option Named
+abbrev pub Meanings : Type 0
+Meanings = List ℕ → Option Named
 
-abbrev pub no_names : Scope
+abbrev pub no_names : Meanings
 no_names name = None
 
-abbrev pub with_name : List ℕ → Named → Scope → Scope
+abbrev pub with_name : List ℕ → Named → Meanings → Meanings
 with_name name x scope other = if bytes_eq name other then Some (beside (scope name) x) else scope other
 
 -- ---- uses
@@ -53,11 +53,11 @@ has_use indexed i None = false
 has_use indexed i (Some x) = has_value indexed i x
 
 -- what the text of a use stands for
-abbrev pub named_by : List Token → Scope → Ref → Option Named
+abbrev pub named_by : List Token → Meanings → Ref → Option Named
 named_by all scope r = scope (text all r.token)
 
 -- whether a use stands for a value
-abbrev pub means : List Token → Scope → Ref → Bool
+abbrev pub means : List Token → Meanings → Ref → Bool
 means all scope r = has_use (is_index_at all (r.token + 1)) r.count (named_by all scope r)
 
 -- ---- values and their types
@@ -77,8 +77,8 @@ type_in None i = None
 type_in (Some x) i = slice_get x.types i
 
 -- the value that a use stands for, and its type
-abbrev pub value_used : List Token → Scope → Ref → ValueName
+abbrev pub value_used : List Token → Meanings → Ref → ValueName
 value_used all scope r = value_in (named_by all scope r) r.count
 
-abbrev pub type_used : List Token → Scope → Ref → Option PayloadType
+abbrev pub type_used : List Token → Meanings → Ref → Option PayloadType
 type_used all scope r = type_in (named_by all scope r) r.count

@@ -44,7 +44,7 @@ pub record HasPlaces (bytes : List ℕ) (places : List Place) : Type 0 where
 
 -- the fault of a reading that stops at a token, by its cause
 abbrev pub syntax_fault : List Token → ℕ → Cause → Fault
-syntax_fault all at (cause.Due d) = due_fault all at d
+syntax_fault all at (cause.Expected d) = due_fault all at d
 syntax_fault all at cause.NestLimit = fault_at A5 (stop_place all at)
 syntax_fault all at cause.TooManyOps = fault_at A7 (stop_place all at)
 

@@ -2,12 +2,12 @@
 use Rattle.std.specs.Prelude.{◌≡◌, ℕ, zero, suc, ◌+◌, List, length, Result, Ok, Err, Bool, true, false, not, ◌&&◌, ◌==◌, if◌then◌else◌, nat_lt, codes}
 use Rattle.xf_lex.specs.declared.token.Token.{Token}
 use Rattle.xf_type.specs.declared.payload_type.PayloadType.{PayloadType}
-use Rattle.xf_grammar.specs.Tokens.{Seen, the_end, sees, seen, is_kind, looks, says, open_brace, close_brace}
+use Rattle.xf_grammar.specs.Tokens.{Terminal, the_end, terminal, terminal_at, is_kind, looks, says, open_brace, close_brace}
 use Rattle.xf_grammar.specs.Reading.{Out, ◌>>=◌, one_too_many}
-use Rattle.xf_read_base.specs.declared.due.Due.{Due}
-use Rattle.xf_read_base.specs.declared.due.Due.TheVariants as due
-use Rattle.xf_read_base.specs.declared.due.HeadFault.{HeadFault}
-use Rattle.xf_read_base.specs.declared.due.HeadFault.TheVariants as head_fault
+use Rattle.xf_read_base.specs.declared.expected.Expected.{Expected}
+use Rattle.xf_read_base.specs.declared.expected.Expected.TheVariants as due
+use Rattle.xf_read_base.specs.declared.expected.HeadFault.{HeadFault}
+use Rattle.xf_read_base.specs.declared.expected.HeadFault.TheVariants as head_fault
 use Rattle.xf_read_base.specs.declared.parts.Parts.{Parts}
 use Rattle.xf_read_base.specs.declared.row.Level.{Level}
 use Rattle.xf_read_base.specs.declared.row.Level.TheVariants as level
@@ -27,7 +27,7 @@ pub use Rattle.xf_ir.specs.Limits.{most_open, most_operations}
 
 abbrev pub raised : HeadFault → SyntaxFault
 raised head_fault.NoMemory = fault.NoMemory
-raised (head_fault.At i d) = fault.At i (cause.Due d)
+raised (head_fault.At i d) = fault.At i (cause.Expected d)
 
 -- what a call returned is what reading gives, unless memory ran out
 abbrev pub Fails : {Y : Type 0} → SyntaxFault → Out Y Cause → Type 0
@@ -39,9 +39,9 @@ Gives view (Ok x) read = read ≡ Ok (view x)
 Gives view (Err e) read = Fails e read
 
 -- the reading of a part of an operation
-abbrev pub part : {A : Type 0} → Out A Due → Out A Cause
+abbrev pub part : {A : Type 0} → Out A Expected → Out A Cause
 part (Ok x) = Ok x
-part (Err e) = Err (e.0, cause.Due e.1)
+part (Err e) = Err (e.0, cause.Expected e.1)
 
 -- what is read, how many operations begin up to its end, and the number of the token behind it
 abbrev pub Counted : Type 0 → Type 0
@@ -76,7 +76,7 @@ behind level.File = level.Functions
 behind l = l
 
 -- what is due where a body begins
-abbrev pub due_before : Row → Due
+abbrev pub due_before : Row → Expected
 due_before row.Function = due.FunctionBody
 due_before r = due.Other
 
@@ -115,7 +115,7 @@ yielded lacks ns count at =
     else Ok ((block ns at, count), at + 1)
 
 unfoldable pub closed : List Token → Parts → Nodes → ℕ → ℕ → Counted Block
-closed all p ns count at = if looks all at close_brace then yielded (lacks_yield p ns) ns count at else Err (at, cause.Due due.Other)
+closed all p ns count at = if looks all at close_brace then yielded (lacks_yield p ns) ns count at else Err (at, cause.Expected due.Other)
 
 -- { operations }, inside so many open regions
 unfoldable pub braced : List Token → (Level → ℕ → From Nodes) → Parts → ℕ → From Block
@@ -124,7 +124,7 @@ braced all inner p depth count at =
     then (if nat_lt depth most_open
     then (inner (inside p.row) (depth + 1) count (at + 1) >>= λ x. closed all p x.0.0 x.0.1 x.1)
     else Err (at, cause.NestLimit))
-    else Err (at, cause.Due (due_before p.row))
+    else Err (at, cause.Expected (due_before p.row))
 
 abbrev pub single : From Block → From Bodies
 single one count at = one count at >>= λ x. Ok ((body x.0.0.nodes x.0.0.close no_bodies, x.0.1), x.1)
@@ -164,28 +164,28 @@ node_at all inner l depth count at =
     >>= λ p. Ok ((tree at p.0 bs.0.0, bs.0.1), p.1)
 
 -- a brace that closes, or the end
-abbrev pub closes : Seen → Bool
+abbrev pub closes : Terminal → Bool
 closes the_end = true
-closes (sees k bytes) = is_kind close_brace (sees k bytes)
+closes (terminal k bytes) = is_kind close_brace (terminal k bytes)
 
 -- operations up to a brace or the end; f is more than the tokens that are left
 abbrev pub nodes_at : ℕ → List Token → Level → ℕ → From Nodes
-nodes_at zero all l depth count at = Err (at, cause.Due due.Other)
+nodes_at zero all l depth count at = Err (at, cause.Expected due.Other)
 nodes_at (suc f) all l depth count at =
-    if closes (seen all at) then Ok ((no_nodes, count), at)
+    if closes (terminal_at all at) then Ok ((no_nodes, count), at)
     else (node_at all (nodes_at f all) l depth count at
     >>= λ n. nodes_at f all (behind l) depth n.0.1 n.1
     >>= λ rest. Ok ((cons n.0.0 rest.0.0, rest.0.1), rest.1))
 
 -- ---- files
 
-abbrev pub is_end : Seen → Bool
+abbrev pub is_end : Terminal → Bool
 is_end the_end = true
-is_end (sees k bytes) = false
+is_end (terminal k bytes) = false
 
 -- a whole text ends there
-abbrev pub ended : List Token → Due → File → ℕ → Out File Cause
-ended all d file at = if is_end (seen all at) then Ok (file, at) else Err (at, cause.Due d)
+abbrev pub ended : List Token → Expected → File → ℕ → Out File Cause
+ended all d file at = if is_end (terminal_at all at) then Ok (file, at) else Err (at, cause.Expected d)
 
 abbrev pub written_file : Tree → File
 written_file t = record { written = true; root = t }

@@ -3,7 +3,7 @@ use Rattle.std.specs.Prelude.{ℕ, ◌+◌, ◌≤◌, List, [], ◌∷◌}
 use Rattle.std.proofs.Common.{arith}
 use denote.Param.Weighed.{most}
 use Rattle.xf_read.specs.Tree.{Nodes, no_nodes, node, Bodies, no_bodies, body, Tree, Block, cons}
-use Rattle.xf_read.specs.declared.tree.Node.TheInside.{Inside}
+use Rattle.xf_read.specs.declared.tree.SyntaxNode.TheInside.{Inside}
 use Rattle.xf_read.specs.declared.tree.Body.TheInside.{Inside as BodyInside}
 
 abbrev pub bodies_of : List Block → Bodies

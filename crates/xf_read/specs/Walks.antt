@@ -6,15 +6,15 @@ use Rattle.xf_read_base.specs.declared.parts.Parts.{Parts}
 use Rattle.xf_ir.specs.Tree.{Regions, no_regions, region}
 use Rattle.xf_ir.specs.Tree.{Tree as Op}
 use Rattle.xf_read.specs.declared.faults.Faults.{Faults}
-use Rattle.xf_read.specs.declared.head.Head.{Head}
-use Rattle.xf_read.specs.declared.scope.Scope.{Scope as Visible}
+use Rattle.xf_read.specs.declared.head.MeantHead.{MeantHead}
+use Rattle.xf_read.specs.declared.scope.VisibleNames.{VisibleNames as Visible}
 use Rattle.xf_read.specs.declared.walk.Walk.{Walk}
 use Rattle.xf_read.specs.declared.read.Built.{Built}
 use Rattle.xf_read.specs.declared.tree.File.{File}
 use Rattle.xf_read.specs.Meant.{operands_of, meant, places_of, file_faults}
 use Rattle.xf_read_base.specs.Attributes.{entries_twice}
 use Rattle.xf_read.specs.Names.{op_name, earlier, with_faults, undefined_in, names_twice, agrees}
-use Rattle.xf_read.specs.Scopes.{Scope}
+use Rattle.xf_read.specs.Scopes.{Meanings}
 use Rattle.xf_read.specs.Types.{results_by, args_by}
 use Rattle.xf_read_base.specs.Values.{attrs_of, kind_by}
 use Rattle.xf_read.specs.Visible.{names_in}
@@ -31,7 +31,7 @@ pub record Same (old new : Visible) : Type 0 where
   pub changes : new.changes.items ≡ old.changes.items
 
 -- what an operation holds beside its name and its regions, and its faults but for names of its arguments that stand twice
-pub record IsHead (all : List Token) (scope : Scope) (first : ℕ) (p : Parts) (h : Head) : Type 0 where
+pub record IsHead (all : List Token) (scope : Meanings) (first : ℕ) (p : Parts) (h : MeantHead) : Type 0 where
   pub kind : h.kind ≡ kind_by all p.row p
   pub attrs : h.attrs ≡ attrs_of all p.entries
   pub operands : h.operands ≡ operands_of all scope p.uses
@@ -47,7 +47,7 @@ joined_regions no_regions us = us
 joined_regions (region args ops rest) us = region args ops (joined_regions rest us)
 
 -- operation n of a head and regions
-abbrev pub head_tree : ℕ → Head → Regions → Op
+abbrev pub head_tree : ℕ → MeantHead → Regions → Op
 head_tree n h rs = record { name = op_name n; kind = h.kind; attrs = h.attrs; operands = h.operands; results = h.results; regions = rs }
 
 -- what a file means, and its faults

@@ -1,6 +1,6 @@
 -- The numbers of tokens in a tree are those of tokens.
 use Rattle.std.specs.Prelude.{ℕ, ◌<◌, All, Bool, true, false, Option, Some, None, Result, Ok, Err}
-use Rattle.xf_read_base.specs.declared.parts.Entry.{Entry}
+use Rattle.xf_read_base.specs.declared.parts.AttrEntry.{AttrEntry}
 use Rattle.xf_read_base.specs.declared.parts.EntryValue.{EntryValue}
 use Rattle.xf_read_base.specs.declared.parts.EntryValue.TheVariants as value
 use Rattle.xf_read_base.specs.declared.parts.Literal.{Literal}
@@ -29,7 +29,7 @@ ValueWithin n (value.Truth b) = Unit {0}
 ValueWithin n (value.Integer negative at width) = at < n
 ValueWithin n (value.Text at) = at < n
 
-abbrev pub EntryWithin : ℕ → Entry → Type 0
+abbrev pub EntryWithin : ℕ → AttrEntry → Type 0
 EntryWithin n e = (e.name < n) × ValueWithin n e.value
 
 -- each number in the parts of an operation is below n

@@ -2,7 +2,7 @@
 use Rattle.std.specs.Prelude.{◌≡◌, ◌⊎◌, ℕ, ◌+◌, ◌<◌, ◌≤◌, List, [], ◌∷◌, ◌++◌, length, Bool, true, false, not, ◌&&◌, if◌then◌else◌, codes}
 use Rattle.xf_lex.specs.declared.token.Token.{Token}
 use Rattle.xf_lex.specs.declared.token.TokenKind.TheVariants as kind
-use Rattle.xf_grammar.specs.Tokens.{Seen, the_end, sees, is_word, open_brace, close_brace}
+use Rattle.xf_grammar.specs.Tokens.{Terminal, the_end, terminal, is_word, open_brace, close_brace}
 use Rattle.xf_grammar.specs.Grammar.{AllStand, first_seen, Writes}
 use Rattle.xf_read_base.specs.declared.row.Level.{Level}
 use Rattle.xf_read_base.specs.declared.row.Level.TheVariants as level
@@ -93,20 +93,20 @@ has_tail row.If = true
 has_tail r = false
 
 -- { what is written inside }
-abbrev pub Braced : (List Seen → Type 0) → List Seen → Type 0
-Braced W ps = (inner : List Seen) × ((ps ≡ sees open_brace [] ∷ (inner ++ sees close_brace [] ∷ [])) × W inner)
+abbrev pub Braced : (List Terminal → Type 0) → List Terminal → Type 0
+Braced W ps = (inner : List Terminal) × ((ps ≡ terminal open_brace [] ∷ (inner ++ terminal close_brace [] ∷ [])) × W inner)
 
 -- attributes behind the bodies where a row has them, before a token: what was said by the head, and what is said then
-abbrev pub TailWritten : Bool → ℕ → List Seen → Seen → Said → Said → Type 0
+abbrev pub TailWritten : Bool → ℕ → List Terminal → Terminal → Said → Said → Type 0
 TailWritten true at ps y h t = Writes dictionary_rule at ps y h t
 TailWritten false at ps y h t = (ps ≡ []) × (h ≡ t)
 
 abbrev mutual
   -- these tokens, from a number on and before a token, are operations that say so much
-  pub NodesWritten : Level → ℕ → List Seen → Seen → SaidNodes → Type 0
+  pub NodesWritten : Level → ℕ → List Terminal → Terminal → SaidNodes → Type 0
   NodesWritten l at ps y no_nodes_said = ps ≡ []
   NodesWritten l at ps y (node_said t bs rest) =
-      (head : List Seen) × ((inner : List Seen) × ((tail : List Seen) × ((more : List Seen) × ((h : Said) × (
+      (head : List Terminal) × ((inner : List Terminal) × ((tail : List Terminal) × ((more : List Terminal) × ((h : Said) × (
       (ps ≡ head ++ (inner ++ (tail ++ more)))
       × (IsHead l at head (first_seen (inner ++ (tail ++ more)) y) h
       × (BodiesWritten h.row (at + length head) inner (first_seen (tail ++ more) y) bs
@@ -114,35 +114,35 @@ abbrev mutual
       × NodesWritten (behind l) (at + length head + length inner + length tail) more y rest))))))))
 
   -- the bodies of a row
-  pub BodiesWritten : Row → ℕ → List Seen → Seen → SaidBodies → Type 0
+  pub BodiesWritten : Row → ℕ → List Terminal → Terminal → SaidBodies → Type 0
   BodiesWritten r at ps y no_bodies_said = (has_body r ≡ false) × (ps ≡ [])
   BodiesWritten r at ps y (body_said ns rest) =
       (has_body r ≡ true)
-      × ((first : List Seen) × ((more : List Seen) × ((ps ≡ first ++ more)
-      × (Braced (λ qs. NodesWritten (inside r) (at + 1) qs (sees close_brace []) ns) first × ElseWritten r (at + length first) more y rest))))
+      × ((first : List Terminal) × ((more : List Terminal) × ((ps ≡ first ++ more)
+      × (Braced (λ qs. NodesWritten (inside r) (at + 1) qs (terminal close_brace []) ns) first × ElseWritten r (at + length first) more y rest))))
 
   -- else and a second body, or neither, and then no else follows
-  pub ElseWritten : Row → ℕ → List Seen → Seen → SaidBodies → Type 0
+  pub ElseWritten : Row → ℕ → List Terminal → Terminal → SaidBodies → Type 0
   ElseWritten r at ps y no_bodies_said = (ps ≡ []) × ((has_else r && is_word (codes "else") y) ≡ false)
   ElseWritten r at ps y (body_said ns rest) =
       (has_else r ≡ true)
-      × ((second : List Seen) × ((ps ≡ sees kind.Word (codes "else") ∷ second)
-      × (Braced (λ qs. NodesWritten (inside r) (at + 1 + 1) qs (sees close_brace []) ns) second × (rest ≡ no_bodies_said))))
+      × ((second : List Terminal) × ((ps ≡ terminal kind.Word (codes "else") ∷ second)
+      × (Braced (λ qs. NodesWritten (inside r) (at + 1 + 1) qs (terminal close_brace []) ns) second × (rest ≡ no_bodies_said))))
 
 -- a module
-abbrev pub ModuleWritten : List Seen → SaidNodes → Type 0
+abbrev pub ModuleWritten : List Terminal → SaidNodes → Type 0
 ModuleWritten ps ns =
     (is_word (codes "module") (first_seen ps the_end) ≡ true)
     × ((t : Said) × ((bs : SaidBodies) × ((ns ≡ node_said t bs no_nodes_said) × NodesWritten level.File 0 ps the_end ns)))
 
 -- functions alone, of a module that is left out
-abbrev pub FunctionsWritten : List Seen → SaidNodes → Type 0
+abbrev pub FunctionsWritten : List Terminal → SaidNodes → Type 0
 FunctionsWritten ps ns =
     (is_word (codes "module") (first_seen ps the_end) ≡ false)
     × ((fs : SaidNodes) × ((ns ≡ node_said nothing_said (body_said fs no_bodies_said) no_nodes_said) × NodesWritten level.File 0 ps the_end fs))
 
 -- these tokens are a whole text that says so much: one module, within the limits
-pub record IsWritten (ps : List Seen) (ns : SaidNodes) : Type 0 where
+pub record IsWritten (ps : List Terminal) (ns : SaidNodes) : Type 0 where
   pub tokens : ModuleWritten ps ns ⊎ FunctionsWritten ps ns
   pub nesting : NestsWell 0 ns
   pub number : operations ns ≤ most_operations
@@ -151,8 +151,8 @@ pub record IsWritten (ps : List Seen) (ns : SaidNodes) : Type 0 where
 
 -- a text that is read is written, and says what was read
 abbrev pub TextsAreWritten : Type 0
-TextsAreWritten = (all : List Token) (file : File) → IsText all file → (ps : List Seen) × (AllStand all 0 ps (length all) × IsWritten ps (file_said all file))
+TextsAreWritten = (all : List Token) (file : File) → IsText all file → (ps : List Terminal) × (AllStand all 0 ps (length all) × IsWritten ps (file_said all file))
 
 -- a text that is written is read, as what it says
 abbrev pub TextsReadAgain : Type 0
-TextsReadAgain = (all : List Token) (ps : List Seen) (ns : SaidNodes) → AllStand all 0 ps (length all) → IsWritten ps ns → (file : File) × (IsText all file × (file_said all file ≡ ns))
+TextsReadAgain = (all : List Token) (ps : List Terminal) (ns : SaidNodes) → AllStand all 0 ps (length all) → IsWritten ps ns → (file : File) × (IsText all file × (file_said all file ≡ ns))

@@ -6,7 +6,7 @@ ghost use Rattle.xf_read.specs.Types.{results_by};
 ghost use Rattle.xf_read.specs.Visible.{names_in, Grows};
 
 use crate::faults::{earlier, function_symbol, has_values, token_if};
-use crate::scope::{Definer, Named, Scope};
+use crate::scope::{Definer, Named, VisibleNames};
 use crate::types::one_type;
 use std::alloc::Global;
 use xf_ir::OpName;
@@ -40,7 +40,7 @@ fn argument_named(
 pub fn enter_args<'a>(
     alloc: Global,
     tokens: &'a [Token],
-    scope: &mut Scope<'a>,
+    scope: &mut VisibleNames<'a>,
     number: u64,
     types: &TypeList,
     args: &[Ref],
@@ -62,7 +62,7 @@ pub fn enter_args<'a>(
 fn enter_results<'a>(
     alloc: Global,
     tokens: &'a [Token],
-    scope: &mut Scope<'a>,
+    scope: &mut VisibleNames<'a>,
     number: u64,
     types: &TypeList,
     defines: &[Ref],
@@ -86,7 +86,7 @@ fn enter_results<'a>(
 fn enter_symbol<'a>(
     alloc: Global,
     tokens: &'a [Token],
-    scope: &mut Scope<'a>,
+    scope: &mut VisibleNames<'a>,
     symbol: Option<usize>,
 ) -> Result<(), NoMemory>
     ensures names { OnOk result (names_in scope.new ≡ with_symbol tokens.now symbol (names_in scope.old)) }
@@ -107,7 +107,7 @@ fn enter_symbol<'a>(
 pub fn enter_names<'a>(
     alloc: Global,
     tokens: &'a [Token],
-    scope: &mut Scope<'a>,
+    scope: &mut VisibleNames<'a>,
     number: u64,
     types: &TypeList,
     parts: &Parts,

@@ -4,13 +4,13 @@ ghost use Rattle.xf_read.specs.declared.fault.SyntaxFault.TheVariants.{NoMemory}
 ghost use Rattle.xf_read.specs.Syntax.{raised};
 
 use std::alloc::{AllocError, AllocFailed};
-use xf_read_base::{Due, HeadFault};
+use xf_read_base::{Expected, HeadFault};
 
 /// What is wrong at the first token that no text of the syntax has there.
 #[derive(Clone, Copy, Debug, PartialEq, Eq)]
 pub enum Cause {
     /// It fits no text; this was due there.
-    Due(Due),
+    Expected(Expected),
     /// It opens a region inside 32 others.
     NestLimit,
     /// An operation begins there behind 1,000,000 others.
@@ -48,7 +48,7 @@ impl From<HeadFault> for SyntaxFault {
     fn from(fault: HeadFault) -> SyntaxFault {
         match fault {
             HeadFault::NoMemory => SyntaxFault::NoMemory,
-            HeadFault::At(at, due) => SyntaxFault::At(at, Cause::Due(due)),
+            HeadFault::At(at, due) => SyntaxFault::At(at, Cause::Expected(due)),
         }
     }
 }

@@ -4,7 +4,7 @@ ghost use Rattle.xf_read.specs.Names.{earlier, with_faults, twice_fault, no_faul
 ghost use Rattle.xf_read.specs.Scopes.{has_values};
 ghost use Rattle.xf_read.specs.Visible.{names_in};
 
-use crate::scope::Scope;
+use crate::scope::VisibleNames;
 use xf_lex::Token;
 use xf_read_base::{Parts, Ref, Row, text};
 
@@ -84,13 +84,13 @@ pub fn token_if(refused: bool, at: usize) -> Option<usize>
 }
 
 /// A token whose text is visible as a name.
-fn visible_at(tokens: &[Token], scope: &Scope, at: usize) -> Option<usize>
+fn visible_at(tokens: &[Token], scope: &VisibleNames, at: usize) -> Option<usize>
     ensures { result ≡ visible_at tokens.now (names_in scope.now) at }
 {
     token_if(scope.look(text(tokens, at)).is_some(), at)
 }
 
-fn symbol_twice(tokens: &[Token], scope: &Scope, symbol: Option<usize>) -> Option<usize>
+fn symbol_twice(tokens: &[Token], scope: &VisibleNames, symbol: Option<usize>) -> Option<usize>
     ensures { result ≡ symbol_twice tokens.now (names_in scope.now) symbol }
 {
     match symbol {
@@ -107,7 +107,7 @@ pub fn has_values(count: u32) -> bool
     count > 0
 }
 
-fn results_twice(tokens: &[Token], scope: &Scope, defines: &[Ref]) -> Option<usize>
+fn results_twice(tokens: &[Token], scope: &VisibleNames, defines: &[Ref]) -> Option<usize>
     ensures { result ≡ results_twice tokens.now (names_in scope.now) defines.now }
 {
     match defines {
@@ -118,7 +118,7 @@ fn results_twice(tokens: &[Token], scope: &Scope, defines: &[Ref]) -> Option<usi
 }
 
 /// The first of the symbol of a function and the name of results that is visible already.
-pub fn names_twice(tokens: &[Token], scope: &Scope, parts: &Parts) -> Option<usize>
+pub fn names_twice(tokens: &[Token], scope: &VisibleNames, parts: &Parts) -> Option<usize>
     ensures { result ≡ names_twice tokens.now parts.now (names_in scope.now) }
 {
     earlier(

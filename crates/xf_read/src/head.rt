@@ -4,7 +4,7 @@ ghost use Rattle.xf_read.specs.Visible.{names_in};
 ghost use Rattle.xf_read.specs.Walks.{IsHead};
 
 use crate::faults::{Faults, earlier, names_twice, token_if};
-use crate::scope::Scope;
+use crate::scope::VisibleNames;
 use crate::types::{agrees, arg_types, result_types};
 use crate::uses::{operands, undefined};
 use std::alloc::Global;
@@ -16,7 +16,7 @@ use xf_type::{NoMemory, TypeList};
 /// What an operation holds beside its name and its regions, the types of its block arguments, and
 /// its faults but for names of its arguments that are visible already.
 #[derive(Drop)]
-pub struct Head {
+pub struct MeantHead {
     pub kind: Kind,
     pub attrs: AttrList,
     pub operands: ValueList,
@@ -29,10 +29,10 @@ pub struct Head {
 pub fn head_of(
     alloc: Global,
     tokens: &[Token],
-    scope: &Scope,
+    scope: &VisibleNames,
     first: usize,
     parts: &Parts,
-) -> Result<Head, NoMemory>
+) -> Result<MeantHead, NoMemory>
     ensures { IfOk result (λ head. IsHead tokens.now (names_in scope.now) first parts.now head) }
 {
     let results = result_types(alloc, parts)?;
@@ -43,7 +43,7 @@ pub fn head_of(
         twice: earlier(twice, names_twice(tokens, scope, parts)),
         mismatch: token_if(!agrees(tokens, scope, parts, &results, &args), first),
     };
-    Ok(Head {
+    Ok(MeantHead {
         kind: kind_of(alloc, tokens, parts)?,
         attrs,
         operands: operands(alloc, tokens, scope, parts.uses.as_slice())?,

@@ -22,5 +22,5 @@ pub use law::{one_meaning, spelt_modules_are_bounded, texts_are_read_as_written}
 pub use read::{ReadModule, read_module};
 pub use reader::syntax;
 pub use scope::{Definer, Named};
-pub use tree::{Body, File, Node};
+pub use tree::{Body, File, SyntaxNode};
 pub use walk::PlaceOfList;

@@ -6,7 +6,7 @@ ghost use Rattle.xf_read.specs.Walks.{IsBuilt};
 
 use crate::faults::Faults;
 use crate::reader::syntax;
-use crate::scope::Scope;
+use crate::scope::VisibleNames;
 use crate::stop::{first_fault, unread};
 use crate::tree::File;
 use crate::walk::{PlaceOfList, Walk, operation, place_of};
@@ -48,7 +48,7 @@ fn build(alloc: Global, tokens: &[Token], file: &File) -> Result<Built, NoMemory
     ensures { IfOk result (λ built. IsBuilt tokens.now file.now built) }
 {
     let mut walk = Walk {
-        scope: Scope::new(alloc),
+        scope: VisibleNames::new(alloc),
         faults: Faults::none(),
         places: PlaceOfList::new(alloc),
         next: 0,

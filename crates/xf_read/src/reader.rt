@@ -1,6 +1,6 @@
 //! Reading the syntax of a whole text.
 ghost use Rattle.std.specs.Prelude.{OnOk, ◌≡◌, ◌≤◌, ◌<◌, ◌+◌, ℕ, length, IfOk};
-ghost use Rattle.xf_grammar.specs.Tokens.{seen};
+ghost use Rattle.xf_grammar.specs.Tokens.{terminal_at};
 ghost use Rattle.xf_read_base.specs.declared.row.Level.TheVariants as level;
 ghost use Rattle.xf_read.specs.declared.tree.File.{File};
 ghost use Rattle.xf_read.specs.Syntax.{Gives, begins_at, ends_in_yield, is_yield, inside, due_before, behind, may_end_open, lacks_yield, closed, closes, braced, with_else, bodies_at, tail_at, node_at, nodes_at, ended, file_at, block};
@@ -9,11 +9,11 @@ ghost use Rattle.xf_read.specs.Within.{ReadWithin};
 ghost use Rattle.xf_read.specs.View.{nodes_of, bodies_of};
 
 use crate::fault::{Cause, SyntaxFault};
-use crate::tree::{Body, File, Node};
+use crate::tree::{Body, File, SyntaxNode};
 use std::alloc::Global;
 use xf_grammar::{looks, says};
 use xf_lex::{Token, TokenKind};
-use xf_read_base::{Due, HeadFault, Level, Parts, Row, dictionary_at, head_at};
+use xf_read_base::{Expected, HeadFault, Level, Parts, Row, dictionary_at, head_at};
 
 /// The most regions that are open at a token.
 const MOST_OPEN: u32 = 32;
@@ -42,12 +42,12 @@ fn behind(level: Level) -> Level
 }
 
 /// What is due where a body begins.
-fn due_before(row: Row) -> Due
+fn due_before(row: Row) -> Expected
     ensures { result ≡ due_before row }
 {
     match row {
-        Row::Function => Due::FunctionBody,
-        _ => Due::Other,
+        Row::Function => Expected::FunctionBody,
+        _ => Expected::Other,
     }
 }
 
@@ -73,7 +73,7 @@ fn is_yield(row: Row) -> bool
 
 /// Whether the last operation of a body is a yield.
 #[tactic(auto, using(crate::proofs::TreeLemmas::last_yields))]
-pub fn ends_in_yield(nodes: &[Node]) -> bool
+pub fn ends_in_yield(nodes: &[SyntaxNode]) -> bool
     ensures { result ≡ ends_in_yield (nodes_of nodes.now) }
 {
     match nodes {
@@ -102,7 +102,7 @@ fn begins_at(
         Err(HeadFault::NoMemory) => Err(SyntaxFault::NoMemory),
         Err(HeadFault::At(place, due)) if place == at => Err(SyntaxFault::At(
             place,
-            Cause::Due(due),
+            Cause::Expected(due),
         )),
         _ => Err(SyntaxFault::At(at, Cause::TooManyOps)),
     }
@@ -110,7 +110,7 @@ fn begins_at(
 
 /// Whether a brace that closes stands there, or the end.
 fn closes(tokens: &[Token], at: usize) -> bool
-    ensures { result ≡ closes (seen tokens.now at) }
+    ensures { result ≡ closes (terminal_at tokens.now at) }
 {
     at >= tokens.len() || looks(tokens, at, TokenKind::Mark(b'}'))
 }
@@ -120,7 +120,7 @@ fn closes(tokens: &[Token], at: usize) -> bool
 fn closed(
     tokens: &[Token],
     parts: &Parts,
-    nodes: &[Node],
+    nodes: &[SyntaxNode],
     count: &mut u32,
     at: usize,
 ) -> Result<usize, SyntaxFault>
@@ -128,7 +128,7 @@ fn closed(
     ensures within { IfOk result (λ n. (at ≤ n) × (n ≤ length tokens.now)) }
 {
     if !looks(tokens, at, TokenKind::Mark(b'}')) {
-        return Err(SyntaxFault::At(at, Cause::Due(Due::Other)));
+        return Err(SyntaxFault::At(at, Cause::Expected(Expected::Other)));
     }
     if may_end_open(parts) && !ends_in_yield(nodes) {
         if *count >= MOST_OPERATIONS {
@@ -167,7 +167,7 @@ fn braced(
     ensures within { IfOk result (λ x. (at ≤ x.1) × (x.1 ≤ length tokens.now)) }
 {
     if !looks(tokens, at, TokenKind::Mark(b'{')) {
-        return Err(SyntaxFault::At(at, Cause::Due(due_before(parts.row))));
+        return Err(SyntaxFault::At(at, Cause::Expected(due_before(parts.row))));
     }
     if depth >= MOST_OPEN {
         return Err(SyntaxFault::At(at, Cause::NestLimit));
@@ -239,7 +239,7 @@ fn node_at(
     depth: u32,
     count: &mut u32,
     at: usize,
-) -> Result<(Node, usize), SyntaxFault>
+) -> Result<(SyntaxNode, usize), SyntaxFault>
     ensures gives { (f : ℕ) → length tokens.now ≤ f + at → Gives (λ x. ((x.0, count.new), x.1)) result (node_at tokens.now (nodes_at f tokens.now) level depth count.old at) }
     ensures within { IfOk result (λ x. (at < x.1) × (x.1 ≤ length tokens.now)) }
 {
@@ -248,7 +248,7 @@ fn node_at(
     let (bodies, next) = bodies_at(alloc, tokens, &parts, depth, count, next)?;
     let next = tail_at(tokens, &mut parts, next)?;
     Ok((
-        Node {
+        SyntaxNode {
             first: at,
             parts,
             bodies,
@@ -266,7 +266,7 @@ pub(crate) fn nodes_at(
     depth: u32,
     count: &mut u32,
     at: usize,
-) -> Result<(Vec<Node>, usize), SyntaxFault>
+) -> Result<(Vec<SyntaxNode>, usize), SyntaxFault>
     requires { at ≤ length tokens.now }
     ensures gives { (f : ℕ) → length tokens.now < f + at → Gives (λ x. ((nodes_of x.0.items, count.new), x.1)) result (nodes_at f tokens.now level depth count.old at) }
     ensures within { IfOk result (λ x. (at ≤ x.1) × (x.1 ≤ length tokens.now)) }
@@ -284,12 +284,12 @@ pub(crate) fn nodes_at(
 }
 
 /// The end of a text, which is due.
-fn ended(tokens: &[Token], due: Due, at: usize) -> Result<(), SyntaxFault>
+fn ended(tokens: &[Token], due: Expected, at: usize) -> Result<(), SyntaxFault>
     ensures gives { (file : File) → Gives (λ _. (file, at)) result (ended tokens.now due file at) }
     ensures whole { at ≤ length tokens.now → OnOk result (at ≡ length tokens.now) }
 {
     if at < tokens.len() {
-        return Err(SyntaxFault::At(at, Cause::Due(due)));
+        return Err(SyntaxFault::At(at, Cause::Expected(due)));
     }
     Ok(())
 }
@@ -301,7 +301,7 @@ fn file(alloc: Global, tokens: &[Token]) -> Result<File, SyntaxFault>
     let mut count = 0;
     if says(tokens, 0, b"module") {
         let (root, next) = node_at(alloc, tokens, Level::File, 0, &mut count, 0)?;
-        ended(tokens, Due::Other, next)?;
+        ended(tokens, Expected::Other, next)?;
         return Ok(File {
             written: true,
             root,
@@ -309,13 +309,13 @@ fn file(alloc: Global, tokens: &[Token]) -> Result<File, SyntaxFault>
     }
     count += 1;
     let (nodes, close) = nodes_at(alloc, tokens, Level::File, 1, &mut count, 0)?;
-    ended(tokens, Due::Function, close)?;
+    ended(tokens, Expected::Function, close)?;
     let mut bodies = Vec::new(alloc);
     bodies.push(Body { nodes, close })?;
     let parts = Parts::new(alloc, Row::Module);
     Ok(File {
         written: false,
-        root: Node {
+        root: SyntaxNode {
             first: 0,
             parts,
             bodies,
@@ -328,7 +328,7 @@ fn file(alloc: Global, tokens: &[Token]) -> Result<File, SyntaxFault>
 /// It refuses with the first token that no text of the syntax has there, which is the end of the
 /// text where all of them fit, and with what is wrong there. It takes time in the number of
 /// tokens, and its calls nest no deeper than the regions of a text may.
-#[tactic(auto, using(crate::proofs::Place::at_no_text, crate::proofs::TreesWithin::read_within))]
+#[tactic(auto, using(crate::proofs::TokenPlaces::at_no_text, crate::proofs::TreesWithin::read_within))]
 pub fn syntax(alloc: Global, tokens: &[Token]) -> Result<File, SyntaxFault>
     ensures exact { (f : ℕ) → length tokens.now < f → Gives (λ file. (file, length tokens.now)) result (file_at f tokens.now) }
     ensures place { AtNoText result tokens.now }

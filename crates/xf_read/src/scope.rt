@@ -63,7 +63,7 @@ impl Named {
 
 /// A name that stands for something else than before.
 #[derive(Drop)]
-pub struct Change<'a> {
+pub struct Hidden<'a> {
     pub name: &'a [u8],
     /// What it stood for.
     pub before: Option<Named>,
@@ -71,17 +71,17 @@ pub struct Change<'a> {
 
 /// The texts that are visible as names, each with what it stands for, and the changes that led there.
 #[derive(Drop)]
-pub struct Scope<'a> {
+pub struct VisibleNames<'a> {
     pub visible: BTreeMap<&'a [u8], Named>,
-    pub changes: Vec<Change<'a>>,
+    pub changes: Vec<Hidden<'a>>,
 }
 
-impl<'a> Scope<'a> {
+impl<'a> VisibleNames<'a> {
     /// No names.
-    pub fn new(alloc: Global) -> Scope<'a>
+    pub fn new(alloc: Global) -> VisibleNames<'a>
         ensures { names_in result ≡ no_names }
     {
-        Scope {
+        VisibleNames {
             visible: BTreeMap::new(alloc),
             changes: Vec::new(alloc),
         }
@@ -106,16 +106,16 @@ impl<'a> Scope<'a> {
         let together = named.beside(self.look(name));
         let before = self.visible.insert(name, together)?;
         let seen = before.is_some();
-        self.changes.push(Change { name, before })?;
+        self.changes.push(Hidden { name, before })?;
         Ok(seen)
     }
 
     /// Lets a name stand for what it stood for before a change.
-    fn put_back(&mut self, change: Change<'a>) -> Result<(), NoMemory>
+    fn put_back(&mut self, change: Hidden<'a>) -> Result<(), NoMemory>
         ensures names { OnOk result (names_in self.new ≡ put_back change.entry (names_in self.old)) }
         ensures changes { OnOk result (self.new.changes ≡ self.old.changes) }
     {
-        let Change { name, before } = change;
+        let Hidden { name, before } = change;
         match before {
             Some(named) => {
                 self.visible.insert(name, named)?;

@@ -14,7 +14,7 @@ fn syntax_fault(tokens: &[Token], at: usize, cause: Cause) -> Fault
     ensures { result ≡ syntax_fault tokens.now at cause }
 {
     match cause {
-        Cause::Due(due) => due_fault(tokens, at, due),
+        Cause::Expected(due) => due_fault(tokens, at, due),
         Cause::NestLimit => Fault::at(Code::A5, stop_place(tokens, at)),
         Cause::TooManyOps => Fault::at(Code::A7, stop_place(tokens, at)),
     }

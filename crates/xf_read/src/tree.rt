@@ -7,13 +7,13 @@ use xf_read_base::Parts;
 /// the attributes behind its bodies; and its bodies.
 #[cycle(syntax)]
 #[derive(Drop)]
-pub struct Node {
+pub struct SyntaxNode {
     pub first: usize,
     pub parts: Parts,
     pub bodies: Vec<Body>,
 }
 
-impl Model for Node {
+impl Model for SyntaxNode {
     ghost use Rattle.xf_read.specs.Tree.{Tree, tree_code};
 
     ghost Value = { Tree };
@@ -35,7 +35,7 @@ impl Model for Node {
 #[cycle(syntax)]
 #[derive(Drop)]
 pub struct Body {
-    pub nodes: Vec<Node>,
+    pub nodes: Vec<SyntaxNode>,
     pub close: usize,
 }
 
@@ -64,5 +64,5 @@ impl Model for Body {
 pub struct File {
     /// Whether the module is written.
     pub written: bool,
-    pub root: Node,
+    pub root: SyntaxNode,
 }

@@ -5,7 +5,7 @@ ghost use Rattle.xf_read.specs.Names.{operands_fit, results_fit, agrees};
 ghost use Rattle.xf_read.specs.Types.{one_type, results_by, args_by, operands_by, stated_by, same_type, fits};
 ghost use Rattle.xf_read.specs.Visible.{names_in};
 
-use crate::scope::Scope;
+use crate::scope::VisibleNames;
 use crate::uses::type_used;
 use std::alloc::Global;
 use xf_lex::Token;
@@ -102,7 +102,7 @@ fn fits(stated: Option<&PayloadType>, used: Option<&PayloadType>) -> bool
 }
 
 /// Whether the operands have the types that are stated for them.
-fn operands_fit(tokens: &[Token], scope: &Scope, parts: &Parts) -> bool
+fn operands_fit(tokens: &[Token], scope: &VisibleNames, parts: &Parts) -> bool
     ensures { result ≡ operands_fit tokens.now (names_in scope.now) parts.now.row parts.now 0 parts.now.uses }
 {
     let uses = parts.uses.as_slice();
@@ -128,7 +128,7 @@ fn results_fit(defines: &[Ref], types: &TypeList) -> bool
 /// stand for each other are as many. The types are those of the results and of the arguments.
 pub fn agrees(
     tokens: &[Token],
-    scope: &Scope,
+    scope: &VisibleNames,
     parts: &Parts,
     results: &TypeList,
     args: &TypeList,

@@ -7,7 +7,7 @@ ghost use Rattle.xf_read.specs.Names.{undefined_in};
 ghost use Rattle.xf_read.specs.Scopes.{means, value_used, type_used};
 ghost use Rattle.xf_read.specs.Visible.{names_in};
 
-use crate::scope::{Definer, Scope};
+use crate::scope::{Definer, VisibleNames};
 use std::alloc::Global;
 use xf_grammar::is_index_at;
 use xf_ir::{ValueList, ValueName};
@@ -24,7 +24,7 @@ fn is_indexed(tokens: &[Token], at: usize) -> bool
 }
 
 /// Whether a use stands for a value.
-fn means(tokens: &[Token], scope: &Scope, name: Ref) -> bool
+fn means(tokens: &[Token], scope: &VisibleNames, name: Ref) -> bool
     ensures { result ≡ means tokens.now (names_in scope.now) name }
 {
     let indexed = is_indexed(tokens, name.token);
@@ -36,7 +36,7 @@ fn means(tokens: &[Token], scope: &Scope, name: Ref) -> bool
 }
 
 /// The first use that stands for no value.
-pub fn undefined(tokens: &[Token], scope: &Scope, uses: &[Ref]) -> Option<usize>
+pub fn undefined(tokens: &[Token], scope: &VisibleNames, uses: &[Ref]) -> Option<usize>
     ensures { result ≡ undefined_in tokens.now (names_in scope.now) uses.now }
 {
     for name in uses {
@@ -48,7 +48,7 @@ pub fn undefined(tokens: &[Token], scope: &Scope, uses: &[Ref]) -> Option<usize>
 }
 
 /// The value that a use stands for, or any where it stands for none.
-fn value_used(tokens: &[Token], scope: &Scope, name: Ref) -> ValueName
+fn value_used(tokens: &[Token], scope: &VisibleNames, name: Ref) -> ValueName
     ensures { result ≡ value_used tokens.now (names_in scope.now) name }
 {
     match scope.look(text(tokens, name.token)) {
@@ -68,7 +68,7 @@ fn value_used(tokens: &[Token], scope: &Scope, name: Ref) -> ValueName
 pub fn operands(
     alloc: Global,
     tokens: &[Token],
-    scope: &Scope,
+    scope: &VisibleNames,
     uses: &[Ref],
 ) -> Result<ValueList, NoMemory>
     ensures { IfOk result (λ values. values ≡ operands_of tokens.now (names_in scope.now) uses.now) }
@@ -81,7 +81,11 @@ pub fn operands(
 }
 
 /// The type of the value that a use stands for, where it is known.
-pub fn type_used<'s>(tokens: &[Token], scope: &'s Scope, name: Ref) -> Option<&'s PayloadType>
+pub fn type_used<'s>(
+    tokens: &[Token],
+    scope: &'s VisibleNames,
+    name: Ref,
+) -> Option<&'s PayloadType>
     ensures { option_copied result ≡ type_used tokens.now (names_in scope.now) name }
 {
     match scope.look(text(tokens, name.token)) {

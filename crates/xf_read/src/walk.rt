@@ -11,10 +11,10 @@ ghost use Rattle.xf_read.specs.Walks.{IsHead, Moved, Same, head_tree};
 
 use crate::defining::{enter_args, enter_names};
 use crate::faults::Faults;
-use crate::head::{Head, head_of};
+use crate::head::{MeantHead, head_of};
 use crate::reader::{ends_in_yield, may_end_open};
-use crate::scope::Scope;
-use crate::tree::{Body, Node};
+use crate::scope::VisibleNames;
+use crate::tree::{Body, SyntaxNode};
 use std::alloc::Global;
 use xf_ir::{AttrList, Block, Kind, Op, OpName, ValueList};
 use xf_lex::Token;
@@ -29,7 +29,7 @@ pub type PlaceOfList = ListOf<Place>;
 /// next operation.
 #[derive(Drop)]
 pub struct Walk<'a> {
-    pub scope: Scope<'a>,
+    pub scope: VisibleNames<'a>,
     pub faults: Faults,
     pub places: PlaceOfList,
     pub next: u64,
@@ -97,7 +97,7 @@ fn enter_head<'a>(
     walk: &mut Walk<'a>,
     place: Place,
     parts: &Parts,
-    head: &Head,
+    head: &MeantHead,
 ) -> Result<(), NoMemory>
     requires room { walk.old.next + 1 < 2 ^ 64 }
     requires head { (first : ℕ) × IsHead tokens.now (names_in walk.old.scope) first parts.now head.now }
@@ -115,7 +115,7 @@ fn enter_head<'a>(
 }
 
 /// An operation of a head and its blocks.
-fn with_regions(number: u64, head: Head, regions: Vec<Block>) -> Op
+fn with_regions(number: u64, head: MeantHead, regions: Vec<Block>) -> Op
     ensures { result ≡ head_tree number head (regions_of regions.items) }
 {
     Op {
@@ -136,7 +136,7 @@ pub fn operation<'a>(
     tokens: &'a [Token],
     walk: &mut Walk<'a>,
     place: Place,
-    node: &Node,
+    node: &SyntaxNode,
 ) -> Result<Op, NoMemory>
     requires { walk.old.next + tree_count node.now < 2 ^ 64 }
     ensures op { IfOk result (λ op. op ≡ tree_meant tokens.now walk.old.next (names_in walk.old.scope) node.now) }
@@ -161,7 +161,7 @@ fn operations<'a>(
     alloc: Global,
     tokens: &'a [Token],
     walk: &mut Walk<'a>,
-    nodes: &[Node],
+    nodes: &[SyntaxNode],
 ) -> Result<Vec<Op>, NoMemory>
     requires { walk.old.next + nodes_count (nodes_of nodes.now) < 2 ^ 64 }
     ensures ops { IfOk result (λ ops. ops_of ops.items ≡ nodes_meant tokens.now walk.old.next (names_in walk.old.scope) (nodes_of nodes.now)) }

@@ -4,18 +4,18 @@ use Rattle.xf_lex.specs.declared.token.Token.{Token}
 use Rattle.xf_lex.specs.declared.token.TokenKind.{TokenKind}
 use Rattle.xf_lex.specs.declared.token.TokenKind.TheVariants as kind
 use Rattle.xf_type.specs.declared.payload_type.Width.TheVariants as width
-use Rattle.xf_grammar.specs.Tokens.{Seen, seen, close_paren, colon, equals, open_brace, close_brace, open_paren}
+use Rattle.xf_grammar.specs.Tokens.{Terminal, terminal_at, close_paren, colon, equals, open_brace, close_brace, open_paren}
 use Rattle.xf_grammar.specs.Grammar.{both}
 use Rattle.xf_grammar.proofs.Grown.{Grows}
-use Rattle.xf_read_base.specs.declared.due.Due.{Due}
-use Rattle.xf_read_base.specs.declared.due.Due.TheVariants as due
+use Rattle.xf_read_base.specs.declared.expected.Expected.{Expected}
+use Rattle.xf_read_base.specs.declared.expected.Expected.TheVariants as due
 use Rattle.xf_read_base.specs.declared.list.Item.{Item}
 use Rattle.xf_read_base.specs.declared.list.Item.TheVariants as item
 use Rattle.xf_read_base.specs.declared.parts.EntryValue.{EntryValue}
 use Rattle.xf_read_base.specs.declared.parts.Literal.TheVariants as literal
 use Rattle.xf_read_base.specs.declared.parts.Parts.{Parts}
-use Rattle.xf_read_base.specs.declared.row.Slot.{Slot}
-use Rattle.xf_read_base.specs.declared.row.Slot.TheVariants as slot
+use Rattle.xf_read_base.specs.declared.row.FormatElement.{FormatElement}
+use Rattle.xf_read_base.specs.declared.row.FormatElement.TheVariants as slot
 use Rattle.xf_read_base.specs.Words.{spelling}
 use Rattle.xf_read_base.specs.Parts.{ref, count_of, with_entry}
 use Rattle.xf_read_base.specs.Rules.{Rule, kind_rule, word_rule, symbol_rule, module_name_rule, function_name_rule, argument_rule, use_rule, width_meant, width_rule, result_rule, predicate_meant, predicate_rule, number_rule, truth_rule, literal_rule, entry_width_rule, entry_number_rule, entry_value_rule, entry_rule, param_rule, pair_rule, item_rule, most_items, list_rule, until_rule, enclosed_rule, dictionary_rule, attributes_rule, result_types_rule, call_results_rule, function_results_rule, listed_results_rule, if_results_rule, operands_rule, iter_args_rule, loop_width_rule, slot_rule, slots_rule}
@@ -49,7 +49,7 @@ both_add b c g k p q i n le all at = (b i, (c i, (le, (p i (b i) (same (b i)) al
 pub skip_adds : (i : Measure) (n : ℕ) (h : Parts) → size i h ≤ size i h + n
 skip_adds i n h = no_less (size i h) n
 
-pub kind_adds : (d : Due) (k : TokenKind) → Adds none (kind_rule d k)
+pub kind_adds : (d : Expected) (k : TokenKind) → Adds none (kind_rule d k)
 unfolding kind_rule
 kind_adds d k i n le all at = (λ e h. skip_adds i n h, λ e. tt)
 
@@ -80,27 +80,27 @@ use_adds : Adds (one in_uses) use_rule
 unfolding use_rule
 use_adds i n le all at = (
   λ e. (
-    λ f h. within _ _ (one in_uses i) n (use_added i (ref at (count_of (seen all (at + 1)))) h) le,
+    λ f h. within _ _ (one in_uses i) n (use_added i (ref at (count_of (terminal_at all (at + 1)))) h) le,
     λ f h. within _ _ (one in_uses i) n (use_added i (ref at 0) h) le,
   ),
   λ e. tt,
 )
 
-width_adds : (d : Due) → Adds (one in_types) (width_rule d)
+width_adds : (d : Expected) → Adds (one in_types) (width_rule d)
 unfolding width_rule
-width_adds d i n le all at = (λ e h. within _ _ (one in_types i) n (width_added i (width_meant (seen all at)) h) le, λ e. tt)
+width_adds d i n le all at = (λ e h. within _ _ (one in_types i) n (width_added i (width_meant (terminal_at all at)) h) le, λ e. tt)
 
 result_adds : Adds (one in_results) result_rule
 unfolding result_rule
-result_adds i n le all at = (λ e h. within _ _ (one in_results i) n (result_added i (width_meant (seen all at)) h) le, λ e. tt)
+result_adds i n le all at = (λ e h. within _ _ (one in_results i) n (result_added i (width_meant (terminal_at all at)) h) le, λ e. tt)
 
 predicate_adds : Adds none predicate_rule
 unfolding predicate_rule
-predicate_adds i n le all at = (λ e h. within _ _ 0 n (predicate_added i (predicate_meant (seen all at)) h) le, λ e. tt)
+predicate_adds i n le all at = (λ e h. within _ _ 0 n (predicate_added i (predicate_meant (terminal_at all at)) h) le, λ e. tt)
 
 -- ---- literals
 
-number_adds : (negative : Bool) (d : Due) → Adds (one in_types) (number_rule negative d)
+number_adds : (negative : Bool) (d : Expected) → Adds (one in_types) (number_rule negative d)
 unfolding number_rule
 number_adds negative d i n le all at =
     let t : ℕ = one in_types i in
@@ -126,15 +126,15 @@ literal_adds i n le all at = (
 entry_within : (name : ℕ) (v : EntryValue) (i : Measure) (n : ℕ) → one in_entries i ≤ n → (h : Parts) → size i (with_entry name v h) ≤ size i h + n
 entry_within name v i n le h = within _ _ (one in_entries i) n (entry_added i name v h) le
 
-entry_width_adds : (name : ℕ) (bytes : List ℕ) (negative : Bool) (digits : ℕ) (x : Seen) → Adds (one in_entries) (entry_width_rule name bytes negative digits x)
+entry_width_adds : (name : ℕ) (bytes : List ℕ) (negative : Bool) (digits : ℕ) (x : Terminal) → Adds (one in_entries) (entry_width_rule name bytes negative digits x)
 unfolding entry_width_rule
 entry_width_adds name bytes negative digits x i n le all at = (λ e. (λ f h. entry_within name _ i n le h, λ f. tt), λ e. tt)
 
-entry_number_adds : (name : ℕ) (bytes : List ℕ) (negative : Bool) (d : Due) → Adds (one in_entries) (entry_number_rule name bytes negative d)
+entry_number_adds : (name : ℕ) (bytes : List ℕ) (negative : Bool) (d : Expected) → Adds (one in_entries) (entry_number_rule name bytes negative d)
 unfolding entry_number_rule
 entry_number_adds name bytes negative d i n le all at = (
   λ e. (
-    λ f. (λ c. entry_width_adds name bytes negative at (seen all at) i n le all (at + 1 + 1), λ c h. entry_within name _ i n le h),
+    λ f. (λ c. entry_width_adds name bytes negative at (terminal_at all at) i n le all (at + 1 + 1), λ c h. entry_within name _ i n le h),
     λ f. tt,
   ),
   λ e. tt,
@@ -190,12 +190,12 @@ all_items t = refl
 list_adds : (t : Item) → Adds (list_bound t) (list_rule t)
 list_adds t i n le all at = let b : ℕ = item_bound t i in (b, (rw (all_items t) le, λ j. item_adds t i b (same b) all j))
 
-until_adds : (close : TokenKind) (d : Due) (t : Item) → Adds (list_bound t) (until_rule close d t)
+until_adds : (close : TokenKind) (d : Expected) (t : Item) → Adds (list_bound t) (until_rule close d t)
 unfolding until_rule
 until_adds close d t i n le all at =
     (λ e h. skip_adds i n h, λ e. both_add (list_bound t) none (list_rule t) (kind_rule d close) (list_adds t) (kind_adds d close) i n (omega (arith, le)) all at)
 
-enclosed_adds : (t : Item) (d : Due) → Adds (list_bound t) (enclosed_rule t d)
+enclosed_adds : (t : Item) (d : Expected) → Adds (list_bound t) (enclosed_rule t d)
 enclosed_adds t d i n le all at = until_adds close_paren d t i n le all at
 
 pub dictionary_adds : Adds (list_bound item.Entry) dictionary_rule
@@ -215,7 +215,7 @@ one_result : (i : Measure) → one in_results i ≤ list_bound item.Result i
 one_result in_results = omega arith
 one_result i = omega arith
 
-result_types_adds : (d : Due) → Adds (list_bound item.Result) (result_types_rule d)
+result_types_adds : (d : Expected) → Adds (list_bound item.Result) (result_types_rule d)
 unfolding result_types_rule
 result_types_adds d i n le all at = (λ e. enclosed_adds item.Result d i n le all (at + 1), λ e. result_adds i n (let r = one_result i in omega (arith, le, r)) all at)
 
@@ -260,7 +260,7 @@ loop_width_adds i n le all at = (λ e. width_adds due.Width i n le all (at + 1),
 
 -- ---- slots
 
-slot_adds : (s : Slot) → Adds (slot_bound s) (slot_rule s)
+slot_adds : (s : FormatElement) → Adds (slot_bound s) (slot_rule s)
 slot_adds (slot.Mark b) i n le all at = kind_adds due.Other (kind.Mark b) i n le all at
 slot_adds (slot.Word k) i n le all at = word_adds (spelling k) i n le all at
 slot_adds slot.ModuleName i n le all at = module_name_adds i n le all at
@@ -283,6 +283,6 @@ slot_adds slot.IfResults i n le all at = if_results_adds i n le all at
 slot_adds slot.IterArgs i n le all at = iter_args_adds i n le all at
 slot_adds slot.LoopWidth i n le all at = loop_width_adds i n le all at
 
-pub slots_add : (ss : List Slot) → Adds (slots_bound ss) (slots_rule ss)
+pub slots_add : (ss : List FormatElement) → Adds (slots_bound ss) (slots_rule ss)
 slots_add [] i n le all at = λ h. skip_adds i n h
 slots_add (s ∷ ss) i n le all at = both_add (slot_bound s) (slots_bound ss) (slot_rule s) (slots_rule ss) (slot_adds s) (slots_add ss) i n le all at

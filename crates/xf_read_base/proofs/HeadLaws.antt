@@ -1,6 +1,6 @@
 -- The laws of heads.
 use Rattle.std.proofs.Common.{suc, subst, sym, ◌∙◌}
-use Rattle.xf_grammar.specs.Place.{Agree, reach}
+use Rattle.xf_grammar.specs.Lookahead.{Agree, reach}
 use Rattle.xf_grammar.proofs.Grammar.{found, again}
 use Rattle.xf_read_base.specs.declared.row.Row.TheVariants as row
 use Rattle.xf_read_base.specs.Parts.{said}
@@ -8,11 +8,11 @@ use Rattle.xf_read_base.specs.Rules.{head_rule, slots_rule}
 use Rattle.xf_read_base.specs.Heads.{head_at}
 use Rattle.xf_read_base.specs.Reading.{no_parts}
 use Rattle.xf_read_base.specs.Laws.{HeadsAreWritten, nothing_said, HeadsReadAgain, HeadPiecesReadAgain, NoHeadGoesOn, StopsAgain, HeadsStay, PiecesReadAgain}
-use Rattle.xf_grammar.specs.Tokens.{seen}
+use Rattle.xf_grammar.specs.Tokens.{terminal_at}
 use Rattle.xf_read_base.specs.Pieces.{row_written, row_says, head_written, head_says}
 use Rattle.xf_read_base.proofs.HeadPieces.{head_writes}
 use Rattle.xf_read_base.proofs.Pieces.{row_writes}
-use Rattle.xf_read_base.proofs.Steady.{head_steady}
+use Rattle.xf_read_base.proofs.Lookahead.{head_steady}
 use Rattle.xf_read_base.proofs.Tells.{head_tells, slots_tells}
 
 pub heads_are_written : HeadsAreWritten
@@ -39,7 +39,7 @@ no_head_goes_on all us l at i d e a next ps t s w =
 
 pub pieces_read_again : PiecesReadAgain
 pieces_read_again all ss ps h at next s e =
-    again (slots_rule ss) (said all) all h at next (row_written ss ps) (row_says ss ps (said all h)) (slots_tells ss all at) s (row_writes ss ps at (seen all next) (said all h) e)
+    again (slots_rule ss) (said all) all h at next (row_written ss ps) (row_says ss ps (said all h)) (slots_tells ss all at) s (row_writes ss ps at (terminal_at all next) (said all h) e)
 
 pub head_pieces_read_again : HeadPiecesReadAgain
-head_pieces_read_again all l d r ps at next s e = heads_read_again all l at next (head_written d r ps) (head_says d r ps nothing_said) s (head_writes l d r ps at (seen all next) nothing_said e)
+head_pieces_read_again all l d r ps at next s e = heads_read_again all l at next (head_written d r ps) (head_says d r ps nothing_said) s (head_writes l d r ps at (terminal_at all next) nothing_said e)

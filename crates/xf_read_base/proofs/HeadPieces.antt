@@ -6,9 +6,9 @@ use Rattle.xf_type.specs.declared.kind.BinKind.{BinKind}
 use Rattle.xf_type.specs.declared.kind.BinKind.TheVariants as bin
 use Rattle.xf_type.specs.declared.kind.ConvKind.{ConvKind}
 use Rattle.xf_type.specs.declared.kind.ConvKind.TheVariants as conv
-use Rattle.xf_grammar.specs.Tokens.{Seen, sees, equals, colon}
+use Rattle.xf_grammar.specs.Tokens.{Terminal, terminal, equals, colon}
 use Rattle.xf_grammar.specs.Grammar.{both, finish, Writes}
-use Rattle.xf_read_base.specs.declared.due.Due.TheVariants as due
+use Rattle.xf_read_base.specs.declared.expected.Expected.TheVariants as due
 use Rattle.xf_read_base.specs.declared.row.Level.{Level}
 use Rattle.xf_read_base.specs.declared.row.Level.TheVariants as level
 use Rattle.xf_read_base.specs.declared.row.Opening.TheVariants as opening
@@ -59,7 +59,7 @@ row_is row.Yield = refl
 row_is (row.Binary k) = binary_is k
 row_is (row.Convert k) = conversion_is k
 
-row_head_writes : (l : Level) (r : Row) (ps : List Piece) (at : ℕ) (y : Seen) (t : Said) → fits l r ≡ true → row_suits (slots r) ps y ≡ true
+row_head_writes : (l : Level) (r : Row) (ps : List Piece) (at : ℕ) (y : Terminal) (t : Said) → fits l r ≡ true → row_suits (slots r) ps y ≡ true
     → Writes (row_rule l) at (word (row_word r) ∷ row_written (slots r) ps) y t (row_says (slots r) ps (says_row r t))
 unfolding row_rule
 row_head_writes l r ps at y t f e =
@@ -78,21 +78,21 @@ row_head_writes l r ps at y t f e =
       ),
     )
 
-count_writes : (b : List ℕ) (o : Option (List ℕ)) (n at : ℕ) (y : Seen) (t : Said) → Writes (defines_rule (value_name b) n) at (count_written o) y t (says_define b (count_said o) t)
+count_writes : (b : List ℕ) (o : Option (List ℕ)) (n at : ℕ) (y : Terminal) (t : Said) → Writes (defines_rule (value_name b) n) at (count_written o) y t (says_define b (count_said o) t)
 unfolding defines_rule
 count_writes b None n at y t = inr (refl, ([], (mark equals ∷ [], (says_define b 1 t, (refl, ((refl, refl), kind_writes due.Other equals (mark equals) refl _ y _))))))
 count_writes b (Some digits) n at y t =
-    let t1 = says_define b (count_of (sees kind.Integer digits)) t in
+    let t1 = says_define b (count_of (terminal kind.Integer digits)) t in
     inl (
       mark colon,
       (
-        sees kind.Integer digits ∷ mark equals ∷ [],
+        terminal kind.Integer digits ∷ mark equals ∷ [],
         (
           refl,
           (
             refl,
             inl (
-              sees kind.Integer digits,
+              terminal kind.Integer digits,
               (
                 mark equals ∷ [],
                 (
@@ -113,7 +113,7 @@ no_value : (b : Bool) → (b && false) ≡ false
 no_value true = refl
 no_value false = refl
 
-pub head_writes : (l : Level) (d : Option Results) (r : Row) (ps : List Piece) (at : ℕ) (y : Seen) (t : Said) → head_suits l d r ps y ≡ true → Writes (head_rule l) at (head_written d r ps) y t (head_says d r ps t)
+pub head_writes : (l : Level) (d : Option Results) (r : Row) (ps : List Piece) (at : ℕ) (y : Terminal) (t : Said) → head_suits l d r ps y ≡ true → Writes (head_rule l) at (head_written d r ps) y t (head_says d r ps t)
 unfolding head_rule
 head_writes l None r ps at y t e =
     let b = and_both (fits l r) (row_suits (slots r) ps y) e in

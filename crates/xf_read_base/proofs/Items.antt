@@ -9,10 +9,10 @@ use Rattle.xf_type.specs.declared.kind.CmpKind.{CmpKind}
 use Rattle.xf_type.specs.declared.kind.CmpKind.TheVariants as cmp
 use Rattle.xf_type.specs.declared.payload_type.Width.{Width}
 use Rattle.xf_type.specs.declared.payload_type.Width.TheVariants as width
-use Rattle.xf_grammar.specs.Tokens.{Seen, sees, is_kind, is_word, close_paren, minus, colon, equals, close_brace}
+use Rattle.xf_grammar.specs.Tokens.{Terminal, terminal, is_kind, is_word, close_paren, minus, colon, equals, close_brace}
 use Rattle.xf_grammar.specs.Grammar.{first_seen, more_written, WritesMore, Writes}
-use Rattle.xf_read_base.specs.declared.due.Due.{Due}
-use Rattle.xf_read_base.specs.declared.due.Due.TheVariants as due
+use Rattle.xf_read_base.specs.declared.expected.Expected.{Expected}
+use Rattle.xf_read_base.specs.declared.expected.Expected.TheVariants as due
 use Rattle.xf_read_base.specs.declared.list.Item.{Item}
 use Rattle.xf_read_base.specs.declared.list.Item.TheVariants as item
 use Rattle.xf_read_base.specs.Parts.{Said, text_of, no_value, truth_value, number_value, text_value, ValueSaid, says_arg, says_width, says_result, says_entry, says_predicate}
@@ -30,11 +30,11 @@ and_both false b e = absurd cc
 
 -- ---- single tokens and types
 
-pub kind_writes : (d : Due) (k : TokenKind) (p : Seen) → is_kind k p ≡ true → (at : ℕ) (y : Seen) (t : Said) → Writes (kind_rule d k) at (p ∷ []) y t t
+pub kind_writes : (d : Expected) (k : TokenKind) (p : Terminal) → is_kind k p ≡ true → (at : ℕ) (y : Terminal) (t : Said) → Writes (kind_rule d k) at (p ∷ []) y t t
 unfolding kind_rule
 kind_writes d k p e at y t = inl (p, ([], (refl, (e, (refl, refl)))))
 
-pub word_writes : (w : List ℕ) (p : Seen) → is_word w p ≡ true → (at : ℕ) (y : Seen) (t : Said) → Writes (word_rule w) at (p ∷ []) y t t
+pub word_writes : (w : List ℕ) (p : Terminal) → is_word w p ≡ true → (at : ℕ) (y : Terminal) (t : Said) → Writes (word_rule w) at (p ∷ []) y t t
 unfolding word_rule
 word_writes w p e at y t = inl (p, ([], (refl, (e, (refl, refl)))))
 
@@ -46,11 +46,11 @@ width_is width.I32 = (refl, refl)
 width_is width.I64 = (refl, refl)
 width_is width.Index = (refl, refl)
 
-pub width_writes : (d : Due) (w : Width) (at : ℕ) (y : Seen) (t : Said) → Writes (width_rule d) at (type_written w) y t (says_width w t)
+pub width_writes : (d : Expected) (w : Width) (at : ℕ) (y : Terminal) (t : Said) → Writes (width_rule d) at (type_written w) y t (says_width w t)
 unfolding width_rule
 width_writes d w at y t = inl (word (width_word w), ([], (refl, ((width_is w).0, (refl, ap (λ v. says_width v t) (sym (width_is w).1))))))
 
-pub result_writes : (w : Width) (at : ℕ) (y : Seen) (t : Said) → Writes result_rule at (type_written w) y t (says_result w t)
+pub result_writes : (w : Width) (at : ℕ) (y : Terminal) (t : Said) → Writes result_rule at (type_written w) y t (says_result w t)
 unfolding result_rule
 result_writes w at y t = inl (word (width_word w), ([], (refl, ((width_is w).0, (refl, ap (λ v. says_result v t) (sym (width_is w).1))))))
 
@@ -66,23 +66,23 @@ predicate_is cmp.Ule = (refl, refl)
 predicate_is cmp.Ugt = (refl, refl)
 predicate_is cmp.Uge = (refl, refl)
 
-pub predicate_writes : (k : CmpKind) (at : ℕ) (y : Seen) (t : Said) → Writes predicate_rule at (word (predicate_word k) ∷ []) y t (says_predicate k t)
+pub predicate_writes : (k : CmpKind) (at : ℕ) (y : Terminal) (t : Said) → Writes predicate_rule at (word (predicate_word k) ∷ []) y t (says_predicate k t)
 unfolding predicate_rule
 predicate_writes k at y t = inl (word (predicate_word k), ([], (refl, ((predicate_is k).0, (refl, ap (λ v. says_predicate v t) (sym (predicate_is k).1))))))
 
-pub argument_writes : (b : List ℕ) (at : ℕ) (y : Seen) (t : Said) → Writes argument_rule at (value_name b ∷ []) y t (says_arg b t)
+pub argument_writes : (b : List ℕ) (at : ℕ) (y : Terminal) (t : Said) → Writes argument_rule at (value_name b ∷ []) y t (says_arg b t)
 unfolding argument_rule
 argument_writes b at y t = inl (value_name b, ([], (refl, (refl, (refl, refl)))))
 
-pub hash_writes : (b : List ℕ) (o : Option (List ℕ)) (at : ℕ) (y : Seen) (t : Said) → hash_suits o y ≡ true → let u : Use = record { name = b; digits = o } in Writes use_rule at (use_written u) y t (use_says u t)
+pub hash_writes : (b : List ℕ) (o : Option (List ℕ)) (at : ℕ) (y : Terminal) (t : Said) → hash_suits o y ≡ true → let u : Use = record { name = b; digits = o } in Writes use_rule at (use_written u) y t (use_says u t)
 unfolding use_rule
 hash_writes b None at y t e = inl (value_name b, ([], (refl, (refl, inr (not_true _ e, (refl, refl))))))
 hash_writes b (Some digits) at y t e = inl (value_name b, (hash digits ∷ [], (refl, (refl, inl (hash digits, ([], (refl, (e, (refl, refl)))))))))
 
-pub use_writes : (u : Use) (at : ℕ) (y : Seen) (t : Said) → use_suits u y ≡ true → Writes use_rule at (use_written u) y t (use_says u t)
+pub use_writes : (u : Use) (at : ℕ) (y : Terminal) (t : Said) → use_suits u y ≡ true → Writes use_rule at (use_written u) y t (use_says u t)
 use_writes u at y t e = hash_writes u.name u.digits at y t e
 
-pub param_writes : (p : Param) (at : ℕ) (y : Seen) (t : Said) → Writes param_rule at (param_written p) y t (param_says p t)
+pub param_writes : (p : Param) (at : ℕ) (y : Terminal) (t : Said) → Writes param_rule at (param_written p) y t (param_says p t)
 unfolding param_rule
 param_writes p at y t = (
   value_name p.name ∷ [],
@@ -101,7 +101,7 @@ param_writes p at y t = (
   ),
 )
 
-pub pair_writes : (p : Pair) (at : ℕ) (y : Seen) (t : Said) → pair_suits p y ≡ true → Writes pair_rule at (pair_written p) y t (pair_says p t)
+pub pair_writes : (p : Pair) (at : ℕ) (y : Terminal) (t : Said) → pair_suits p y ≡ true → Writes pair_rule at (pair_written p) y t (pair_says p t)
 unfolding pair_rule
 pair_writes p at y t e = (
   value_name p.name ∷ [],
@@ -120,7 +120,7 @@ pair_writes p at y t e = (
   ),
 )
 
-pub tail_is : {a b : Seen} {ps qs : List Seen} → a ∷ qs ≡ b ∷ ps → ps ≡ qs
+pub tail_is : {a b : Terminal} {ps qs : List Terminal} → a ∷ qs ≡ b ∷ ps → ps ≡ qs
 tail_is {a} {b} {ps} {qs} e = cc
 
 -- ---- discardable attributes
@@ -129,28 +129,28 @@ pub truth_is : (b : Bool) → is_word (truth_word b) (word (truth_word b)) ≡ t
 truth_is true = refl
 truth_is false = refl
 
-pub entry_width_writes : (name : ℕ) (bytes : List ℕ) (negative : Bool) (digits : ℕ) (x : Seen) (w : Width) (at : ℕ) (y : Seen) (t : Said) → room_for w negative x ≡ true
+pub entry_width_writes : (name : ℕ) (bytes : List ℕ) (negative : Bool) (digits : ℕ) (x : Terminal) (w : Width) (at : ℕ) (y : Terminal) (t : Said) → room_for w negative x ≡ true
     → Writes (entry_width_rule name bytes negative digits x) at (word (width_word w) ∷ []) y t (says_entry bytes (number_value negative (text_of x) w) t)
 unfolding entry_width_rule
 entry_width_writes name bytes negative digits x w at y t e =
     inl ((width_is w).0, inl (word (width_word w), ([], (refl, (ap (λ v. room_for v negative x) (width_is w).1 ∙ e, (refl, ap (λ v. says_entry bytes (number_value negative (text_of x) v) t) (sym (width_is w).1)))))))
 
-pub entry_number_writes : (name : ℕ) (bytes : List ℕ) (negative : Bool) (d : Due) (digits : List ℕ) (w : Width) (at : ℕ) (y : Seen) (t : Said)
-    → room_for width.I64 negative (sees kind.Integer digits) ≡ true → room_for w negative (sees kind.Integer digits) ≡ true
-    → Writes (entry_number_rule name bytes negative d) at (sees kind.Integer digits ∷ mark colon ∷ word (width_word w) ∷ []) y t (says_entry bytes (number_value negative digits w) t)
+pub entry_number_writes : (name : ℕ) (bytes : List ℕ) (negative : Bool) (d : Expected) (digits : List ℕ) (w : Width) (at : ℕ) (y : Terminal) (t : Said)
+    → room_for width.I64 negative (terminal kind.Integer digits) ≡ true → room_for w negative (terminal kind.Integer digits) ≡ true
+    → Writes (entry_number_rule name bytes negative d) at (terminal kind.Integer digits ∷ mark colon ∷ word (width_word w) ∷ []) y t (says_entry bytes (number_value negative digits w) t)
 unfolding entry_number_rule
 entry_number_writes name bytes negative d digits w at y t e f =
     inl (
       refl,
       inl (
-        sees kind.Integer digits,
+        terminal kind.Integer digits,
         (
           mark colon ∷ word (width_word w) ∷ [],
           (
             refl,
             (
               e,
-              inl (mark colon, (word (width_word w) ∷ [], (refl, (refl, entry_width_writes name bytes negative at (sees kind.Integer digits) w _ y t f)))),
+              inl (mark colon, (word (width_word w) ∷ [], (refl, (refl, entry_width_writes name bytes negative at (terminal kind.Integer digits) w _ y t f)))),
             ),
           ),
         ),
@@ -158,7 +158,7 @@ entry_number_writes name bytes negative d digits w at y t e f =
     )
 
 -- behind the =
-pub entry_value_writes : (name : ℕ) (bytes : List ℕ) (v : ValueSaid) (at : ℕ) (y : Seen) (t : Said) (ps : List Seen) → value_written v ≡ mark equals ∷ ps → value_suits v y ≡ true
+pub entry_value_writes : (name : ℕ) (bytes : List ℕ) (v : ValueSaid) (at : ℕ) (y : Terminal) (t : Said) (ps : List Terminal) → value_written v ≡ mark equals ∷ ps → value_suits v y ≡ true
     → Writes (entry_value_rule name bytes) at ps y t (says_entry bytes v t)
 unfolding entry_value_rule
 entry_value_writes name bytes no_value at y t ps e s = absurd cc
@@ -169,11 +169,11 @@ entry_value_writes name bytes (truth_value false) at y t ps e s =
     let q : ps ≡ word (codes "false") ∷ [] = tail_is e in
     inr (ap (λ r. is_word (codes "true") (first_seen r y)) q, inl (word (codes "false"), ([], (q, (refl, (refl, refl))))))
 entry_value_writes name bytes (text_value quoted) at y t ps e s =
-    let q : ps ≡ sees kind.Text quoted ∷ [] = tail_is e in
+    let q : ps ≡ terminal kind.Text quoted ∷ [] = tail_is e in
     let f = λ (b : List ℕ). ap (λ r. is_word b (first_seen r y)) q in
-    inr (f (codes "true"), inr (f (codes "false"), inr (f (codes "unit"), inl (sees kind.Text quoted, ([], (q, (s, (refl, refl))))))))
+    inr (f (codes "true"), inr (f (codes "false"), inr (f (codes "unit"), inl (terminal kind.Text quoted, ([], (q, (s, (refl, refl))))))))
 entry_value_writes name bytes (number_value true digits w) at y t ps e s =
-    let q : ps ≡ mark minus ∷ sees kind.Integer digits ∷ mark colon ∷ word (width_word w) ∷ [] = tail_is e in
+    let q : ps ≡ mark minus ∷ terminal kind.Integer digits ∷ mark colon ∷ word (width_word w) ∷ [] = tail_is e in
     let f = λ (b : List ℕ). ap (λ r. is_word b (first_seen r y)) q in
     let b = and_both _ _ s in
     inr (
@@ -184,13 +184,13 @@ entry_value_writes name bytes (number_value true digits w) at y t ps e s =
           f (codes "unit"),
           inr (
             ap (λ r. is_string (first_seen r y)) q,
-            inr (ap (λ r. is_kind kind.Text (first_seen r y)) q, inl (mark minus, (sees kind.Integer digits ∷ mark colon ∷ word (width_word w) ∷ [], (q, (refl, entry_number_writes name bytes true due.Other digits w _ y t b.0 b.1))))),
+            inr (ap (λ r. is_kind kind.Text (first_seen r y)) q, inl (mark minus, (terminal kind.Integer digits ∷ mark colon ∷ word (width_word w) ∷ [], (q, (refl, entry_number_writes name bytes true due.Other digits w _ y t b.0 b.1))))),
           ),
         ),
       ),
     )
 entry_value_writes name bytes (number_value false digits w) at y t ps e s =
-    let q : ps ≡ sees kind.Integer digits ∷ mark colon ∷ word (width_word w) ∷ [] = tail_is e in
+    let q : ps ≡ terminal kind.Integer digits ∷ mark colon ∷ word (width_word w) ∷ [] = tail_is e in
     let f = λ (b : List ℕ). ap (λ r. is_word b (first_seen r y)) q in
     let b = and_both _ _ s in
     inr (
@@ -207,40 +207,40 @@ entry_value_writes name bytes (number_value false digits w) at y t ps e s =
       ),
     )
 
-pub entry_writes_value : (b : List ℕ) (v : ValueSaid) (at : ℕ) (y : Seen) (t : Said) (ps : List Seen) → value_written v ≡ mark equals ∷ ps → is_short b ≡ true → value_suits v y ≡ true
+pub entry_writes_value : (b : List ℕ) (v : ValueSaid) (at : ℕ) (y : Terminal) (t : Said) (ps : List Terminal) → value_written v ≡ mark equals ∷ ps → is_short b ≡ true → value_suits v y ≡ true
     → Writes entry_rule at (word b ∷ mark equals ∷ ps) y t (says_entry b v t)
 unfolding entry_rule
 entry_writes_value b v at y t ps e short s = inl (word b, (mark equals ∷ ps, (refl, (short, inl (mark equals, (ps, (refl, (refl, entry_value_writes at b v _ y t ps e s))))))))
 
-pub entry_writes_none : (b : List ℕ) (at : ℕ) (y : Seen) (t : Said) → is_short b ≡ true → not (is_kind equals y) ≡ true → Writes entry_rule at (word b ∷ []) y t (says_entry b no_value t)
+pub entry_writes_none : (b : List ℕ) (at : ℕ) (y : Terminal) (t : Said) → is_short b ≡ true → not (is_kind equals y) ≡ true → Writes entry_rule at (word b ∷ []) y t (says_entry b no_value t)
 unfolding entry_rule
 entry_writes_none b at y t short s = inl (word b, ([], (refl, (short, inr (not_true _ s, (refl, refl))))))
 
-pub value_entry_writes : (b : List ℕ) (v : ValueSaid) (at : ℕ) (y : Seen) (t : Said) → is_short b ≡ true → value_suits v y ≡ true → Writes entry_rule at (word b ∷ value_written v) y t (says_entry b v t)
+pub value_entry_writes : (b : List ℕ) (v : ValueSaid) (at : ℕ) (y : Terminal) (t : Said) → is_short b ≡ true → value_suits v y ≡ true → Writes entry_rule at (word b ∷ value_written v) y t (says_entry b v t)
 value_entry_writes b no_value at y t short s = entry_writes_none b at y t short s
 value_entry_writes b (truth_value c) at y t short s = entry_writes_value b (truth_value c) at y t _ refl short s
 value_entry_writes b (text_value q) at y t short s = entry_writes_value b (text_value q) at y t _ refl short s
 value_entry_writes b (number_value n ds w) at y t short s = entry_writes_value b (number_value n ds w) at y t _ refl short s
 
-pub entry_writes : (a : Attribute) (at : ℕ) (y : Seen) (t : Said) → attribute_suits a y ≡ true → Writes entry_rule at (attribute_written a) y t (attribute_says a t)
+pub entry_writes : (a : Attribute) (at : ℕ) (y : Terminal) (t : Said) → attribute_suits a y ≡ true → Writes entry_rule at (attribute_written a) y t (attribute_says a t)
 entry_writes a at y t s = let e = and_both _ _ s in value_entry_writes a.name a.value at y t e.0 e.1
 
 -- ---- lists
 
 -- how the items of a list are written by its rule
 pub record Items (A : Type 0) (i : Item) : Type 0 where
-  pub print : A → List Seen
-  pub ok : A → Seen → Bool
+  pub print : A → List Terminal
+  pub ok : A → Terminal → Bool
   pub say : A → Said → Said
-  pub writes : (x : A) (at : ℕ) (y : Seen) (t : Said) → ok x y ≡ true → Writes (item_rule i) at (print x) y t (say x t)
+  pub writes : (x : A) (at : ℕ) (y : Terminal) (t : Said) → ok x y ≡ true → Writes (item_rule i) at (print x) y t (say x t)
   -- no item begins with what ends a list
-  pub opens : (x : A) (ps : List Seen) (y : Seen) → (is_kind close_paren (first_seen (print x ++ ps) y) ≡ false) × (is_kind close_brace (first_seen (print x ++ ps) y) ≡ false)
+  pub opens : (x : A) (ps : List Terminal) (y : Terminal) → (is_kind close_paren (first_seen (print x ++ ps) y) ≡ false) × (is_kind close_brace (first_seen (print x ++ ps) y) ≡ false)
 
-pub follow_is : {A : Type 0} (print : A → List Seen) (xs : List A) (y : Seen) → first_seen (more_written (map print xs)) y ≡ follow xs y
+pub follow_is : {A : Type 0} (print : A → List Terminal) (xs : List A) (y : Terminal) → first_seen (more_written (map print xs)) y ≡ follow xs y
 follow_is print [] y = refl
 follow_is print (x ∷ xs) y = refl
 
-pub more_writes : {A : Type 0} (i : Item) (l : Items A i) (xs : List A) (at : ℕ) (y : Seen) (t : Said) → more_suit l.ok xs y ≡ true → WritesMore (Writes (item_rule i)) at (map l.print xs) y t (says_all l.say xs t)
+pub more_writes : {A : Type 0} (i : Item) (l : Items A i) (xs : List A) (at : ℕ) (y : Terminal) (t : Said) → more_suit l.ok xs y ≡ true → WritesMore (Writes (item_rule i)) at (map l.print xs) y t (says_all l.say xs t)
 more_writes i l [] at y t e = (not_true _ e, refl)
 more_writes i l (x ∷ xs) at y t e =
     let b = and_both _ _ e in
@@ -249,18 +249,18 @@ more_writes i l (x ∷ xs) at y t e =
 pub few_others : {A : Type 0} (i : Item) (l : Items A i) (xs : List A) → nat_lt (length xs) (most_items i) ≡ true → length (map l.print xs) ≤ most_items i - 1
 few_others i l xs e = let n = length-map xs l.print in let lt = ltb-true (length xs) (most_items i) e in omega (arith, n, lt)
 
-pub list_writes : {A : Type 0} (i : Item) (l : Items A i) (x : A) (xs : List A) (at : ℕ) (y : Seen) (t : Said) → list_suits i l.ok x xs y ≡ true → Writes (list_rule i) at (list_written l.print x xs) y t (says_all l.say xs (l.say x t))
+pub list_writes : {A : Type 0} (i : Item) (l : Items A i) (x : A) (xs : List A) (at : ℕ) (y : Terminal) (t : Said) → list_suits i l.ok x xs y ≡ true → Writes (list_rule i) at (list_written l.print x xs) y t (says_all l.say xs (l.say x t))
 list_writes i l x xs at y t e =
     let c = and_both (nat_lt (length xs) (most_items i)) _ e in
     let b = and_both _ _ c.1 in
     (l.print x, (map l.print xs, (l.say x t, (refl, (few_others i l xs c.0, (subst (λ z. Writes (item_rule i) at (l.print x) z t (l.say x t)) (sym (follow_is l.print xs y)) (l.writes x at (follow xs y) t b.0), more_writes i l xs _ y (l.say x t) b.1))))))
 
 -- up to a mark
-pub until_first : {A : Type 0} (print : A → List Seen) (x : A) (xs : List A) (close : TokenKind) (y : Seen) (k : TokenKind) → ((ps : List Seen) (y : Seen) → is_kind k (first_seen (print x ++ ps) y) ≡ false)
+pub until_first : {A : Type 0} (print : A → List Terminal) (x : A) (xs : List A) (close : TokenKind) (y : Terminal) (k : TokenKind) → ((ps : List Terminal) (y : Terminal) → is_kind k (first_seen (print x ++ ps) y) ≡ false)
     → is_kind k (first_seen (list_written print x xs ++ mark close ∷ []) y) ≡ false
 until_first print x xs close y k opens = subst (λ ps. is_kind k (first_seen ps y) ≡ false) (sym (append_assoc (print x) (more_written (map print xs)) (mark close ∷ []))) (opens (more_written (map print xs) ++ mark close ∷ []) y)
 
-pub paren_writes : {A : Type 0} (i : Item) (l : Items A i) (d : Due) (xs : List A) (at : ℕ) (y : Seen) (t : Said) → until_suits i close_paren l.ok xs ≡ true → Writes (until_rule close_paren d i) at (until_written close_paren l.print xs) y t (says_all l.say xs t)
+pub paren_writes : {A : Type 0} (i : Item) (l : Items A i) (d : Expected) (xs : List A) (at : ℕ) (y : Terminal) (t : Said) → until_suits i close_paren l.ok xs ≡ true → Writes (until_rule close_paren d i) at (until_written close_paren l.print xs) y t (says_all l.say xs t)
 unfolding until_rule
 paren_writes i l d [] at y t e = inl (mark close_paren, ([], (refl, (refl, (refl, refl)))))
 paren_writes i l d (x ∷ xs) at y t e =
@@ -269,7 +269,7 @@ paren_writes i l d (x ∷ xs) at y t e =
       (list_written l.print x xs, (mark close_paren ∷ [], (says_all l.say xs (l.say x t), (refl, (list_writes i l x xs at (mark close_paren) t e, kind_writes d close_paren (mark close_paren) refl _ y _))))),
     )
 
-pub brace_writes : {A : Type 0} (i : Item) (l : Items A i) (d : Due) (xs : List A) (at : ℕ) (y : Seen) (t : Said) → until_suits i close_brace l.ok xs ≡ true → Writes (until_rule close_brace d i) at (until_written close_brace l.print xs) y t (says_all l.say xs t)
+pub brace_writes : {A : Type 0} (i : Item) (l : Items A i) (d : Expected) (xs : List A) (at : ℕ) (y : Terminal) (t : Said) → until_suits i close_brace l.ok xs ≡ true → Writes (until_rule close_brace d i) at (until_written close_brace l.print xs) y t (says_all l.say xs t)
 unfolding until_rule
 brace_writes i l d [] at y t e = inl (mark close_brace, ([], (refl, (refl, (refl, refl)))))
 brace_writes i l d (x ∷ xs) at y t e =

@@ -7,6 +7,6 @@ pub mod Pieces
 pub mod Short
 pub mod Sizes
 pub mod Sorting
-pub mod Steady
+pub mod Lookahead
 pub mod Stops
 pub mod Tells

@@ -4,19 +4,19 @@ use Rattle.std.specs.Prelude.{nat_le}
 use Rattle.std.proofs.lemmas.Bool.{and_parts, leb-true}
 use Rattle.xf_lex.specs.declared.token.Token.{Token}
 use Rattle.xf_lex.specs.declared.token.TokenKind.TheVariants as kind
-use Rattle.xf_grammar.specs.Tokens.{Seen, seen, is_kind, word_of, equals}
+use Rattle.xf_grammar.specs.Tokens.{Terminal, terminal_at, is_kind, word_of, equals}
 use Rattle.xf_grammar.specs.Grammar.{read}
 use Rattle.xf_grammar.specs.Reading.{Out}
 use Rattle.xf_grammar.proofs.Kept.{Has, has_either, has_behind}
 use Rattle.xf_grammar.proofs.Grown.{Grows, AtMost, grown}
-use Rattle.xf_read_base.specs.declared.due.Due.TheVariants as due
+use Rattle.xf_read_base.specs.declared.expected.Expected.TheVariants as due
 use Rattle.xf_read_base.specs.declared.list.Item.TheVariants as item
 use Rattle.xf_read_base.specs.declared.parts.Parts.{Parts}
 use Rattle.xf_read_base.specs.declared.row.Level.{Level}
 use Rattle.xf_read_base.specs.declared.row.Level.TheVariants as level
 use Rattle.xf_read_base.specs.declared.row.Row.{Row}
 use Rattle.xf_read_base.specs.declared.row.Row.TheVariants as row
-use Rattle.xf_read_base.specs.declared.row.Slot.{Slot}
+use Rattle.xf_read_base.specs.declared.row.FormatElement.{FormatElement}
 use Rattle.xf_read_base.specs.Words.{opening_of}
 use Rattle.xf_read_base.specs.Rows.{slots}
 use Rattle.xf_read_base.specs.Parts.{no_parts, ref, count_of, with_row}
@@ -33,7 +33,7 @@ abbrev most : ℕ
 most = 2 ^ 32 - 1
 
 -- whether slots keep each list short, and the row
-abbrev is_short : List Slot → Bool
+abbrev is_short : List FormatElement → Bool
 is_short ss =
     nat_le (slots_bound ss in_entries) most
     && (nat_le (slots_bound ss in_args) most && (nat_le (slots_bound ss in_uses) most && (nat_le (slots_bound ss in_types) most && (nat_le (slots_bound ss in_results) most && nat_le (slots_bound ss in_tail) 0))))
@@ -42,7 +42,7 @@ rows_are_short : (r : Row) → is_short (slots r) ≡ true
 rows_are_short row.Module = refl
 rows_are_short r = refl
 
-slots_short : (ss : List Slot) → is_short ss ≡ true → (i : Measure) → one in_tail i + slots_bound ss i ≤ most
+slots_short : (ss : List FormatElement) → is_short ss ≡ true → (i : Measure) → one in_tail i + slots_bound ss i ≤ most
 slots_short ss e i =
     let a = and_parts _ _ e in
     let b = and_parts _ _ a.1 in
@@ -62,11 +62,11 @@ slots_short ss e i =
 
 -- ---- heads
 
-defines_add : (x : Seen) (name : ℕ) (i : Measure) (n : ℕ) (all : List Token) (at : ℕ) → Grows (size i) n all (defines_rule x name) at
+defines_add : (x : Terminal) (name : ℕ) (i : Measure) (n : ℕ) (all : List Token) (at : ℕ) → Grows (size i) n all (defines_rule x name) at
 unfolding defines_rule
 defines_add x name i n all at = (
   λ e. (
-    λ f. (0, (n, (omega arith, (λ h. define_added i (ref name (count_of (seen all (at + 1)))) h, λ j. kind_adds due.Other equals i n (omega arith) all j)))),
+    λ f. (0, (n, (omega arith, (λ h. define_added i (ref name (count_of (terminal_at all (at + 1)))) h, λ j. kind_adds due.Other equals i n (omega arith) all j)))),
     λ f. tt,
   ),
   λ e. (0, (n, (omega arith, (λ h. define_added i (ref name 1) h, λ j. kind_adds due.Other equals i n (omega arith) all j)))),
@@ -81,13 +81,13 @@ row_added i r h = omega arith
 row_adds : (l : Level) (i : Measure) (all : List Token) (at : ℕ) → Grows (size i) most all (row_rule l) at
 unfolding row_rule
 row_adds l i all at =
-    let r : Row = row_opened (opening_of (word_of (seen all at))) in
+    let r : Row = row_opened (opening_of (word_of (terminal_at all at))) in
     let b : ℕ = slots_bound (slots r) i in
     (λ e. (one in_tail i, (b, (slots_short (slots r) (rows_are_short r) i, (λ h. row_added i r h, λ j. slots_add (slots r) i b (omega arith) all j)))), λ e. (λ f. tt, λ f. tt))
 
 head_adds : (l : Level) (i : Measure) (all : List Token) (at : ℕ) → Grows (size i) most all (head_rule l) at
 unfolding head_rule
-head_adds l i all at = (λ e. (0, (most, (omega arith, (defines_add (seen all at) at i 0 all (at + 1), λ j. row_adds level.Body i all j)))), λ e. row_adds l i all at)
+head_adds l i all at = (λ e. (0, (most, (omega arith, (defines_add (terminal_at all at) at i 0 all (at + 1), λ j. row_adds level.Body i all j)))), λ e. row_adds l i all at)
 
 nothing_counted : (i : Measure) → size i (no_parts row.Module) ≡ 0
 nothing_counted in_entries = refl
@@ -144,14 +144,14 @@ slots_bare r all h at le = plain_bare r all h at refl refl
 row_bare : (l : Level) (all : List Token) (h : Parts) (at : ℕ) → length h.entries ≤ 0 → Has IsBare (read (row_rule l) all h at)
 unfolding row_rule
 row_bare l all h at le =
-    has_either IsBare (opens l (opening_of (word_of (seen all at)))) _ _ (λ e. slots_bare (row_opened (opening_of (word_of (seen all at)))) all h (at + 1) le)
-    (λ e. has_either IsBare (is_other l (opening_of (word_of (seen all at)))) _ _ (λ f. tt) (λ f. tt))
+    has_either IsBare (opens l (opening_of (word_of (terminal_at all at)))) _ _ (λ e. slots_bare (row_opened (opening_of (word_of (terminal_at all at)))) all h (at + 1) le)
+    (λ e. has_either IsBare (is_other l (opening_of (word_of (terminal_at all at)))) _ _ (λ f. tt) (λ f. tt))
 
 -- the head of a loop and of an if has no attributes
 pub heads_bare : (all : List Token) (l : Level) (at : ℕ) → Has IsBare (head_at all l at)
 unfolding head_rule
 heads_bare all l at =
-    let x : Seen = seen all at in
+    let x : Terminal = terminal_at all at in
     let h : Parts = no_parts row.Module in
     has_either IsBare (has_operations l && is_kind kind.Value x) _ _
     (λ e. has_behind (λ p. length p.entries ≤ 0) IsBare (read (defines_rule x at) all h (at + 1)) (λ y. read (row_rule level.Body) all y.0 y.1)

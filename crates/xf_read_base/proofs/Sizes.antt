@@ -10,8 +10,8 @@ use Rattle.xf_read_base.specs.declared.parts.Parts.{Parts}
 use Rattle.xf_read_base.specs.declared.parts.Ref.{Ref}
 use Rattle.xf_read_base.specs.declared.row.Row.{Row}
 use Rattle.xf_read_base.specs.declared.row.Row.TheVariants as row
-use Rattle.xf_read_base.specs.declared.row.Slot.{Slot}
-use Rattle.xf_read_base.specs.declared.row.Slot.TheVariants as slot
+use Rattle.xf_read_base.specs.declared.row.FormatElement.{FormatElement}
+use Rattle.xf_read_base.specs.declared.row.FormatElement.TheVariants as slot
 use Rattle.xf_read_base.specs.Parts.{with_symbol, as_private, with_predicate, with_literal, with_entry, with_define, with_arg, with_use, with_width, with_result}
 use Rattle.xf_read_base.specs.Rules.{most_items}
 
@@ -63,7 +63,7 @@ item_bound item.Entry i = one in_entries i
 abbrev pub list_bound : Item → Measure → ℕ
 list_bound t i = item_bound t i * most_items t
 
-abbrev pub slot_bound : Slot → Measure → ℕ
+abbrev pub slot_bound : FormatElement → Measure → ℕ
 slot_bound slot.Attributes i = list_bound item.Entry i
 slot_bound slot.Dictionary i = list_bound item.Entry i
 slot_bound slot.Literal i = one in_types i
@@ -81,7 +81,7 @@ slot_bound slot.IterArgs i = list_bound item.Pair i + list_bound item.Result i
 slot_bound slot.LoopWidth i = one in_types i
 slot_bound s i = 0
 
-abbrev pub slots_bound : List Slot → Measure → ℕ
+abbrev pub slots_bound : List FormatElement → Measure → ℕ
 slots_bound [] i = 0
 slots_bound (s ∷ ss) i = slot_bound s i + slots_bound ss i
 

@@ -10,7 +10,7 @@ use Rattle.std.proofs.lemmas.List.{at_drop_more}
 use Rattle.std.proofs.lemmas.Map.Text.{btree_map_updates_str}
 use Rattle.xf_type.specs.declared.attribute.AttrValue.{AttrValue}
 use Rattle.xf_lex.specs.declared.token.Token.{Token}
-use Rattle.xf_read_base.specs.declared.parts.Entry.{Entry}
+use Rattle.xf_read_base.specs.declared.parts.AttrEntry.{AttrEntry}
 use Rattle.xf_ir.specs.declared.kind.Attr.{Attr}
 use Rattle.xf_ir.specs.Walk.{first_of}
 use Rattle.xf_read_base.specs.Attributes.{attr_in, attrs_in, names_of}
@@ -37,7 +37,7 @@ inserted k v (e ∷ es) = placed (by_bytes k e.0) k v e es (insert_entry by_byte
 same_attr : (a b : Attr) → a.name ≡ b.name → a.value ≡ b.value → a ≡ b
 same_attr a b p q = λ i. record { name = p i; value = q i }
 
-pub attrs_more : (all : List Token) (es : List Entry) (i : ℕ) (d : Entry) (old new : Entries) (k : Bor (List ℕ)) (v : AttrValue) (total : List Attr) → i < length es
+pub attrs_more : (all : List Token) (es : List AttrEntry) (i : ℕ) (d : AttrEntry) (old new : Entries) (k : Bor (List ℕ)) (v : AttrValue) (total : List Attr) → i < length es
     → k.now ≡ text all (get_or es i d).name → v ≡ value_of_entry all (get_or es i d).value → new ≡ insert_entry by_bytes old k v
     → with_entries all (drop i es) (attrs_in old) ≡ total → with_entries all (drop (i + 1) es) (attrs_in new) ≡ total
 attrs_more all es i d old new k v total lt name value put h =
@@ -60,7 +60,7 @@ first_on None true n x = refl
 first_on None false n x = refl
 first_on (Some t) b n x = refl
 
-pub twice_more : (all : List Token) (es : List Entry) (i : ℕ) (d : Entry) (m n : BTreeMap (Bor (List ℕ)) AttrValue) (name : List ℕ) (v : AttrValue) (t u total : Option ℕ) (b : Bool) → i < length es
+pub twice_more : (all : List Token) (es : List AttrEntry) (i : ℕ) (d : AttrEntry) (m n : BTreeMap (Bor (List ℕ)) AttrValue) (name : List ℕ) (v : AttrValue) (t u total : Option ℕ) (b : Bool) → i < length es
     → name ≡ text all (get_or es i d).name → UpdatesBy by_bytes (λ k. slice_cmp nat_cmp name k.now) m n (Some v) → b ≡ names_of m name → u ≡ first_of t (if b then Some (get_or es i d).name else None)
     → first_of t (entries_twice all (names_of m) (drop i es)) ≡ total → first_of u (entries_twice all (names_of n) (drop (i + 1) es)) ≡ total
 twice_more all es i d m n name v t u total b lt p up q r h =

@@ -5,10 +5,10 @@ use Rattle.xf_lex.specs.declared.token.Token.{Token}
 use Rattle.xf_lex.specs.declared.token.TokenKind.{TokenKind}
 use Rattle.xf_lex.specs.declared.token.TokenKind.TheVariants as kind
 use Rattle.xf_type.specs.declared.payload_type.Width.TheVariants as width
-use Rattle.xf_grammar.specs.Tokens.{seen, is_index, word_of, close_paren, colon, equals, open_brace, close_brace, open_paren}
+use Rattle.xf_grammar.specs.Tokens.{terminal_at, is_index, word_of, close_paren, colon, equals, open_brace, close_brace, open_paren}
 use Rattle.xf_grammar.specs.Grammar.{Tells}
-use Rattle.xf_read_base.specs.declared.due.Due.{Due}
-use Rattle.xf_read_base.specs.declared.due.Due.TheVariants as due
+use Rattle.xf_read_base.specs.declared.expected.Expected.{Expected}
+use Rattle.xf_read_base.specs.declared.expected.Expected.TheVariants as due
 use Rattle.xf_read_base.specs.declared.list.Item.{Item}
 use Rattle.xf_read_base.specs.declared.list.Item.TheVariants as item
 use Rattle.xf_read_base.specs.declared.parts.EntryValue.{EntryValue}
@@ -17,8 +17,8 @@ use Rattle.xf_read_base.specs.declared.parts.Parts.{Parts}
 use Rattle.xf_read_base.specs.declared.parts.Ref.{Ref}
 use Rattle.xf_read_base.specs.declared.row.Level.{Level}
 use Rattle.xf_read_base.specs.declared.row.Level.TheVariants as level
-use Rattle.xf_read_base.specs.declared.row.Slot.{Slot}
-use Rattle.xf_read_base.specs.declared.row.Slot.TheVariants as slot
+use Rattle.xf_read_base.specs.declared.row.FormatElement.{FormatElement}
+use Rattle.xf_read_base.specs.declared.row.FormatElement.TheVariants as slot
 use Rattle.xf_read_base.specs.Words.{spelling, opening_of}
 use Rattle.xf_read_base.specs.Rows.{slots}
 use Rattle.xf_read_base.specs.Parts.{ref, count_of, with_define, with_arg, with_use, with_entry, text_at, UseSaid, Said, number_if, use_said, define_said, arg_said, value_said, entry_said, said, says_define, says_arg, says_use, says_entry}
@@ -36,7 +36,7 @@ arg_told all r h = ap (λ xs. let t : Said = record (said all h) { args = xs } i
 define_told : (all : List Token) (r : Ref) (h : Parts) → said all (with_define r h) ≡ says_define (text_at all r.token) r.count (said all h)
 define_told all r h = ap (λ xs. let t : Said = record (said all h) { defines = xs } in t) (map_more (define_said all) h.defines r)
 
-use_told : (all : List Token) (r : Ref) (i : Option ℕ) (h : Parts) → number_if (is_index (seen all (r.token + 1))) r.count ≡ i → said all (with_use r h) ≡ says_use (text_at all r.token) i (said all h)
+use_told : (all : List Token) (r : Ref) (i : Option ℕ) (h : Parts) → number_if (is_index (terminal_at all (r.token + 1))) r.count ≡ i → said all (with_use r h) ≡ says_use (text_at all r.token) i (said all h)
 use_told all r i h e =
     ap (λ xs. let t : Said = record (said all h) { uses = xs } in t)
     (map_more (use_said all) h.uses r ∙ ap (λ o. let u : UseSaid = record { name = text_at all r.token; number = o } in map (use_said all) h.uses ++ u ∷ []) e)
@@ -49,7 +49,7 @@ entry_told all name v h = ap (λ xs. let t : Said = record (said all h) { entrie
 abbrev Told : Rule → Type 0
 Told rule = (all : List Token) (at : ℕ) → Tells (said all) all rule at
 
-kind_tells : (d : Due) (k : TokenKind) → Told (kind_rule d k)
+kind_tells : (d : Expected) (k : TokenKind) → Told (kind_rule d k)
 unfolding kind_rule
 kind_tells d k all at = (λ e h. refl, λ e. tt)
 
@@ -77,13 +77,13 @@ use_tells : Told use_rule
 unfolding use_rule
 use_tells all at = (
   λ e. (
-    λ i h. use_told all (ref at (count_of (seen all (at + 1)))) (Some (count_of (seen all (at + 1)))) h (ap (λ b. number_if b (count_of (seen all (at + 1)))) i),
+    λ i h. use_told all (ref at (count_of (terminal_at all (at + 1)))) (Some (count_of (terminal_at all (at + 1)))) h (ap (λ b. number_if b (count_of (terminal_at all (at + 1)))) i),
     λ i h. use_told all (ref at 0) None h (ap (λ b. number_if b 0) i),
   ),
   λ e. tt,
 )
 
-width_tells : (d : Due) → Told (width_rule d)
+width_tells : (d : Expected) → Told (width_rule d)
 unfolding width_rule
 width_tells d all at = (λ e h. refl, λ e. tt)
 
@@ -95,7 +95,7 @@ predicate_tells : Told predicate_rule
 unfolding predicate_rule
 predicate_tells all at = (λ e h. refl, λ e. tt)
 
-number_tells : (negative : Bool) (d : Due) → Told (number_rule negative d)
+number_tells : (negative : Bool) (d : Expected) → Told (number_rule negative d)
 unfolding number_rule
 number_tells negative d all at = (λ e. (λ h. refl, λ n. (kind_tells due.Other colon all n, λ m. width_tells due.Width all m)), λ e. tt)
 
@@ -107,11 +107,11 @@ unfolding literal_rule
 literal_tells all at =
     (λ e. truth_tells true all (at + 1), λ e. (λ e. truth_tells false all (at + 1), λ e. (λ e. tt, λ e. (λ e. number_tells true due.Other all (at + 1), λ e. number_tells false due.ConstantValue all at))))
 
-entry_width_tells : (all : List Token) (name : ℕ) (negative : Bool) (digits at : ℕ) → Tells (said all) all (entry_width_rule name (text_at all name) negative digits (seen all digits)) at
+entry_width_tells : (all : List Token) (name : ℕ) (negative : Bool) (digits at : ℕ) → Tells (said all) all (entry_width_rule name (text_at all name) negative digits (terminal_at all digits)) at
 unfolding entry_width_rule
 entry_width_tells all name negative digits at = (λ e. (λ o h. entry_told all name _ h, λ o. tt), λ e. tt)
 
-entry_number_tells : (all : List Token) (name : ℕ) (negative : Bool) (d : Due) (at : ℕ) → Tells (said all) all (entry_number_rule name (text_at all name) negative d) at
+entry_number_tells : (all : List Token) (name : ℕ) (negative : Bool) (d : Expected) (at : ℕ) → Tells (said all) all (entry_number_rule name (text_at all name) negative d) at
 unfolding entry_number_rule
 entry_number_tells all name negative d at =
     (λ e. (λ o. (λ c. entry_width_tells all name negative at (at + 1 + 1), λ c h. entry_told all name (value.Integer negative at width.I64) h), λ o. tt), λ e. tt)
@@ -155,11 +155,11 @@ item_tells item.Entry all at = entry_tells all at
 list_tells : (i : Item) → Told (list_rule i)
 list_tells i all at = λ n. item_tells i all n
 
-until_tells : (close : TokenKind) (d : Due) (i : Item) → Told (until_rule close d i)
+until_tells : (close : TokenKind) (d : Expected) (i : Item) → Told (until_rule close d i)
 unfolding until_rule
 until_tells close d i all at = (λ e h. refl, λ e. (list_tells i all at, λ n. kind_tells d close all n))
 
-enclosed_tells : (i : Item) (d : Due) → Told (enclosed_rule i d)
+enclosed_tells : (i : Item) (d : Expected) → Told (enclosed_rule i d)
 enclosed_tells i d all at = until_tells close_paren d i all at
 
 pub dictionary_tells : (all : List Token) (at : ℕ) → Tells (said all) all dictionary_rule at
@@ -170,7 +170,7 @@ attributes_tells : Told attributes_rule
 unfolding attributes_rule
 attributes_tells all at = (λ e. (kind_tells due.Other open_brace all (at + 1), λ n. until_tells close_brace due.Other item.Entry all n), λ e h. refl)
 
-result_types_tells : (d : Due) → Told (result_types_rule d)
+result_types_tells : (d : Expected) → Told (result_types_rule d)
 unfolding result_types_rule
 result_types_tells d all at = (λ e. enclosed_tells item.Result d all (at + 1), λ e. result_tells all at)
 
@@ -203,7 +203,7 @@ loop_width_tells : Told loop_width_rule
 unfolding loop_width_rule
 loop_width_tells all at = (λ e. width_tells due.Width all (at + 1), λ e h. refl)
 
-slot_tells : (s : Slot) → Told (slot_rule s)
+slot_tells : (s : FormatElement) → Told (slot_rule s)
 slot_tells (slot.Mark b) all at = kind_tells due.Other (kind.Mark b) all at
 slot_tells (slot.Word k) all at = word_tells (spelling k) all at
 slot_tells slot.ModuleName all at = module_name_tells all at
@@ -226,18 +226,18 @@ slot_tells slot.IfResults all at = if_results_tells all at
 slot_tells slot.IterArgs all at = iter_args_tells all at
 slot_tells slot.LoopWidth all at = loop_width_tells all at
 
-pub slots_tells : (ss : List Slot) (all : List Token) (at : ℕ) → Tells (said all) all (slots_rule ss) at
+pub slots_tells : (ss : List FormatElement) (all : List Token) (at : ℕ) → Tells (said all) all (slots_rule ss) at
 slots_tells [] all at = λ h. refl
 slots_tells (s ∷ ss) all at = (slot_tells s all at, λ n. slots_tells ss all n)
 
 row_tells : (l : Level) → Told (row_rule l)
 unfolding row_rule
-row_tells l all at = (λ e. (λ h. refl, λ n. slots_tells (slots (row_opened (opening_of (word_of (seen all at))))) all n), λ e. (λ o. tt, λ o. tt))
+row_tells l all at = (λ e. (λ h. refl, λ n. slots_tells (slots (row_opened (opening_of (word_of (terminal_at all at))))) all n), λ e. (λ o. tt, λ o. tt))
 
-defines_tells : (all : List Token) (name at : ℕ) → Tells (said all) all (defines_rule (seen all name) name) at
+defines_tells : (all : List Token) (name at : ℕ) → Tells (said all) all (defines_rule (terminal_at all name) name) at
 unfolding defines_rule
 defines_tells all name at = (
-  λ e. (λ o. (λ h. define_told all (ref name (count_of (seen all (at + 1)))) h, λ n. kind_tells due.Other equals all n), λ o. tt),
+  λ e. (λ o. (λ h. define_told all (ref name (count_of (terminal_at all (at + 1)))) h, λ n. kind_tells due.Other equals all n), λ o. tt),
   λ e. (λ h. define_told all (ref name 1) h, λ n. kind_tells due.Other equals all n),
 )
 

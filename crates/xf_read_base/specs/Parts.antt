@@ -5,8 +5,8 @@ use Rattle.xf_type.specs.declared.kind.CmpKind.{CmpKind}
 use Rattle.xf_type.specs.declared.payload_type.PayloadType.{PayloadType}
 use Rattle.xf_type.specs.declared.payload_type.PayloadType.TheVariants.{Scalar}
 use Rattle.xf_type.specs.declared.payload_type.Width.{Width}
-use Rattle.xf_grammar.specs.Tokens.{Seen, the_end, sees, seen, digits_of, number_of, is_index_at}
-use Rattle.xf_read_base.specs.declared.parts.Entry.{Entry}
+use Rattle.xf_grammar.specs.Tokens.{Terminal, the_end, terminal, terminal_at, digits_of, number_of, is_index_at}
+use Rattle.xf_read_base.specs.declared.parts.AttrEntry.{AttrEntry}
 use Rattle.xf_read_base.specs.declared.parts.EntryValue.{EntryValue}
 use Rattle.xf_read_base.specs.declared.parts.EntryValue.TheVariants as value
 use Rattle.xf_read_base.specs.declared.parts.Literal.{Literal}
@@ -24,11 +24,11 @@ abbrev pub ref : ℕ → ℕ → Ref
 ref at n = record { token = at; count = n }
 
 -- the number that a token writes, up to 2 ^ 32 - 1
-abbrev pub count_of : Seen → ℕ
+abbrev pub count_of : Terminal → ℕ
 count_of x = min (number_of (digits_of x)) (2 ^ 32 - 1)
 
 abbrev pub count_at : List Token → ℕ → ℕ
-count_at all at = count_of (seen all at)
+count_at all at = count_of (terminal_at all at)
 
 abbrev pub with_row : Row → Parts → Parts
 with_row r h = record h { row = r }
@@ -65,12 +65,12 @@ with_result w h = record h { results = h.results ++ Scalar w ∷ [] }
 
 -- ---- by bytes
 
-abbrev pub text_of : Seen → List ℕ
+abbrev pub text_of : Terminal → List ℕ
 text_of the_end = []
-text_of (sees k bytes) = bytes
+text_of (terminal k bytes) = bytes
 
 abbrev pub text_at : List Token → ℕ → List ℕ
-text_at all at = text_of (seen all at)
+text_at all at = text_of (terminal_at all at)
 
 -- %n, or %n#i
 pub record UseSaid : Type 0 where
@@ -132,7 +132,7 @@ value_said all (value.Truth b) = truth_value b
 value_said all (value.Integer negative at w) = number_value negative (text_at all at) w
 value_said all (value.Text at) = text_value (text_at all at)
 
-abbrev pub entry_said : List Token → Entry → EntrySaid
+abbrev pub entry_said : List Token → AttrEntry → EntrySaid
 entry_said all e = record { name = text_at all e.name; value = value_said all e.value }
 
 -- what a head says

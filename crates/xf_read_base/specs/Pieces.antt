@@ -10,7 +10,7 @@ use Rattle.xf_type.specs.declared.kind.CmpKind.{CmpKind}
 use Rattle.xf_type.specs.declared.kind.CmpKind.TheVariants as cmp
 use Rattle.xf_type.specs.declared.payload_type.Width.{Width}
 use Rattle.xf_type.specs.declared.payload_type.Width.TheVariants as width
-use Rattle.xf_grammar.specs.Tokens.{Seen, sees, is_kind, is_word, is_index, starts_digit, open_paren, close_paren, comma, minus, colon, equals, open_brace, close_brace}
+use Rattle.xf_grammar.specs.Tokens.{Terminal, terminal, is_kind, is_word, is_index, starts_digit, open_paren, close_paren, comma, minus, colon, equals, open_brace, close_brace}
 use Rattle.xf_grammar.specs.Grammar.{first_seen, more_written}
 use Rattle.xf_read_base.specs.declared.list.Item.{Item}
 use Rattle.xf_read_base.specs.declared.list.Item.TheVariants as item
@@ -18,8 +18,8 @@ use Rattle.xf_read_base.specs.declared.row.Level.{Level}
 use Rattle.xf_read_base.specs.declared.row.Level.TheVariants as level
 use Rattle.xf_read_base.specs.declared.row.Row.{Row}
 use Rattle.xf_read_base.specs.declared.row.Row.TheVariants as row
-use Rattle.xf_read_base.specs.declared.row.Slot.{Slot}
-use Rattle.xf_read_base.specs.declared.row.Slot.TheVariants as slot
+use Rattle.xf_read_base.specs.declared.row.FormatElement.{FormatElement}
+use Rattle.xf_read_base.specs.declared.row.FormatElement.TheVariants as slot
 use Rattle.xf_read_base.specs.Words.{spelling}
 use Rattle.xf_read_base.specs.Rows.{slots, fits}
 use Rattle.xf_read_base.specs.Rules.{is_short, room_for, most_items, has_operations}
@@ -28,14 +28,14 @@ use Rattle.xf_read_base.specs.Parts.{count_of, truth, number, no_value, truth_va
 
 -- ---- tokens
 
-abbrev pub mark : TokenKind → Seen
-mark k = sees k []
+abbrev pub mark : TokenKind → Terminal
+mark k = terminal k []
 
-abbrev pub word : List ℕ → Seen
-word w = sees kind.Word w
+abbrev pub word : List ℕ → Terminal
+word w = terminal kind.Word w
 
-abbrev pub value_name : List ℕ → Seen
-value_name b = sees kind.Value b
+abbrev pub value_name : List ℕ → Terminal
+value_name b = terminal kind.Value b
 
 abbrev pub width_word : Width → List ℕ
 width_word width.I1 = codes "i1"
@@ -83,68 +83,68 @@ pub record Attribute : Type 0 where
   pub name : List ℕ
   pub value : ValueSaid
 
-abbrev pub hash : List ℕ → Seen
-hash digits = sees kind.Hash (35 ∷ digits)
+abbrev pub hash : List ℕ → Terminal
+hash digits = terminal kind.Hash (35 ∷ digits)
 
-abbrev pub hash_written : Option (List ℕ) → List Seen
+abbrev pub hash_written : Option (List ℕ) → List Terminal
 hash_written None = []
 hash_written (Some digits) = hash digits ∷ []
 
-abbrev pub use_written : Use → List Seen
+abbrev pub use_written : Use → List Terminal
 use_written u = value_name u.name ∷ hash_written u.digits
 
-abbrev pub hash_suits : Option (List ℕ) → Seen → Bool
+abbrev pub hash_suits : Option (List ℕ) → Terminal → Bool
 hash_suits None y = not (is_index y)
 hash_suits (Some digits) y = starts_digit digits
 
-abbrev pub use_suits : Use → Seen → Bool
+abbrev pub use_suits : Use → Terminal → Bool
 use_suits u y = hash_suits u.digits y
 
 abbrev pub use_says : Use → Said → Said
 use_says u t = says_use u.name (option_map (λ digits. count_of (hash digits)) u.digits) t
 
-abbrev pub type_written : Width → List Seen
+abbrev pub type_written : Width → List Terminal
 type_written w = word (width_word w) ∷ []
 
-abbrev pub always : {A : Type 0} → A → Seen → Bool
+abbrev pub always : {A : Type 0} → A → Terminal → Bool
 always x y = true
 
-abbrev pub param_written : Param → List Seen
+abbrev pub param_written : Param → List Terminal
 param_written p = value_name p.name ∷ mark colon ∷ type_written p.width
 
 abbrev pub param_says : Param → Said → Said
 param_says p t = says_width p.width (says_arg p.name t)
 
-abbrev pub pair_written : Pair → List Seen
+abbrev pub pair_written : Pair → List Terminal
 pair_written p = value_name p.name ∷ mark equals ∷ use_written p.operand
 
-abbrev pub pair_suits : Pair → Seen → Bool
+abbrev pub pair_suits : Pair → Terminal → Bool
 pair_suits p y = use_suits p.operand y
 
 abbrev pub pair_says : Pair → Said → Said
 pair_says p t = use_says p.operand (says_arg p.name t)
 
-abbrev pub minus_written : Bool → List Seen → List Seen
+abbrev pub minus_written : Bool → List Terminal → List Terminal
 minus_written true ps = mark minus ∷ ps
 minus_written false ps = ps
 
 -- numbers are written with their widths
-abbrev pub value_written : ValueSaid → List Seen
+abbrev pub value_written : ValueSaid → List Terminal
 value_written no_value = []
 value_written (truth_value b) = mark equals ∷ word (truth_word b) ∷ []
-value_written (text_value quoted) = mark equals ∷ sees kind.Text quoted ∷ []
-value_written (number_value negative digits w) = mark equals ∷ minus_written negative (sees kind.Integer digits ∷ mark colon ∷ word (width_word w) ∷ [])
+value_written (text_value quoted) = mark equals ∷ terminal kind.Text quoted ∷ []
+value_written (number_value negative digits w) = mark equals ∷ minus_written negative (terminal kind.Integer digits ∷ mark colon ∷ word (width_word w) ∷ [])
 
-abbrev pub attribute_written : Attribute → List Seen
+abbrev pub attribute_written : Attribute → List Terminal
 attribute_written a = word a.name ∷ value_written a.value
 
-abbrev pub value_suits : ValueSaid → Seen → Bool
+abbrev pub value_suits : ValueSaid → Terminal → Bool
 value_suits no_value y = not (is_kind equals y)
 value_suits (truth_value b) y = true
 value_suits (text_value quoted) y = is_short (decoded quoted)
-value_suits (number_value negative digits w) y = room_for width.I64 negative (sees kind.Integer digits) && room_for w negative (sees kind.Integer digits)
+value_suits (number_value negative digits w) y = room_for width.I64 negative (terminal kind.Integer digits) && room_for w negative (terminal kind.Integer digits)
 
-abbrev pub attribute_suits : Attribute → Seen → Bool
+abbrev pub attribute_suits : Attribute → Terminal → Bool
 attribute_suits a y = is_short a.name && value_suits a.value y
 
 abbrev pub attribute_says : Attribute → Said → Said
@@ -153,30 +153,30 @@ attribute_says a t = says_entry a.name a.value t
 -- ---- lists
 
 -- what stands behind the first of some items
-abbrev pub follow : {A : Type 0} → List A → Seen → Seen
+abbrev pub follow : {A : Type 0} → List A → Terminal → Terminal
 follow [] y = y
 follow (x ∷ xs) y = mark comma
 
-abbrev pub more_suit : {A : Type 0} → (A → Seen → Bool) → List A → Seen → Bool
+abbrev pub more_suit : {A : Type 0} → (A → Terminal → Bool) → List A → Terminal → Bool
 more_suit ok [] y = not (is_kind comma y)
 more_suit ok (x ∷ xs) y = ok x (follow xs y) && more_suit ok xs y
 
 -- one item, and others, which together are no more than a list may have
-abbrev pub list_suits : {A : Type 0} → Item → (A → Seen → Bool) → A → List A → Seen → Bool
+abbrev pub list_suits : {A : Type 0} → Item → (A → Terminal → Bool) → A → List A → Terminal → Bool
 list_suits i ok x xs y = nat_lt (length xs) (most_items i) && (ok x (follow xs y) && more_suit ok xs y)
 
 abbrev pub says_all : {A : Type 0} → (A → Said → Said) → List A → Said → Said
 says_all say [] t = t
 says_all say (x ∷ xs) t = says_all say xs (say x t)
 
-abbrev pub list_written : {A : Type 0} → (A → List Seen) → A → List A → List Seen
+abbrev pub list_written : {A : Type 0} → (A → List Terminal) → A → List A → List Terminal
 list_written print x xs = print x ++ more_written (map print xs)
 
-abbrev pub until_written : {A : Type 0} → TokenKind → (A → List Seen) → List A → List Seen
+abbrev pub until_written : {A : Type 0} → TokenKind → (A → List Terminal) → List A → List Terminal
 until_written close print [] = mark close ∷ []
 until_written close print (x ∷ xs) = list_written print x xs ++ mark close ∷ []
 
-abbrev pub until_suits : {A : Type 0} → Item → TokenKind → (A → Seen → Bool) → List A → Bool
+abbrev pub until_suits : {A : Type 0} → Item → TokenKind → (A → Terminal → Bool) → List A → Bool
 until_suits i close ok [] = true
 until_suits i close ok (x ∷ xs) = list_suits i ok x xs (mark close)
 
@@ -199,17 +199,17 @@ pub data Piece : Type 0 where
   typed_operands : (u : Use) (us : List Use) (w : Width) (ws : List Width) → Piece
   pairs : (ps : List Pair) (ws : List Width) → Piece
 
-abbrev pub piece_written : Slot → Piece → List Seen
+abbrev pub piece_written : FormatElement → Piece → List Terminal
 piece_written (slot.Mark b) p = mark (kind.Mark b) ∷ []
 piece_written (slot.Word k) p = word (spelling k) ∷ []
-piece_written slot.ModuleName (a_symbol b) = sees kind.Symbol b ∷ []
-piece_written slot.FunctionName (a_symbol b) = sees kind.Symbol b ∷ []
-piece_written slot.FunctionName (a_private_symbol b) = word (codes "private") ∷ sees kind.Symbol b ∷ []
-piece_written slot.Symbol (a_symbol b) = sees kind.Symbol b ∷ []
+piece_written slot.ModuleName (a_symbol b) = terminal kind.Symbol b ∷ []
+piece_written slot.FunctionName (a_symbol b) = terminal kind.Symbol b ∷ []
+piece_written slot.FunctionName (a_private_symbol b) = word (codes "private") ∷ terminal kind.Symbol b ∷ []
+piece_written slot.Symbol (a_symbol b) = terminal kind.Symbol b ∷ []
 piece_written slot.Attributes (attributes es) = word (codes "attributes") ∷ mark open_brace ∷ until_written close_brace attribute_written es
 piece_written slot.Dictionary (attributes es) = mark open_brace ∷ until_written close_brace attribute_written es
 piece_written slot.Literal (a_truth b) = word (truth_word b) ∷ []
-piece_written slot.Literal (a_number negative digits w) = minus_written negative (sees kind.Integer digits ∷ mark colon ∷ word (width_word w) ∷ [])
+piece_written slot.Literal (a_number negative digits w) = minus_written negative (terminal kind.Integer digits ∷ mark colon ∷ word (width_word w) ∷ [])
 piece_written slot.Predicate (a_predicate k) = word (predicate_word k) ∷ []
 piece_written slot.Argument (a_name b) = value_name b ∷ []
 piece_written slot.Use (an_operand u) = use_written u
@@ -229,7 +229,7 @@ piece_written slot.LoopWidth (a_width w) = mark colon ∷ type_written w
 piece_written s p = []
 
 -- which pieces fit a slot, and what may stand behind them
-abbrev pub suits : Slot → Piece → Seen → Bool
+abbrev pub suits : FormatElement → Piece → Terminal → Bool
 suits (slot.Mark b) nothing y = true
 suits (slot.Word k) nothing y = true
 suits slot.ModuleName nothing y = not (is_kind kind.Symbol y)
@@ -266,7 +266,7 @@ suits slot.LoopWidth (a_width w) y = true
 suits s p y = false
 
 -- what a piece says
-abbrev pub piece_says : Slot → Piece → Said → Said
+abbrev pub piece_says : FormatElement → Piece → Said → Said
 piece_says slot.ModuleName (a_symbol b) t = says_symbol b t
 piece_says slot.FunctionName (a_symbol b) t = says_symbol b t
 piece_says slot.FunctionName (a_private_symbol b) t = says_symbol b (says_private t)
@@ -295,18 +295,18 @@ piece_says s p t = t
 
 -- ---- rows
 
-abbrev pub row_written : List Slot → List Piece → List Seen
+abbrev pub row_written : List FormatElement → List Piece → List Terminal
 row_written [] ps = []
 row_written (s ∷ ss) [] = []
 row_written (s ∷ ss) (p ∷ ps) = piece_written s p ++ row_written ss ps
 
-abbrev pub row_suits : List Slot → List Piece → Seen → Bool
+abbrev pub row_suits : List FormatElement → List Piece → Terminal → Bool
 row_suits [] [] y = true
 row_suits [] (p ∷ ps) y = false
 row_suits (s ∷ ss) [] y = false
 row_suits (s ∷ ss) (p ∷ ps) y = suits s p (first_seen (row_written ss ps) y) && row_suits ss ps y
 
-abbrev pub row_says : List Slot → List Piece → Said → Said
+abbrev pub row_says : List FormatElement → List Piece → Said → Said
 row_says [] ps t = t
 row_says (s ∷ ss) [] t = t
 row_says (s ∷ ss) (p ∷ ps) t = row_says ss ps (piece_says s p t)
@@ -318,17 +318,17 @@ pub record Results : Type 0 where
   pub name : List ℕ
   pub digits : Option (List ℕ)
 
-abbrev pub count_written : Option (List ℕ) → List Seen
+abbrev pub count_written : Option (List ℕ) → List Terminal
 count_written None = mark equals ∷ []
-count_written (Some digits) = mark colon ∷ sees kind.Integer digits ∷ mark equals ∷ []
+count_written (Some digits) = mark colon ∷ terminal kind.Integer digits ∷ mark equals ∷ []
 
-abbrev pub results_written : Option Results → List Seen
+abbrev pub results_written : Option Results → List Terminal
 results_written None = []
 results_written (Some d) = value_name d.name ∷ count_written d.digits
 
 abbrev pub count_said : Option (List ℕ) → ℕ
 count_said None = 1
-count_said (Some digits) = count_of (sees kind.Integer digits)
+count_said (Some digits) = count_of (terminal kind.Integer digits)
 
 abbrev pub results_say : Option Results → Said → Said
 results_say None t = t
@@ -371,11 +371,11 @@ row_word row.For = codes "scf.for"
 row_word row.If = codes "scf.if"
 row_word row.Yield = codes "scf.yield"
 
-abbrev pub head_written : Option Results → Row → List Piece → List Seen
+abbrev pub head_written : Option Results → Row → List Piece → List Terminal
 head_written d r ps = results_written d ++ word (row_word r) ∷ row_written (slots r) ps
 
 -- where it stands, and what may stand behind it
-abbrev pub head_suits : Level → Option Results → Row → List Piece → Seen → Bool
+abbrev pub head_suits : Level → Option Results → Row → List Piece → Terminal → Bool
 head_suits l None r ps y = fits l r && row_suits (slots r) ps y
 head_suits l (Some d) r ps y = has_operations l && (fits level.Body r && row_suits (slots r) ps y)
 

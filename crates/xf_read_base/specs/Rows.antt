@@ -6,22 +6,22 @@ use Rattle.xf_read_base.specs.declared.row.Level.{Level}
 use Rattle.xf_read_base.specs.declared.row.Level.TheVariants as level
 use Rattle.xf_read_base.specs.declared.row.Row.{Row}
 use Rattle.xf_read_base.specs.declared.row.Row.TheVariants as row
-use Rattle.xf_read_base.specs.declared.row.Slot.{Slot}
-use Rattle.xf_read_base.specs.declared.row.Slot.TheVariants.{Mark, Word, ModuleName, FunctionName, Symbol, Attributes, Dictionary, Literal, Predicate, Argument, Use, Width, Uses, Types, Params, Operands, CallResults, FunctionResults, IfResults, IterArgs, LoopWidth}
+use Rattle.xf_read_base.specs.declared.row.FormatElement.{FormatElement}
+use Rattle.xf_read_base.specs.declared.row.FormatElement.TheVariants.{Mark, Word, ModuleName, FunctionName, Symbol, Attributes, Dictionary, Literal, Predicate, Argument, Use, Width, Uses, Types, Params, Operands, CallResults, FunctionResults, IfResults, IterArgs, LoopWidth}
 
-abbrev pub paren : Slot
+abbrev pub paren : FormatElement
 paren = Mark 40
 
-abbrev pub comma : Slot
+abbrev pub comma : FormatElement
 comma = Mark 44
 
-abbrev pub colon : Slot
+abbrev pub colon : FormatElement
 colon = Mark 58
 
-abbrev pub equals : Slot
+abbrev pub equals : FormatElement
 equals = Mark 61
 
-abbrev pub slots : Row → List Slot
+abbrev pub slots : Row → List FormatElement
 slots row.Module = ModuleName ∷ Attributes ∷ []
 slots row.Function = FunctionName ∷ paren ∷ Params ∷ FunctionResults ∷ Attributes ∷ []
 slots row.Return = Dictionary ∷ Operands ∷ []

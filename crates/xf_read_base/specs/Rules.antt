@@ -7,10 +7,10 @@ use Rattle.xf_type.specs.declared.kind.CmpKind.TheVariants as cmp
 use Rattle.xf_type.specs.declared.payload_type.Width.{Width}
 use Rattle.xf_type.specs.declared.payload_type.Width.TheVariants as width
 use Rattle.xf_type.specs.Integers.{bits_of}
-use Rattle.xf_grammar.specs.Tokens.{Seen, digits_of, number_of, is_kind, is_word, word_of, is_index, open_paren, close_paren, minus, colon, equals, open_brace, close_brace}
+use Rattle.xf_grammar.specs.Tokens.{Terminal, digits_of, number_of, is_kind, is_word, word_of, is_index, open_paren, close_paren, minus, colon, equals, open_brace, close_brace}
 use Rattle.xf_grammar.specs.Grammar.{Grammar, finish, refuse, take, peek, both, listed, skip, token}
-use Rattle.xf_read_base.specs.declared.due.Due.{Due}
-use Rattle.xf_read_base.specs.declared.due.Due.TheVariants as due
+use Rattle.xf_read_base.specs.declared.expected.Expected.{Expected}
+use Rattle.xf_read_base.specs.declared.expected.Expected.TheVariants as due
 use Rattle.xf_read_base.specs.declared.list.Item.{Item}
 use Rattle.xf_read_base.specs.declared.list.Item.TheVariants as item
 use Rattle.xf_read_base.specs.declared.parts.EntryValue.TheVariants as value
@@ -22,20 +22,20 @@ use Rattle.xf_read_base.specs.declared.row.Opening.{Opening}
 use Rattle.xf_read_base.specs.declared.row.Opening.TheVariants as opening
 use Rattle.xf_read_base.specs.declared.row.Row.{Row}
 use Rattle.xf_read_base.specs.declared.row.Row.TheVariants as row
-use Rattle.xf_read_base.specs.declared.row.Slot.{Slot}
-use Rattle.xf_read_base.specs.declared.row.Slot.TheVariants as slot
+use Rattle.xf_read_base.specs.declared.row.FormatElement.{FormatElement}
+use Rattle.xf_read_base.specs.declared.row.FormatElement.TheVariants as slot
 use Rattle.xf_read_base.specs.Parts.{ref, count_of, with_row, with_symbol, as_private, with_predicate, with_literal, with_entry, with_define, with_arg, with_use, with_width, with_result, text_of, truth, number, no_value, truth_value, number_value, text_value, Said, says_row, says_symbol, says_private, says_predicate, says_literal, says_entry, says_define, says_arg, says_use, says_width, says_result}
 use Rattle.xf_read_base.specs.Strings.{decoded}
 use Rattle.xf_read_base.specs.Words.{lookup, widths, predicates, spelling, opening_of}
 use Rattle.xf_read_base.specs.Rows.{slots, fits}
 
 abbrev pub Rule : Type 0
-Rule = Grammar Parts Due Said
+Rule = Grammar Parts Expected Said
 
 -- ---- single tokens and types
 
 -- a token of this kind, where this is due
-unfoldable pub kind_rule : Due → TokenKind → Rule
+unfoldable pub kind_rule : Expected → TokenKind → Rule
 kind_rule d k = token d (is_kind k)
 
 unfoldable pub word_rule : List ℕ → Rule
@@ -46,14 +46,14 @@ abbrev pub is_short : List ℕ → Bool
 is_short bytes = nat_lt (length bytes) (2 ^ 32)
 
 -- a symbol, whose name stands behind its @
-abbrev pub is_symbol : Seen → Bool
+abbrev pub is_symbol : Terminal → Bool
 is_symbol x = is_kind kind.Symbol x && is_short (drop 1 (text_of x))
 
 -- the name of an attribute
-abbrev pub is_name : Seen → Bool
+abbrev pub is_name : Terminal → Bool
 is_name x = is_kind kind.Word x && is_short (text_of x)
 
-abbrev pub is_string : Seen → Bool
+abbrev pub is_string : Terminal → Bool
 is_string x = is_kind kind.Text x && is_short (decoded (text_of x))
 
 -- where one of this kind is due, one that is too long is refused; another token goes on so
@@ -84,31 +84,31 @@ use_rule =
     (refuse due.Other)
 
 -- the width that a word means
-abbrev pub is_width : Seen → Bool
+abbrev pub is_width : Terminal → Bool
 is_width x = is_some (lookup widths (word_of x))
 
 abbrev pub the_width : Option Width → Width
 the_width (Some w) = w
 the_width None = width.Index
 
-abbrev pub width_meant : Seen → Width
+abbrev pub width_meant : Terminal → Width
 width_meant x = the_width (lookup widths (word_of x))
 
-unfoldable pub width_rule : Due → Rule
+unfoldable pub width_rule : Expected → Rule
 width_rule d = take is_width (λ x at. finish (with_width (width_meant x)) (says_width (width_meant x))) (refuse d)
 
 -- a type of a result
 unfoldable pub result_rule : Rule
 result_rule = take is_width (λ x at. finish (with_result (width_meant x)) (says_result (width_meant x))) (refuse due.Type)
 
-abbrev pub is_predicate : Seen → Bool
+abbrev pub is_predicate : Terminal → Bool
 is_predicate x = is_some (lookup predicates (word_of x))
 
 abbrev pub the_predicate : Option CmpKind → CmpKind
 the_predicate (Some k) = k
 the_predicate None = cmp.Eq
 
-abbrev pub predicate_meant : Seen → CmpKind
+abbrev pub predicate_meant : Terminal → CmpKind
 predicate_meant x = the_predicate (lookup predicates (word_of x))
 
 unfoldable pub predicate_rule : Rule
@@ -117,7 +117,7 @@ predicate_rule = take is_predicate (λ x at. finish (with_predicate (predicate_m
 -- ---- literals
 
 -- an integer and its width; else this is due
-unfoldable pub number_rule : Bool → Due → Rule
+unfoldable pub number_rule : Bool → Expected → Rule
 number_rule negative d =
     take (is_kind kind.Integer) (λ x at. both (finish (with_literal (literal.Integer negative at)) (says_literal (number negative (text_of x)))) (both (kind_rule due.Other colon) (width_rule due.Width))) (refuse d)
 
@@ -139,18 +139,18 @@ literal_rule =
 abbrev pub has_room : Width → Bool → ℕ → Bool
 has_room w negative n = if negative then nat_le n (2 ^ (bits_of w - 1)) else nat_le n (2 ^ bits_of w - 1)
 
-abbrev pub room_for : Width → Bool → Seen → Bool
+abbrev pub room_for : Width → Bool → Terminal → Bool
 room_for w negative x = has_room w negative (number_of (digits_of x))
 
 -- the width of an integer x with this number, for the attribute of this name, which has these bytes
-unfoldable pub entry_width_rule : ℕ → List ℕ → Bool → ℕ → Seen → Rule
+unfoldable pub entry_width_rule : ℕ → List ℕ → Bool → ℕ → Terminal → Rule
 entry_width_rule name bytes negative at x =
     peek is_width
     (take (λ z. room_for (width_meant z) negative x) (λ z n. finish (with_entry name (value.Integer negative at (width_meant z))) (says_entry bytes (number_value negative (text_of x) (width_meant z)))) (refuse due.Other))
     (refuse due.Width)
 
 -- an integer, optionally with : and a width, else of the width of 64; else this is due
-unfoldable pub entry_number_rule : ℕ → List ℕ → Bool → Due → Rule
+unfoldable pub entry_number_rule : ℕ → List ℕ → Bool → Expected → Rule
 entry_number_rule name bytes negative d =
     peek (is_kind kind.Integer)
     (take (room_for width.I64 negative) (λ x at.
@@ -205,11 +205,11 @@ abbrev pub list_rule : Item → Rule
 list_rule i = listed (most_items i - 1) due.ListEnd (item_rule i)
 
 -- items, possibly none, and the token that ends them, where this is due behind an item
-unfoldable pub until_rule : TokenKind → Due → Item → Rule
+unfoldable pub until_rule : TokenKind → Expected → Item → Rule
 until_rule close d i = take (is_kind close) (λ x at. skip) (both (list_rule i) (kind_rule d close))
 
 -- the same up to a parenthesis
-abbrev pub enclosed_rule : Item → Due → Rule
+abbrev pub enclosed_rule : Item → Expected → Rule
 enclosed_rule i d = until_rule close_paren d i
 
 -- optional { entries }
@@ -223,7 +223,7 @@ attributes_rule = take (is_word (codes "attributes")) (λ x at. both (kind_rule 
 -- ---- types and operands
 
 -- one result type, or result types in parentheses, behind one of which this is due
-unfoldable pub result_types_rule : Due → Rule
+unfoldable pub result_types_rule : Expected → Rule
 result_types_rule d = take (is_kind open_paren) (λ x at. enclosed_rule item.Result d) result_rule
 
 -- -> types
@@ -257,7 +257,7 @@ loop_width_rule = take (is_kind colon) (λ x at. width_rule due.Width) (finish (
 
 -- ---- slots and rows
 
-abbrev pub slot_rule : Slot → Rule
+abbrev pub slot_rule : FormatElement → Rule
 slot_rule (slot.Mark b) = kind_rule due.Other (kind.Mark b)
 slot_rule (slot.Word k) = word_rule (spelling k)
 slot_rule slot.ModuleName = module_name_rule
@@ -280,12 +280,12 @@ slot_rule slot.IfResults = if_results_rule
 slot_rule slot.IterArgs = iter_args_rule
 slot_rule slot.LoopWidth = loop_width_rule
 
-abbrev pub slots_rule : List Slot → Rule
+abbrev pub slots_rule : List FormatElement → Rule
 slots_rule [] = skip
 slots_rule (s ∷ ss) = both (slot_rule s) (slots_rule ss)
 
 -- what is due where an operation begins
-abbrev pub due_at : Level → Due
+abbrev pub due_at : Level → Expected
 due_at level.File = due.File
 due_at level.Functions = due.Function
 due_at level.Body = due.Operation
@@ -322,7 +322,7 @@ row_rule l =
     (peek (λ x. is_other l (opening_of (word_of x))) (refuse due.OtherReader) (refuse (due_at l)))
 
 -- behind the name x of results with this number: = , or :k = for k results
-unfoldable pub defines_rule : Seen → ℕ → Rule
+unfoldable pub defines_rule : Terminal → ℕ → Rule
 defines_rule x at =
     take (is_kind colon)
     (λ c n. take (is_kind kind.Integer) (λ k m. both (finish (with_define (ref at (count_of k))) (says_define (text_of x) (count_of k))) (kind_rule due.Other equals)) (refuse due.Other))

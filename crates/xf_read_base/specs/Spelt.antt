@@ -5,9 +5,9 @@ use Rattle.xf_span.specs.declared.fault.Fault.{Fault}
 use Rattle.xf_span.specs.declared.fault.TextFault.{TextFault}
 use Rattle.xf_span.specs.declared.fault.TextFault.TheVariants as text_fault
 use Rattle.xf_lex.specs.declared.token.Token.{Token}
-use Rattle.xf_grammar.specs.Tokens.{Seen, seen, word_of}
-use Rattle.xf_read_base.specs.declared.due.Due.{Due}
-use Rattle.xf_read_base.specs.declared.due.Due.TheVariants as due
+use Rattle.xf_grammar.specs.Tokens.{Terminal, terminal_at, word_of}
+use Rattle.xf_read_base.specs.declared.expected.Expected.{Expected}
+use Rattle.xf_read_base.specs.declared.expected.Expected.TheVariants as due
 use Rattle.xf_read_base.specs.declared.parts.Literal.{Literal}
 use Rattle.xf_read_base.specs.declared.parts.Literal.TheVariants as literal
 use Rattle.xf_read_base.specs.declared.parts.Parts.{Parts}
@@ -44,13 +44,13 @@ is_row (opening.Row r) = true
 is_row opening.Other = false
 is_row opening.Nothing = false
 
-abbrev pub begins_row : Seen → Bool
+abbrev pub begins_row : Terminal → Bool
 begins_row x = is_row (opening_of (word_of x))
 
 -- the fault at the first token that fits no head; none where no operation of this reader begins
-abbrev pub stopped : List Token → ℕ → Due → Option Fault
+abbrev pub stopped : List Token → ℕ → Expected → Option Fault
 stopped all at due.OtherReader = None
-stopped all at due.Operation = if begins_row (seen all at) then Some (due_fault all at due.Operation) else None
+stopped all at due.Operation = if begins_row (terminal_at all at) then Some (due_fault all at due.Operation) else None
 stopped all at d = Some (due_fault all at d)
 
 abbrev pub none_or : Option Fault → Result (Option Head) Fault

@@ -6,8 +6,8 @@ use Rattle.xf_span.specs.declared.fault.Fault.{Fault}
 use Rattle.xf_span.specs.Fault.{fault_at, numbered_fault}
 use Rattle.xf_lex.specs.declared.token.Token.{Token}
 use Rattle.xf_span.specs.Place.{first_place, place_after}
-use Rattle.xf_grammar.specs.Tokens.{seen}
-use Rattle.xf_read_base.specs.declared.due.Due.{Due}
+use Rattle.xf_grammar.specs.Tokens.{terminal_at}
+use Rattle.xf_read_base.specs.declared.expected.Expected.{Expected}
 use Rattle.xf_read_base.specs.declared.verdict.Verdict.{Verdict}
 use Rattle.xf_read_base.specs.declared.verdict.Verdict.TheVariants.{Syntax, OutOfProfile, NotBuilt, TooMany}
 use Rattle.xf_read_base.specs.Verdicts.{verdict}
@@ -32,5 +32,5 @@ judged NotBuilt p = fault_at N1 p
 judged TooMany p = fault_at A7 p
 
 -- the fault of a reading that stops at a token, by what was due there
-abbrev pub due_fault : List Token → ℕ → Due → Fault
-due_fault all at d = judged (verdict d (seen all at) (seen all (at + 1))) (stop_place all at)
+abbrev pub due_fault : List Token → ℕ → Expected → Fault
+due_fault all at d = judged (verdict d (terminal_at all at) (terminal_at all (at + 1))) (stop_place all at)

@@ -4,21 +4,21 @@ use Rattle.std.specs.Char.{digit_value}
 use Rattle.xf_type.specs.Bytes.{is_hex}
 use Rattle.xf_read_base.specs.declared.quoted.Escape.{Escape}
 use Rattle.xf_read_base.specs.declared.quoted.Escape.TheVariants as escape
-use Rattle.xf_read_base.specs.declared.quoted.Step.{Step}
-use Rattle.xf_read_base.specs.declared.quoted.Step.TheVariants as step
+use Rattle.xf_read_base.specs.declared.quoted.StringStep.{StringStep}
+use Rattle.xf_read_base.specs.declared.quoted.StringStep.TheVariants as step
 
 -- the byte behind a \ that begins no pair of hexadecimal digits
 abbrev pub escaped_byte : ℕ → ℕ
 escaped_byte b = if b == 110 then 10 else (if b == 116 then 9 else b)
 
 -- what a byte of a string is, behind this
-abbrev pub step_of : Escape → ℕ → Step
+abbrev pub step_of : Escape → ℕ → StringStep
 step_of escape.Nothing b = if b == 34 then step.End else (if b == 92 then step.Wait escape.Backslash else step.Byte b)
 step_of escape.Backslash b = if is_hex b then step.Wait (escape.Digit b) else step.Byte (escaped_byte b)
 step_of (escape.Digit a) b = step.Byte ((digit_value a * 16 + digit_value b) % 256)
 
 -- what a byte gives, and what those behind it give
-abbrev pub given : Step → (Escape → List ℕ) → List ℕ
+abbrev pub given : StringStep → (Escape → List ℕ) → List ℕ
 given step.End rest = []
 given (step.Wait e) rest = rest e
 given (step.Byte b) rest = b ∷ rest escape.Nothing

@@ -14,7 +14,7 @@ use Rattle.xf_type.specs.declared.payload_type.Width.TheVariants.{I1, Index}
 use Rattle.xf_type.specs.Integers.{wrapped}
 use Rattle.xf_lex.specs.declared.token.Token.{Token}
 use Rattle.xf_grammar.specs.Tokens.{number_at}
-use Rattle.xf_read_base.specs.declared.parts.Entry.{Entry}
+use Rattle.xf_read_base.specs.declared.parts.AttrEntry.{AttrEntry}
 use Rattle.xf_read_base.specs.declared.parts.EntryValue.{EntryValue}
 use Rattle.xf_read_base.specs.declared.parts.EntryValue.TheVariants as entry
 use Rattle.xf_read_base.specs.declared.parts.Literal.{Literal}
@@ -64,7 +64,7 @@ value_of_entry all (entry.Truth b) = attr.Int I1 (truth_bits b)
 value_of_entry all (entry.Integer negative at w) = attr.Int w (wrapped w (signed negative (number_at all at)))
 value_of_entry all (entry.Text at) = attr.Text (decoded (text all at))
 
-abbrev pub attr_of : List Token → Entry → Attr
+abbrev pub attr_of : List Token → AttrEntry → Attr
 attr_of all e = record { name = text all e.name; value = value_of_entry all e.value }
 
 -- with an attribute at its place by the bytes of the names, instead of one of its name
@@ -72,12 +72,12 @@ abbrev pub with_attr : Attr → List Attr → List Attr
 with_attr a [] = a ∷ []
 with_attr a (b ∷ bs) = match_ordering (slice_cmp nat_cmp a.name b.name) (a ∷ b ∷ bs) (record { name = b.name; value = a.value } ∷ bs) (b ∷ with_attr a bs)
 
-abbrev pub with_entries : List Token → List Entry → List Attr → List Attr
+abbrev pub with_entries : List Token → List AttrEntry → List Attr → List Attr
 with_entries all [] attrs = attrs
 with_entries all (e ∷ es) attrs = with_entries all es (with_attr (attr_of all e) attrs)
 
 -- the attributes, sorted by the bytes of their names
-abbrev pub attrs_of : List Token → List Entry → List Attr
+abbrev pub attrs_of : List Token → List AttrEntry → List Attr
 attrs_of all es = with_entries all es []
 
 -- ---- kinds

@@ -6,9 +6,9 @@ use Rattle.std.specs.Option.{option_or}
 use Rattle.std.specs.Str.{bytes_eq}
 use Rattle.xf_lex.specs.declared.token.TokenKind.TheVariants as kind
 use Rattle.xf_type.specs.Bytes.{is_digit}
-use Rattle.xf_grammar.specs.Tokens.{Seen, is_kind, is_word, word_of, less, open_paren, open_bracket, open_brace, close_brace}
-use Rattle.xf_read_base.specs.declared.due.Due.{Due}
-use Rattle.xf_read_base.specs.declared.due.Due.TheVariants as due
+use Rattle.xf_grammar.specs.Tokens.{Terminal, is_kind, is_word, word_of, less, open_paren, open_bracket, open_brace, close_brace}
+use Rattle.xf_read_base.specs.declared.expected.Expected.{Expected}
+use Rattle.xf_read_base.specs.declared.expected.Expected.TheVariants as due
 use Rattle.xf_read_base.specs.declared.verdict.Verdict.{Verdict}
 use Rattle.xf_read_base.specs.declared.verdict.Verdict.TheVariants.{Syntax, OutOfProfile, NotBuilt, TooMany}
 use Rattle.xf_read_base.specs.Words.{lookup, widths}
@@ -82,20 +82,20 @@ abbrev pub attribute_words : List (List ℕ)
 attribute_words =
     codes "dense" ∷ codes "dense_resource" ∷ codes "sparse" ∷ codes "array" ∷ codes "affine_map" ∷ codes "affine_set" ∷ codes "strided" ∷ codes "distinct" ∷ codes "opaque" ∷ codes "tensor" ∷ codes "complex" ∷ codes "tuple" ∷ codes "none" ∷ []
 
-abbrev pub begins_attribute : Seen → Bool
+abbrev pub begins_attribute : Terminal → Bool
 begins_attribute x =
     (is_kind open_bracket x || (is_kind open_brace x || is_kind open_paren x))
     || ((is_kind kind.Symbol x || (is_kind kind.Hash x || is_kind kind.DialectType x))
     || (one_of attribute_words (word_of x) || is_some (lookup widths (word_of x))))
 
 -- what begins another constant
-abbrev pub begins_constant : Seen → Bool
+abbrev pub begins_constant : Terminal → Bool
 begins_constant x = (is_kind kind.Text x || is_word (codes "unit") x) || begins_attribute x
 
 -- ---- all places
 
 -- what is listed wherever it stands: overflow<, <{, loc(
-abbrev pub anywhere : Seen → Seen → Option ℕ
+abbrev pub anywhere : Terminal → Terminal → Option ℕ
 anywhere x y =
     if is_word (codes "overflow") x && is_kind less y then Some 3
     else (if is_kind less x && is_kind open_brace y then Some 11
@@ -106,21 +106,21 @@ number_if true n = Some n
 number_if false n = None
 
 -- a string, or the name of a block
-abbrev pub unnamed_number : Seen → Option ℕ
+abbrev pub unnamed_number : Terminal → Option ℕ
 unnamed_number x = if is_kind kind.Text x then Some 11 else (if is_kind kind.BlockName x then Some 7 else None)
 
 -- where an operation or a function is due
-abbrev pub operation_number : Seen → Option ℕ
+abbrev pub operation_number : Terminal → Option ℕ
 operation_number x = option_or (unnamed_number x) (word_number (word_of x))
 
-abbrev pub file_number : Seen → Option ℕ
+abbrev pub file_number : Terminal → Option ℕ
 file_number x = option_or (unnamed_number x) (dotted_number (word_of x))
 
 -- where the value of an attribute or a constant is due: a type by its own number, and whatever else begins a value
-abbrev pub value_number : Bool → Seen → Option ℕ
+abbrev pub value_number : Bool → Terminal → Option ℕ
 value_number is_value x = option_or (type_number (word_of x)) (number_if is_value 14)
 
-abbrev pub listed_number : Due → Seen → Option ℕ
+abbrev pub listed_number : Expected → Terminal → Option ℕ
 listed_number due.File x = file_number x
 listed_number due.Function x = operation_number x
 listed_number due.Operation x = operation_number x
@@ -138,7 +138,7 @@ listed_number due.ListEnd x = None
 listed_number due.Other x = None
 
 -- what is a text, and not built yet: an alias, an operation of another reader, a tensor type
-abbrev pub is_not_built : Due → Seen → Bool
+abbrev pub is_not_built : Expected → Terminal → Bool
 is_not_built due.File x = is_kind kind.Hash x
 is_not_built due.OtherReader x = true
 is_not_built due.Type x = is_word (codes "tensor") x
@@ -148,7 +148,7 @@ abbrev pub numbered : Option ℕ → Verdict
 numbered (Some n) = OutOfProfile n
 numbered None = Syntax
 
-abbrev pub listed : Due → Seen → Verdict
+abbrev pub listed : Expected → Terminal → Verdict
 listed d x = if is_not_built d x then NotBuilt else numbered (listed_number d x)
 
 abbrev pub numbered_or : Option ℕ → Verdict → Verdict
@@ -156,6 +156,6 @@ numbered_or (Some n) v = OutOfProfile n
 numbered_or None v = v
 
 -- by what was due, the token that fits no head, and the one behind it; an item that is one too many fits in itself
-abbrev pub verdict : Due → Seen → Seen → Verdict
+abbrev pub verdict : Expected → Terminal → Terminal → Verdict
 verdict due.ListEnd x y = TooMany
 verdict d x y = numbered_or (anywhere x y) (listed d x)

@@ -1,13 +1,13 @@
 //! Discardable attributes.
 ghost use Rattle.std.specs.Prelude.{◌≡◌, ◌≤◌, length, IfOk, OnOk};
 ghost use Rattle.xf_read_base.specs.Reading.{Gives, by};
-ghost use Rattle.xf_grammar.specs.Tokens.{seen};
+ghost use Rattle.xf_grammar.specs.Tokens.{terminal_at};
 ghost use Rattle.xf_read_base.specs.Parts.{with_entry, text_at};
 ghost use Rattle.xf_read_base.specs.Rules.{has_room, entry_number_rule, entry_rule, entry_value_rule, entry_width_rule};
 
-use crate::due::{Due, HeadFault};
+use crate::expected::{Expected, HeadFault};
 use crate::names::{is_name, is_string};
-use crate::parts::{Entry, EntryValue, Parts};
+use crate::parts::{AttrEntry, EntryValue, Parts};
 use crate::word::width_of;
 use xf_grammar::{looks, number_at, says, word_at};
 use xf_lex::{Token, TokenKind};
@@ -35,7 +35,7 @@ pub fn has_room(width: Width, negative: bool, number: u64) -> bool
 fn add_entry(parts: &mut Parts, name: usize, value: EntryValue) -> Result<(), NoMemory>
     ensures { OnOk result (parts.new ≡ with_entry name value parts.old) }
 {
-    parts.entries.push(Entry { name, value })?;
+    parts.entries.push(AttrEntry { name, value })?;
     Ok(())
 }
 
@@ -49,14 +49,14 @@ fn entry_typed(
     parts: &mut Parts,
     at: usize,
 ) -> Result<usize, HeadFault>
-    ensures gives { Gives (λ n. (parts.new, n)) result (by (entry_width_rule name (text_at tokens.now name) negative digits (seen tokens.now digits)) tokens.now parts.old at) }
+    ensures gives { Gives (λ n. (parts.new, n)) result (by (entry_width_rule name (text_at tokens.now name) negative digits (terminal_at tokens.now digits)) tokens.now parts.old at) }
     ensures within { IfOk result (λ n. (at ≤ n) × (n ≤ length tokens.now)) }
 {
     let Some(width) = width_of(word_at(tokens, at)) else {
-        return Err(HeadFault::At(at, Due::Width));
+        return Err(HeadFault::At(at, Expected::Width));
     };
     if !has_room(width, negative, number_at(tokens, digits)) {
-        return Err(HeadFault::At(at, Due::Other));
+        return Err(HeadFault::At(at, Expected::Other));
     }
     add_entry(
         parts,
@@ -76,7 +76,7 @@ fn entry_number(
     tokens: &[Token],
     name: usize,
     negative: bool,
-    due: Due,
+    due: Expected,
     parts: &mut Parts,
     at: usize,
 ) -> Result<usize, HeadFault>
@@ -87,7 +87,7 @@ fn entry_number(
         return Err(HeadFault::At(at, due));
     }
     if !has_room(Width::I64, negative, number_at(tokens, at)) {
-        return Err(HeadFault::At(at, Due::Other));
+        return Err(HeadFault::At(at, Expected::Other));
     }
     let next = at + 1;
     if looks(tokens, next, TokenKind::Mark(b':')) {
@@ -133,12 +133,12 @@ fn entry_value(
         return Ok(at + 1);
     }
     if looks(tokens, at, TokenKind::Text) {
-        return Err(HeadFault::At(at, Due::ListEnd));
+        return Err(HeadFault::At(at, Expected::ListEnd));
     }
     if looks(tokens, at, TokenKind::Mark(b'-')) {
-        return entry_number(tokens, name, true, Due::Other, parts, at + 1);
+        return entry_number(tokens, name, true, Expected::Other, parts, at + 1);
     }
-    entry_number(tokens, name, false, Due::AttributeValue, parts, at)
+    entry_number(tokens, name, false, Expected::AttributeValue, parts, at)
 }
 
 /// An attribute: a word, and `=` and a value or neither.
@@ -149,9 +149,9 @@ pub fn entry_at(tokens: &[Token], parts: &mut Parts, at: usize) -> Result<usize,
 {
     if !is_name(tokens, at) {
         if looks(tokens, at, TokenKind::Word) {
-            return Err(HeadFault::At(at, Due::ListEnd));
+            return Err(HeadFault::At(at, Expected::ListEnd));
         }
-        return Err(HeadFault::At(at, Due::Other));
+        return Err(HeadFault::At(at, Expected::Other));
     }
     let next = at + 1;
     if looks(tokens, next, TokenKind::Mark(b'=')) {

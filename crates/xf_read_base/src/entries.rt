@@ -5,7 +5,7 @@ ghost use Rattle.xf_read_base.specs.Attributes.{attrs_in};
 ghost use Rattle.xf_read_base.specs.Attributes.{entries_twice};
 ghost use Rattle.xf_read_base.specs.Values.{signed, truth_bits, value_of_entry, attrs_of};
 
-use crate::parts::{Entry, EntryValue};
+use crate::parts::{AttrEntry, EntryValue};
 use crate::quoted::decoded;
 use crate::texts::text;
 use std::alloc::Global;
@@ -81,7 +81,7 @@ fn first_twice(before: Option<usize>, is_twice: bool, at: usize) -> Option<usize
 pub fn attributes(
     alloc: Global,
     tokens: &[Token],
-    entries: &[Entry],
+    entries: &[AttrEntry],
 ) -> Result<(AttrList, Option<usize>), NoMemory>
     ensures attrs { IfOk result (λ r. r.0 ≡ attrs_of tokens.now entries.now) }
     ensures twice { IfOk result (λ r. r.1 ≡ entries_twice tokens.now (λ name. false) entries.now) }

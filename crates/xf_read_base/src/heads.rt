@@ -1,11 +1,11 @@
 //! Heads of operations.
 ghost use Rattle.std.specs.Prelude.{◌≡◌, ◌≤◌, ◌<◌, length, IfOk};
-ghost use Rattle.xf_grammar.specs.Tokens.{seen};
+ghost use Rattle.xf_grammar.specs.Tokens.{terminal_at};
 ghost use Rattle.xf_read_base.specs.Heads.{head_at};
 ghost use Rattle.xf_read_base.specs.Reading.{Gives, by};
 ghost use Rattle.xf_read_base.specs.Rules.{defines_rule, row_rule, due_at, has_operations};
 
-use crate::due::{Due, HeadFault};
+use crate::expected::{Expected, HeadFault};
 use crate::parts::{Parts, Ref};
 use crate::row::{Level, Opening, Row, fits, row_slots};
 use crate::single::{count_at, expects};
@@ -23,7 +23,7 @@ fn defines_at(
     parts: &mut Parts,
     at: usize,
 ) -> Result<usize, HeadFault>
-    ensures gives { Gives (λ n. (parts.new, n)) result (by (defines_rule (seen tokens.now name) name) tokens.now parts.old at) }
+    ensures gives { Gives (λ n. (parts.new, n)) result (by (defines_rule (terminal_at tokens.now name) name) tokens.now parts.old at) }
     ensures within { IfOk result (λ n. (at ≤ n) × (n ≤ length tokens.now)) }
 {
     let mut count = 1;
@@ -31,23 +31,23 @@ fn defines_at(
     if looks(tokens, at, TokenKind::Mark(b':')) {
         next = at + 1;
         if !looks(tokens, next, TokenKind::Integer) {
-            return Err(HeadFault::At(next, Due::Other));
+            return Err(HeadFault::At(next, Expected::Other));
         }
         count = count_at(tokens, next);
         next = next + 1;
     }
     parts.defines.push(Ref { token: name, count })?;
-    expects(tokens, TokenKind::Mark(b'='), Due::Other, parts, next)
+    expects(tokens, TokenKind::Mark(b'='), Expected::Other, parts, next)
 }
 
 /// What is due where an operation begins.
-pub fn due_at(level: Level) -> Due
+pub fn due_at(level: Level) -> Expected
     ensures { result ≡ due_at level }
 {
     match level {
-        Level::File => Due::File,
-        Level::Functions => Due::Function,
-        Level::Body | Level::Any => Due::Operation,
+        Level::File => Expected::File,
+        Level::Functions => Expected::Function,
+        Level::Body | Level::Any => Expected::Operation,
     }
 }
 
@@ -72,7 +72,7 @@ fn row_at(tokens: &[Token], level: Level, parts: &mut Parts, at: usize) -> Resul
             parts.row = row;
             slots_at(tokens, row_slots(row), parts, at + 1)
         }
-        Opening::Other if has_operations(level) => Err(HeadFault::At(at, Due::OtherReader)),
+        Opening::Other if has_operations(level) => Err(HeadFault::At(at, Expected::OtherReader)),
         _ => Err(HeadFault::At(at, due_at(level))),
     }
 }

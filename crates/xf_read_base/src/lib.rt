@@ -4,8 +4,8 @@
 #![tactic(auto)]
 
 mod dictionary;
-mod due;
 mod entries;
+mod expected;
 mod heads;
 mod kinds;
 mod law;
@@ -22,13 +22,13 @@ mod texts;
 mod verdict;
 mod word;
 
-pub use due::{Due, HeadFault};
 pub use entries::attributes;
+pub use expected::{Expected, HeadFault};
 pub use heads::{due_at, head_at};
 pub use kinds::kind_of;
 pub use law::{heads_are_read_as_written, heads_are_short, no_head_goes_on};
-pub use parts::{Entry, EntryList, EntryValue, Head, Literal, Parts, Ref, RefList};
-pub use row::{Keyword, Level, Opening, Row, Slot, row_slots};
+pub use parts::{AttrEntry, EntryList, EntryValue, Head, Literal, Parts, Ref, RefList};
+pub use row::{FormatElement, Keyword, Level, Opening, Row, row_slots};
 pub use slot::{dictionary_at, slots_at};
 pub use spelt::head;
 pub use stop::{due_fault, stop_place};

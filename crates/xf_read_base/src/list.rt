@@ -4,10 +4,10 @@ ghost use Rattle.xf_grammar.specs.Reading.{one_too_many};
 ghost use Rattle.xf_read_base.specs.Reading.{Fails, Gives, by};
 ghost use Rattle.xf_read_base.specs.Rules.{item_rule, list_rule, most_items, pair_rule, param_rule, until_rule};
 ghost use Rattle.xf_lex.specs.declared.token.TokenKind.TheVariants as kind;
-ghost use Rattle.xf_read_base.specs.declared.due.Due.TheVariants as due;
+ghost use Rattle.xf_read_base.specs.declared.expected.Expected.TheVariants as due;
 
 use crate::dictionary::entry_at;
-use crate::due::{Due, HeadFault};
+use crate::expected::{Expected, HeadFault};
 use crate::parts::Parts;
 use crate::single::{argument_at, expects, result_at, use_at, width_at};
 use xf_grammar::looks;
@@ -37,8 +37,8 @@ fn param_at(tokens: &[Token], parts: &mut Parts, at: usize) -> Result<usize, Hea
     ensures within { IfOk result (λ n. (at ≤ n) × (n ≤ length tokens.now)) }
 {
     let at = argument_at(tokens, parts, at)?;
-    let at = expects(tokens, TokenKind::Mark(b':'), Due::Other, parts, at)?;
-    width_at(tokens, Due::Type, parts, at)
+    let at = expects(tokens, TokenKind::Mark(b':'), Expected::Other, parts, at)?;
+    width_at(tokens, Expected::Type, parts, at)
 }
 
 /// A block argument and an operand, with `=` between them.
@@ -48,7 +48,7 @@ fn pair_at(tokens: &[Token], parts: &mut Parts, at: usize) -> Result<usize, Head
     ensures within { IfOk result (λ n. (at ≤ n) × (n ≤ length tokens.now)) }
 {
     let at = argument_at(tokens, parts, at)?;
-    let at = expects(tokens, TokenKind::Mark(b'='), Due::Other, parts, at)?;
+    let at = expects(tokens, TokenKind::Mark(b'='), Expected::Other, parts, at)?;
     use_at(tokens, parts, at)
 }
 
@@ -59,7 +59,7 @@ fn item_at(tokens: &[Token], item: Item, parts: &mut Parts, at: usize) -> Result
 {
     match item {
         Item::Use => use_at(tokens, parts, at),
-        Item::Type => width_at(tokens, Due::Type, parts, at),
+        Item::Type => width_at(tokens, Expected::Type, parts, at),
         Item::Result => result_at(tokens, parts, at),
         Item::Param => param_at(tokens, parts, at),
         Item::Pair => pair_at(tokens, parts, at),
@@ -86,7 +86,7 @@ fn one_too_many(tokens: &[Token], item: Item, parts: &mut Parts, at: usize) -> H
     match item_at(tokens, item, parts, at) {
         Err(HeadFault::NoMemory) => HeadFault::NoMemory,
         Err(HeadFault::At(stop, due)) if stop == at => HeadFault::At(stop, due),
-        _ => HeadFault::At(at, Due::ListEnd),
+        _ => HeadFault::At(at, Expected::ListEnd),
     }
 }
 
@@ -119,7 +119,7 @@ pub fn list_until(
     tokens: &[Token],
     item: Item,
     close: TokenKind,
-    due: Due,
+    due: Expected,
     parts: &mut Parts,
     at: usize,
 ) -> Result<usize, HeadFault>

@@ -1,6 +1,6 @@
 //! Names and strings, which are lists of bytes of the tree: whether they have fewer than 2^32.
 ghost use Rattle.std.specs.Prelude.{◌≡◌, ◌<◌, length, IsTrue};
-ghost use Rattle.xf_grammar.specs.Tokens.{seen};
+ghost use Rattle.xf_grammar.specs.Tokens.{terminal_at};
 ghost use Rattle.xf_read_base.specs.Rules.{is_symbol, is_name, is_string};
 
 use crate::quoted::{behind_first, decoded_len};
@@ -11,7 +11,7 @@ const LIMIT: usize = 0x1_0000_0000;
 
 /// Whether a symbol stands there that is short enough.
 pub fn is_symbol(tokens: &[Token], at: usize) -> bool
-    ensures value { result ≡ is_symbol (seen tokens.now at) }
+    ensures value { result ≡ is_symbol (terminal_at tokens.now at) }
     ensures within { IsTrue result → at < length tokens.now }
 {
     if at >= tokens.len() {
@@ -26,7 +26,7 @@ pub fn is_symbol(tokens: &[Token], at: usize) -> bool
 
 /// Whether a word stands there that is short enough for the name of an attribute.
 pub fn is_name(tokens: &[Token], at: usize) -> bool
-    ensures value { result ≡ is_name (seen tokens.now at) }
+    ensures value { result ≡ is_name (terminal_at tokens.now at) }
     ensures within { IsTrue result → at < length tokens.now }
 {
     if at >= tokens.len() {
@@ -41,7 +41,7 @@ pub fn is_name(tokens: &[Token], at: usize) -> bool
 
 /// Whether a string stands there that stands for few enough bytes. It takes time in its length.
 pub fn is_string(tokens: &[Token], at: usize) -> bool
-    ensures value { result ≡ is_string (seen tokens.now at) }
+    ensures value { result ≡ is_string (terminal_at tokens.now at) }
     ensures within { IsTrue result → at < length tokens.now }
 {
     if at >= tokens.len() {

@@ -48,13 +48,13 @@ pub enum EntryValue {
 
 /// A discardable attribute: the token of its name, and its value.
 #[derive(Clone, Copy, Debug, PartialEq, Eq)]
-pub struct Entry {
+pub struct AttrEntry {
     pub name: usize,
     pub value: EntryValue,
 }
 
 /// Discardable attributes, in the order of the text.
-pub type EntryList = ListOf<Entry>;
+pub type EntryList = ListOf<AttrEntry>;
 
 /// What stands before the first brace of an operation.
 #[derive(Drop)]

@@ -18,7 +18,7 @@ enum Escape {
 
 /// What a byte of a string is.
 #[derive(Clone, Copy)]
-enum Step {
+enum StringStep {
     /// The quote behind the string.
     End,
     /// A part of an escape, which the next byte goes on with.
@@ -49,16 +49,16 @@ fn escaped_byte(b: u8) -> u8
 }
 
 /// What a byte is behind that.
-fn step_of(escape: Escape, b: u8) -> Step
+fn step_of(escape: Escape, b: u8) -> StringStep
     ensures { result ≡ step_of escape b }
 {
     match escape {
-        Escape::Nothing if b == b'"' => Step::End,
-        Escape::Nothing if b == b'\\' => Step::Wait(Escape::Backslash),
-        Escape::Nothing => Step::Byte(b),
-        Escape::Backslash if is_hex(b) => Step::Wait(Escape::Digit(b)),
-        Escape::Backslash => Step::Byte(escaped_byte(b)),
-        Escape::Digit(a) => Step::Byte(((digit_value(a) * 16 + digit_value(b)) % 256) as u8),
+        Escape::Nothing if b == b'"' => StringStep::End,
+        Escape::Nothing if b == b'\\' => StringStep::Wait(Escape::Backslash),
+        Escape::Nothing => StringStep::Byte(b),
+        Escape::Backslash if is_hex(b) => StringStep::Wait(Escape::Digit(b)),
+        Escape::Backslash => StringStep::Byte(escaped_byte(b)),
+        Escape::Digit(a) => StringStep::Byte(((digit_value(a) * 16 + digit_value(b)) % 256) as u8),
     }
 }
 
@@ -71,9 +71,9 @@ pub fn decoded(alloc: Global, quoted: &[u8]) -> Result<ByteList, NoMemory>
     let inner = behind_first(quoted);
     for b in inner {
         match step_of(escape, *b) {
-            Step::End => return Ok(bytes),
-            Step::Wait(next) => escape = next,
-            Step::Byte(byte) => {
+            StringStep::End => return Ok(bytes),
+            StringStep::Wait(next) => escape = next,
+            StringStep::Byte(byte) => {
                 bytes.push(byte)?;
                 escape = Escape::Nothing;
             }
@@ -91,9 +91,9 @@ pub fn decoded_len(quoted: &[u8]) -> usize
     let inner = behind_first(quoted);
     for b in inner {
         match step_of(escape, *b) {
-            Step::End => return count,
-            Step::Wait(next) => escape = next,
-            Step::Byte(_) => {
+            StringStep::End => return count,
+            StringStep::Wait(next) => escape = next,
+            StringStep::Byte(_) => {
                 count += 1;
                 escape = Escape::Nothing;
             }

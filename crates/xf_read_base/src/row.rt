@@ -42,7 +42,7 @@ pub enum Keyword {
 
 /// A part of a row.
 #[derive(Clone, Copy)]
-pub enum Slot {
+pub enum FormatElement {
     /// A mark of one byte.
     Mark(u8),
     /// A word.
@@ -87,95 +87,95 @@ pub enum Slot {
     LoopWidth,
 }
 
-const OPEN: Slot = Slot::Mark(b'(');
+const OPEN: FormatElement = FormatElement::Mark(b'(');
 
-const COMMA: Slot = Slot::Mark(b',');
+const COMMA: FormatElement = FormatElement::Mark(b',');
 
-const COLON: Slot = Slot::Mark(b':');
+const COLON: FormatElement = FormatElement::Mark(b':');
 
-const EQUALS: Slot = Slot::Mark(b'=');
+const EQUALS: FormatElement = FormatElement::Mark(b'=');
 
-const MODULE: [Slot; 2] = [Slot::ModuleName, Slot::Attributes];
+const MODULE: [FormatElement; 2] = [FormatElement::ModuleName, FormatElement::Attributes];
 
-const FUNCTION: [Slot; 5] = [
-    Slot::FunctionName,
+const FUNCTION: [FormatElement; 5] = [
+    FormatElement::FunctionName,
     OPEN,
-    Slot::Params,
-    Slot::FunctionResults,
-    Slot::Attributes,
+    FormatElement::Params,
+    FormatElement::FunctionResults,
+    FormatElement::Attributes,
 ];
 
-const TERMINATOR: [Slot; 2] = [Slot::Dictionary, Slot::Operands];
+const TERMINATOR: [FormatElement; 2] = [FormatElement::Dictionary, FormatElement::Operands];
 
-const CALL: [Slot; 8] = [
-    Slot::Symbol,
+const CALL: [FormatElement; 8] = [
+    FormatElement::Symbol,
     OPEN,
-    Slot::Uses,
-    Slot::Dictionary,
+    FormatElement::Uses,
+    FormatElement::Dictionary,
     COLON,
     OPEN,
-    Slot::Types,
-    Slot::CallResults,
+    FormatElement::Types,
+    FormatElement::CallResults,
 ];
 
-const CONSTANT: [Slot; 2] = [Slot::Dictionary, Slot::Literal];
+const CONSTANT: [FormatElement; 2] = [FormatElement::Dictionary, FormatElement::Literal];
 
-const BINARY: [Slot; 6] = [
-    Slot::Use,
+const BINARY: [FormatElement; 6] = [
+    FormatElement::Use,
     COMMA,
-    Slot::Use,
-    Slot::Dictionary,
+    FormatElement::Use,
+    FormatElement::Dictionary,
     COLON,
-    Slot::Width,
+    FormatElement::Width,
 ];
 
-const COMPARE: [Slot; 8] = [
-    Slot::Predicate,
+const COMPARE: [FormatElement; 8] = [
+    FormatElement::Predicate,
     COMMA,
-    Slot::Use,
+    FormatElement::Use,
     COMMA,
-    Slot::Use,
-    Slot::Dictionary,
+    FormatElement::Use,
+    FormatElement::Dictionary,
     COLON,
-    Slot::Width,
+    FormatElement::Width,
 ];
 
-const SELECT: [Slot; 8] = [
-    Slot::Use,
+const SELECT: [FormatElement; 8] = [
+    FormatElement::Use,
     COMMA,
-    Slot::Use,
+    FormatElement::Use,
     COMMA,
-    Slot::Use,
-    Slot::Dictionary,
+    FormatElement::Use,
+    FormatElement::Dictionary,
     COLON,
-    Slot::Width,
+    FormatElement::Width,
 ];
 
-const CONVERT: [Slot; 6] = [
-    Slot::Use,
-    Slot::Dictionary,
+const CONVERT: [FormatElement; 6] = [
+    FormatElement::Use,
+    FormatElement::Dictionary,
     COLON,
-    Slot::Width,
-    Slot::Word(Keyword::To),
-    Slot::Width,
+    FormatElement::Width,
+    FormatElement::Word(Keyword::To),
+    FormatElement::Width,
 ];
 
-const FOR: [Slot; 9] = [
-    Slot::Argument,
+const FOR: [FormatElement; 9] = [
+    FormatElement::Argument,
     EQUALS,
-    Slot::Use,
-    Slot::Word(Keyword::To),
-    Slot::Use,
-    Slot::Word(Keyword::Step),
-    Slot::Use,
-    Slot::IterArgs,
-    Slot::LoopWidth,
+    FormatElement::Use,
+    FormatElement::Word(Keyword::To),
+    FormatElement::Use,
+    FormatElement::Word(Keyword::Step),
+    FormatElement::Use,
+    FormatElement::IterArgs,
+    FormatElement::LoopWidth,
 ];
 
-const IF: [Slot; 2] = [Slot::Use, Slot::IfResults];
+const IF: [FormatElement; 2] = [FormatElement::Use, FormatElement::IfResults];
 
 /// What stands behind the first word of a row, up to its first brace.
-pub fn row_slots(row: Row) -> &'static [Slot]
+pub fn row_slots(row: Row) -> &'static [FormatElement]
     ensures { result.now ≡ slots row }
 {
     match row {

@@ -3,9 +3,9 @@ ghost use Rattle.std.specs.Prelude.{◌≡◌, ◌≤◌, length, IfOk};
 ghost use Rattle.xf_read_base.specs.Reading.{Gives, by};
 ghost use Rattle.xf_read_base.specs.Parts.{count_at};
 ghost use Rattle.xf_read_base.specs.Rules.{argument_rule, function_name_rule, kind_rule, module_name_rule, predicate_rule, result_rule, symbol_rule, use_rule, width_rule, word_rule};
-ghost use Rattle.xf_read_base.specs.declared.due.Due.TheVariants as due;
+ghost use Rattle.xf_read_base.specs.declared.expected.Expected.TheVariants as due;
 
-use crate::due::{Due, HeadFault};
+use crate::expected::{Expected, HeadFault};
 use crate::names::is_symbol;
 use crate::parts::{Parts, Ref};
 use crate::word::{predicate_of, width_of};
@@ -18,7 +18,7 @@ use xf_type::PayloadType;
 pub fn expects(
     tokens: &[Token],
     kind: TokenKind,
-    due: Due,
+    due: Expected,
     parts: &Parts,
     at: usize,
 ) -> Result<usize, HeadFault>
@@ -41,7 +41,7 @@ pub fn word_is(tokens: &[Token], word: &[u8], parts: &Parts, at: usize) -> Resul
     if says(tokens, at, word) {
         Ok(at + 1)
     } else {
-        Err(HeadFault::At(at, Due::Other))
+        Err(HeadFault::At(at, Expected::Other))
     }
 }
 
@@ -56,9 +56,9 @@ pub fn symbol_at(tokens: &[Token], parts: &mut Parts, at: usize) -> Result<usize
         return Ok(at + 1);
     }
     if looks(tokens, at, TokenKind::Symbol) {
-        return Err(HeadFault::At(at, Due::ListEnd));
+        return Err(HeadFault::At(at, Expected::ListEnd));
     }
-    Err(HeadFault::At(at, Due::Other))
+    Err(HeadFault::At(at, Expected::Other))
 }
 
 /// The symbol of a module, which may be left out.
@@ -73,7 +73,7 @@ pub fn module_name_at(tokens: &[Token], parts: &mut Parts, at: usize) -> Result<
         return Ok(at + 1);
     }
     if looks(tokens, at, TokenKind::Symbol) {
-        return Err(HeadFault::At(at, Due::ListEnd));
+        return Err(HeadFault::At(at, Expected::ListEnd));
     }
     Ok(at)
 }
@@ -93,9 +93,9 @@ pub fn function_name_at(tokens: &[Token], parts: &mut Parts, at: usize) -> Resul
         return Ok(at + 1);
     }
     if looks(tokens, at, TokenKind::Symbol) {
-        return Err(HeadFault::At(at, Due::ListEnd));
+        return Err(HeadFault::At(at, Expected::ListEnd));
     }
-    Err(HeadFault::At(at, Due::FunctionName))
+    Err(HeadFault::At(at, Expected::FunctionName))
 }
 
 /// The name of a block argument.
@@ -105,7 +105,7 @@ pub fn argument_at(tokens: &[Token], parts: &mut Parts, at: usize) -> Result<usi
     ensures within { IfOk result (λ n. (at ≤ n) × (n ≤ length tokens.now)) }
 {
     if !looks(tokens, at, TokenKind::Value) {
-        return Err(HeadFault::At(at, Due::Other));
+        return Err(HeadFault::At(at, Expected::Other));
     }
     parts.args.push(Ref {
         token: at,
@@ -133,7 +133,7 @@ pub fn use_at(tokens: &[Token], parts: &mut Parts, at: usize) -> Result<usize, H
     ensures within { IfOk result (λ n. (at ≤ n) × (n ≤ length tokens.now)) }
 {
     if !looks(tokens, at, TokenKind::Value) {
-        return Err(HeadFault::At(at, Due::Other));
+        return Err(HeadFault::At(at, Expected::Other));
     }
     let next = at + 1;
     if is_index_at(tokens, next) {
@@ -152,7 +152,7 @@ pub fn use_at(tokens: &[Token], parts: &mut Parts, at: usize) -> Result<usize, H
 #[tactic(auto, unfolding(crate::specs::Rules::width_rule))]
 pub fn width_at(
     tokens: &[Token],
-    due: Due,
+    due: Expected,
     parts: &mut Parts,
     at: usize,
 ) -> Result<usize, HeadFault>
@@ -179,7 +179,7 @@ pub fn result_at(tokens: &[Token], parts: &mut Parts, at: usize) -> Result<usize
             parts.results.push(PayloadType::Scalar(width))?;
             Ok(at + 1)
         }
-        None => Err(HeadFault::At(at, Due::Type)),
+        None => Err(HeadFault::At(at, Expected::Type)),
     }
 }
 
@@ -194,6 +194,6 @@ pub fn predicate_at(tokens: &[Token], parts: &mut Parts, at: usize) -> Result<us
             parts.predicate = Some(kind);
             Ok(at + 1)
         }
-        None => Err(HeadFault::At(at, Due::Other)),
+        None => Err(HeadFault::At(at, Expected::Other)),
     }
 }

@@ -4,14 +4,14 @@ ghost use Rattle.xf_read_base.specs.Reading.{Gives, by};
 ghost use Rattle.xf_read_base.specs.Parts.{with_width, with_literal};
 ghost use Rattle.xf_read_base.specs.Rules.{attributes_rule, call_results_rule, dictionary_rule, enclosed_rule, function_results_rule, if_results_rule, iter_args_rule, listed_results_rule, literal_rule, loop_width_rule, number_rule, operands_rule, result_types_rule, slot_rule, slots_rule};
 ghost use Rattle.xf_lex.specs.declared.token.TokenKind.TheVariants as kind;
-ghost use Rattle.xf_read_base.specs.declared.due.Due.TheVariants as due;
+ghost use Rattle.xf_read_base.specs.declared.expected.Expected.TheVariants as due;
 ghost use Rattle.xf_type.specs.declared.payload_type.Width.TheVariants as width;
 ghost use Rattle.xf_read_base.specs.declared.parts.Literal.TheVariants as literal;
 
-use crate::due::{Due, HeadFault};
+use crate::expected::{Expected, HeadFault};
 use crate::list::{Item, list_at, list_until};
 use crate::parts::{Literal, Parts};
-use crate::row::Slot;
+use crate::row::FormatElement;
 use crate::single::{
     argument_at, expects, function_name_at, module_name_at, predicate_at, result_at, symbol_at,
     use_at, width_at, word_is,
@@ -26,7 +26,7 @@ use xf_type::{NoMemory, PayloadType, Width};
 fn number_is(
     tokens: &[Token],
     negative: bool,
-    due: Due,
+    due: Expected,
     parts: &mut Parts,
     at: usize,
 ) -> Result<usize, HeadFault>
@@ -40,8 +40,14 @@ fn number_is(
         negative,
         token: at,
     });
-    let at = expects(tokens, TokenKind::Mark(b':'), Due::Other, parts, at + 1)?;
-    width_at(tokens, Due::Width, parts, at)
+    let at = expects(
+        tokens,
+        TokenKind::Mark(b':'),
+        Expected::Other,
+        parts,
+        at + 1,
+    )?;
+    width_at(tokens, Expected::Width, parts, at)
 }
 
 /// Sets the literal to a truth value, with its width.
@@ -68,12 +74,12 @@ fn literal_at(tokens: &[Token], parts: &mut Parts, at: usize) -> Result<usize, H
         return Ok(at + 1);
     }
     if says(tokens, at, b"dense") {
-        return Err(HeadFault::At(at, Due::OtherReader));
+        return Err(HeadFault::At(at, Expected::OtherReader));
     }
     if looks(tokens, at, TokenKind::Mark(b'-')) {
-        return number_is(tokens, true, Due::Other, parts, at + 1);
+        return number_is(tokens, true, Expected::Other, parts, at + 1);
     }
-    number_is(tokens, false, Due::ConstantValue, parts, at)
+    number_is(tokens, false, Expected::ConstantValue, parts, at)
 }
 
 /// Discardable attributes, which may be left out.
@@ -88,7 +94,7 @@ pub fn dictionary_at(tokens: &[Token], parts: &mut Parts, at: usize) -> Result<u
             tokens,
             Item::Entry,
             TokenKind::Mark(b'}'),
-            Due::Other,
+            Expected::Other,
             parts,
             at + 1,
         )
@@ -107,12 +113,18 @@ fn attributes_at(tokens: &[Token], parts: &mut Parts, at: usize) -> Result<usize
     if !says(tokens, at, b"attributes") {
         return Ok(at);
     }
-    let at = expects(tokens, TokenKind::Mark(b'{'), Due::Other, parts, at + 1)?;
+    let at = expects(
+        tokens,
+        TokenKind::Mark(b'{'),
+        Expected::Other,
+        parts,
+        at + 1,
+    )?;
     list_until(
         tokens,
         Item::Entry,
         TokenKind::Mark(b'}'),
-        Due::Other,
+        Expected::Other,
         parts,
         at,
     )
@@ -122,7 +134,7 @@ fn attributes_at(tokens: &[Token], parts: &mut Parts, at: usize) -> Result<usize
 fn enclosed(
     tokens: &[Token],
     item: Item,
-    due: Due,
+    due: Expected,
     parts: &mut Parts,
     at: usize,
 ) -> Result<usize, HeadFault>
@@ -136,7 +148,7 @@ fn enclosed(
 #[tactic(auto, unfolding(crate::specs::Rules::result_types_rule))]
 fn result_types_at(
     tokens: &[Token],
-    due: Due,
+    due: Expected,
     parts: &mut Parts,
     at: usize,
 ) -> Result<usize, HeadFault>
@@ -156,8 +168,8 @@ fn call_results_at(tokens: &[Token], parts: &mut Parts, at: usize) -> Result<usi
     ensures gives { Gives (λ n. (parts.new, n)) result (by call_results_rule tokens.now parts.old at) }
     ensures within { IfOk result (λ n. (at ≤ n) × (n ≤ length tokens.now)) }
 {
-    let at = expects(tokens, TokenKind::Arrow, Due::Other, parts, at)?;
-    result_types_at(tokens, Due::Other, parts, at)
+    let at = expects(tokens, TokenKind::Arrow, Expected::Other, parts, at)?;
+    result_types_at(tokens, Expected::Other, parts, at)
 }
 
 /// `->` and the result types of a function, which may be left out.
@@ -168,7 +180,7 @@ fn function_results_at(tokens: &[Token], parts: &mut Parts, at: usize) -> Result
     ensures within { IfOk result (λ n. (at ≤ n) × (n ≤ length tokens.now)) }
 {
     if looks(tokens, at, TokenKind::Arrow) {
-        result_types_at(tokens, Due::AfterResult, parts, at + 1)
+        result_types_at(tokens, Expected::AfterResult, parts, at + 1)
     } else {
         Ok(at)
     }
@@ -180,8 +192,8 @@ fn listed_results_at(tokens: &[Token], parts: &mut Parts, at: usize) -> Result<u
     ensures gives { Gives (λ n. (parts.new, n)) result (by listed_results_rule tokens.now parts.old at) }
     ensures within { IfOk result (λ n. (at ≤ n) × (n ≤ length tokens.now)) }
 {
-    let at = expects(tokens, TokenKind::Mark(b'('), Due::Other, parts, at)?;
-    enclosed(tokens, Item::Result, Due::Other, parts, at)
+    let at = expects(tokens, TokenKind::Mark(b'('), Expected::Other, parts, at)?;
+    enclosed(tokens, Item::Result, Expected::Other, parts, at)
 }
 
 /// `->` and result types in parentheses, which may be left out.
@@ -209,7 +221,7 @@ fn operands_at(tokens: &[Token], parts: &mut Parts, at: usize) -> Result<usize, 
         return Ok(at);
     }
     let at = list_at(tokens, Item::Use, parts, at)?;
-    let at = expects(tokens, TokenKind::Mark(b':'), Due::Other, parts, at)?;
+    let at = expects(tokens, TokenKind::Mark(b':'), Expected::Other, parts, at)?;
     list_at(tokens, Item::Type, parts, at)
 }
 
@@ -223,9 +235,15 @@ fn iter_args_at(tokens: &[Token], parts: &mut Parts, at: usize) -> Result<usize,
     if !says(tokens, at, b"iter_args") {
         return Ok(at);
     }
-    let at = expects(tokens, TokenKind::Mark(b'('), Due::Other, parts, at + 1)?;
-    let at = enclosed(tokens, Item::Pair, Due::Other, parts, at)?;
-    let at = expects(tokens, TokenKind::Arrow, Due::Other, parts, at)?;
+    let at = expects(
+        tokens,
+        TokenKind::Mark(b'('),
+        Expected::Other,
+        parts,
+        at + 1,
+    )?;
+    let at = enclosed(tokens, Item::Pair, Expected::Other, parts, at)?;
+    let at = expects(tokens, TokenKind::Arrow, Expected::Other, parts, at)?;
     listed_results_at(tokens, parts, at)
 }
 
@@ -237,47 +255,52 @@ fn loop_width_at(tokens: &[Token], parts: &mut Parts, at: usize) -> Result<usize
     ensures within { IfOk result (λ n. (at ≤ n) × (n ≤ length tokens.now)) }
 {
     if looks(tokens, at, TokenKind::Mark(b':')) {
-        return width_at(tokens, Due::Width, parts, at + 1);
+        return width_at(tokens, Expected::Width, parts, at + 1);
     }
     parts.types.push(PayloadType::Scalar(Width::Index))?;
     Ok(at)
 }
 
 /// A slot.
-fn slot_at(tokens: &[Token], slot: Slot, parts: &mut Parts, at: usize) -> Result<usize, HeadFault>
+fn slot_at(
+    tokens: &[Token],
+    slot: FormatElement,
+    parts: &mut Parts,
+    at: usize,
+) -> Result<usize, HeadFault>
     requires { at ≤ length tokens.now }
     ensures gives { Gives (λ n. (parts.new, n)) result (by (slot_rule slot) tokens.now parts.old at) }
     ensures within { IfOk result (λ n. (at ≤ n) × (n ≤ length tokens.now)) }
 {
     match slot {
-        Slot::Mark(b) => expects(tokens, TokenKind::Mark(b), Due::Other, parts, at),
-        Slot::Word(keyword) => word_is(tokens, spelling(keyword), parts, at),
-        Slot::ModuleName => module_name_at(tokens, parts, at),
-        Slot::FunctionName => function_name_at(tokens, parts, at),
-        Slot::Symbol => symbol_at(tokens, parts, at),
-        Slot::Attributes => attributes_at(tokens, parts, at),
-        Slot::Dictionary => dictionary_at(tokens, parts, at),
-        Slot::Literal => literal_at(tokens, parts, at),
-        Slot::Predicate => predicate_at(tokens, parts, at),
-        Slot::Argument => argument_at(tokens, parts, at),
-        Slot::Use => use_at(tokens, parts, at),
-        Slot::Width => width_at(tokens, Due::ArithWidth, parts, at),
-        Slot::Uses => enclosed(tokens, Item::Use, Due::Other, parts, at),
-        Slot::Types => enclosed(tokens, Item::Type, Due::Other, parts, at),
-        Slot::Params => enclosed(tokens, Item::Param, Due::AfterArgument, parts, at),
-        Slot::Operands => operands_at(tokens, parts, at),
-        Slot::CallResults => call_results_at(tokens, parts, at),
-        Slot::FunctionResults => function_results_at(tokens, parts, at),
-        Slot::IfResults => if_results_at(tokens, parts, at),
-        Slot::IterArgs => iter_args_at(tokens, parts, at),
-        Slot::LoopWidth => loop_width_at(tokens, parts, at),
+        FormatElement::Mark(b) => expects(tokens, TokenKind::Mark(b), Expected::Other, parts, at),
+        FormatElement::Word(keyword) => word_is(tokens, spelling(keyword), parts, at),
+        FormatElement::ModuleName => module_name_at(tokens, parts, at),
+        FormatElement::FunctionName => function_name_at(tokens, parts, at),
+        FormatElement::Symbol => symbol_at(tokens, parts, at),
+        FormatElement::Attributes => attributes_at(tokens, parts, at),
+        FormatElement::Dictionary => dictionary_at(tokens, parts, at),
+        FormatElement::Literal => literal_at(tokens, parts, at),
+        FormatElement::Predicate => predicate_at(tokens, parts, at),
+        FormatElement::Argument => argument_at(tokens, parts, at),
+        FormatElement::Use => use_at(tokens, parts, at),
+        FormatElement::Width => width_at(tokens, Expected::ArithWidth, parts, at),
+        FormatElement::Uses => enclosed(tokens, Item::Use, Expected::Other, parts, at),
+        FormatElement::Types => enclosed(tokens, Item::Type, Expected::Other, parts, at),
+        FormatElement::Params => enclosed(tokens, Item::Param, Expected::AfterArgument, parts, at),
+        FormatElement::Operands => operands_at(tokens, parts, at),
+        FormatElement::CallResults => call_results_at(tokens, parts, at),
+        FormatElement::FunctionResults => function_results_at(tokens, parts, at),
+        FormatElement::IfResults => if_results_at(tokens, parts, at),
+        FormatElement::IterArgs => iter_args_at(tokens, parts, at),
+        FormatElement::LoopWidth => loop_width_at(tokens, parts, at),
     }
 }
 
 /// What the slots of a row write, from a token on.
 pub fn slots_at(
     tokens: &[Token],
-    slots: &[Slot],
+    slots: &[FormatElement],
     parts: &mut Parts,
     at: usize,
 ) -> Result<usize, HeadFault>

@@ -1,10 +1,10 @@
 //! The head of an operation by what it means.
 ghost use Rattle.std.specs.Prelude.{◌≡◌, ◌++◌, IfOk};
-ghost use Rattle.xf_grammar.specs.Tokens.{seen};
+ghost use Rattle.xf_grammar.specs.Tokens.{terminal_at};
 ghost use Rattle.xf_read_base.specs.Spelt.{Answers, begins_row, EndsWithin, head_of, head_spelt, stated_by, stopped};
 
-use crate::due::{Due, HeadFault};
 use crate::entries::attributes;
+use crate::expected::{Expected, HeadFault};
 use crate::heads::head_at;
 use crate::kinds::kind_of;
 use crate::parts::{Head, Literal, Parts};
@@ -66,18 +66,18 @@ fn head_of(alloc: Global, tokens: &[Token], parts: Parts, next: usize) -> Result
 
 /// Whether an operation of this reader begins there.
 fn begins_row(tokens: &[Token], at: usize) -> bool
-    ensures { result ≡ begins_row (seen tokens.now at) }
+    ensures { result ≡ begins_row (terminal_at tokens.now at) }
 {
     matches!(opening_of(word_at(tokens, at)), Opening::Row(_))
 }
 
 /// The fault at a token that fits no head; none where no operation of this reader begins.
-fn stopped(tokens: &[Token], at: usize, due: Due) -> Option<Fault>
+fn stopped(tokens: &[Token], at: usize, due: Expected) -> Option<Fault>
     ensures { result ≡ stopped tokens.now at due }
 {
     match due {
-        Due::OtherReader => None,
-        Due::Operation if !begins_row(tokens, at) => None,
+        Expected::OtherReader => None,
+        Expected::Operation if !begins_row(tokens, at) => None,
         due => Some(due_fault(tokens, at, due)),
     }
 }

@@ -2,7 +2,7 @@
 ghost use Rattle.std.specs.Prelude.{◌≡◌};
 ghost use Rattle.xf_read_base.specs.Stops.{stop_place, judged, due_fault};
 
-use crate::due::Due;
+use crate::expected::Expected;
 use crate::verdict::{Verdict, judge};
 use xf_lex::Token;
 use xf_span::{Code, FIRST_PLACE, Fault, Place, place_after};
@@ -35,7 +35,7 @@ fn judged(verdict: Verdict, place: Place) -> Fault
 /// The fault at the first token that fits nothing, by what was due there: out of profile where the
 /// token is listed as a form of MLIR that is not supported, not built where another reader's form
 /// stands, too many where it is one item too many or too long, and else of the syntax.
-pub fn due_fault(tokens: &[Token], at: usize, due: Due) -> Fault
+pub fn due_fault(tokens: &[Token], at: usize, due: Expected) -> Fault
     ensures { result ≡ due_fault tokens.now at due }
 {
     judged(judge(tokens, at, due), stop_place(tokens, at))

@@ -1,9 +1,9 @@
 //! The code of the fault at the token that fits no head.
 ghost use Rattle.std.specs.Prelude.{◌≡◌, ◌+◌, length, drop};
-ghost use Rattle.xf_grammar.specs.Tokens.{seen};
+ghost use Rattle.xf_grammar.specs.Tokens.{terminal_at};
 ghost use Rattle.xf_read_base.specs.Verdicts.{number_if, one_of, divisions, loops, structured, floats, is_other_integer, attribute_words, begins, has_dot, dotted_number, word_number, all_digits, digits_behind, type_number, begins_attribute, begins_constant, anywhere, unnamed_number, operation_number, file_number, value_number, listed_number, is_not_built, listed, verdict};
 
-use crate::due::Due;
+use crate::expected::Expected;
 use crate::word::width_of;
 use xf_grammar::{looks, says, word_at};
 use xf_lex::{Token, TokenKind};
@@ -175,7 +175,7 @@ fn type_number(word: &[u8]) -> Option<u32>
 
 /// Whether a token begins an attribute that is not supported.
 fn begins_attribute(tokens: &[Token], at: usize) -> bool
-    ensures { result ≡ begins_attribute (seen tokens.now at) }
+    ensures { result ≡ begins_attribute (terminal_at tokens.now at) }
 {
     let word = word_at(tokens, at);
     looks(tokens, at, TokenKind::Mark(b'['))
@@ -190,14 +190,14 @@ fn begins_attribute(tokens: &[Token], at: usize) -> bool
 
 /// Whether a token begins a constant that is not supported.
 fn begins_constant(tokens: &[Token], at: usize) -> bool
-    ensures { result ≡ begins_constant (seen tokens.now at) }
+    ensures { result ≡ begins_constant (terminal_at tokens.now at) }
 {
     looks(tokens, at, TokenKind::Text) || says(tokens, at, b"unit") || begins_attribute(tokens, at)
 }
 
 /// The number of what is not supported wherever it stands.
 fn anywhere(tokens: &[Token], at: usize, next: usize) -> Option<u32>
-    ensures { result ≡ anywhere (seen tokens.now at) (seen tokens.now next) }
+    ensures { result ≡ anywhere (terminal_at tokens.now at) (terminal_at tokens.now next) }
 {
     if says(tokens, at, b"overflow") && looks(tokens, next, TokenKind::Mark(b'<')) {
         Some(3)
@@ -214,7 +214,7 @@ fn anywhere(tokens: &[Token], at: usize, next: usize) -> Option<u32>
 
 /// The number of a string or of the name of a block.
 fn unnamed_number(tokens: &[Token], at: usize) -> Option<u32>
-    ensures { result ≡ unnamed_number (seen tokens.now at) }
+    ensures { result ≡ unnamed_number (terminal_at tokens.now at) }
 {
     if looks(tokens, at, TokenKind::Text) {
         Some(11)
@@ -227,14 +227,14 @@ fn unnamed_number(tokens: &[Token], at: usize) -> Option<u32>
 
 /// The number of a token in the place of an operation or a function.
 fn operation_number(tokens: &[Token], at: usize) -> Option<u32>
-    ensures { result ≡ operation_number (seen tokens.now at) }
+    ensures { result ≡ operation_number (terminal_at tokens.now at) }
 {
     unnamed_number(tokens, at).or(word_number(word_at(tokens, at)))
 }
 
 /// The number of a token where a file begins.
 fn file_number(tokens: &[Token], at: usize) -> Option<u32>
-    ensures { result ≡ file_number (seen tokens.now at) }
+    ensures { result ≡ file_number (terminal_at tokens.now at) }
 {
     unnamed_number(tokens, at).or(dotted_number(word_at(tokens, at)))
 }
@@ -247,46 +247,46 @@ fn number_if(is_listed: bool, number: u32) -> Option<u32>
 
 /// The number of a token in the place of a value: of a type its own, else that of other attributes.
 fn value_number(tokens: &[Token], at: usize, is_value: bool) -> Option<u32>
-    ensures { result ≡ value_number is_value (seen tokens.now at) }
+    ensures { result ≡ value_number is_value (terminal_at tokens.now at) }
 {
     type_number(word_at(tokens, at)).or(number_if(is_value, 14))
 }
 
 /// The number of what is not supported in the place of what was due.
-fn listed_number(tokens: &[Token], at: usize, due: Due) -> Option<u32>
-    ensures { result ≡ listed_number due (seen tokens.now at) }
+fn listed_number(tokens: &[Token], at: usize, due: Expected) -> Option<u32>
+    ensures { result ≡ listed_number due (terminal_at tokens.now at) }
 {
     let word = word_at(tokens, at);
     match due {
-        Due::File => file_number(tokens, at),
-        Due::Function | Due::Operation => operation_number(tokens, at),
-        Due::ArithWidth if says(tokens, at, b"tensor") => Some(18),
-        Due::Type | Due::Width | Due::ArithWidth => type_number(word),
-        Due::AttributeValue => value_number(tokens, at, begins_attribute(tokens, at)),
-        Due::ConstantValue => value_number(tokens, at, begins_constant(tokens, at)),
-        Due::FunctionName => number_if(
+        Expected::File => file_number(tokens, at),
+        Expected::Function | Expected::Operation => operation_number(tokens, at),
+        Expected::ArithWidth if says(tokens, at, b"tensor") => Some(18),
+        Expected::Type | Expected::Width | Expected::ArithWidth => type_number(word),
+        Expected::AttributeValue => value_number(tokens, at, begins_attribute(tokens, at)),
+        Expected::ConstantValue => value_number(tokens, at, begins_constant(tokens, at)),
+        Expected::FunctionName => number_if(
             word == b"public".as_slice() || word == b"nested".as_slice(),
             19,
         ),
-        Due::AfterArgument | Due::AfterResult => {
+        Expected::AfterArgument | Expected::AfterResult => {
             number_if(looks(tokens, at, TokenKind::Mark(b'{')), 13)
         }
-        Due::FunctionBody => number_if(
+        Expected::FunctionBody => number_if(
             looks(tokens, at, TokenKind::Mark(b'}')) || says(tokens, at, b"func.func"),
             19,
         ),
-        Due::OtherReader | Due::ListEnd | Due::Other => None,
+        Expected::OtherReader | Expected::ListEnd | Expected::Other => None,
     }
 }
 
 /// Whether a token begins what is not built yet.
-fn is_not_built(tokens: &[Token], at: usize, due: Due) -> bool
-    ensures { result ≡ is_not_built due (seen tokens.now at) }
+fn is_not_built(tokens: &[Token], at: usize, due: Expected) -> bool
+    ensures { result ≡ is_not_built due (terminal_at tokens.now at) }
 {
     match due {
-        Due::File => looks(tokens, at, TokenKind::Hash),
-        Due::OtherReader => true,
-        Due::Type => says(tokens, at, b"tensor"),
+        Expected::File => looks(tokens, at, TokenKind::Hash),
+        Expected::OtherReader => true,
+        Expected::Type => says(tokens, at, b"tensor"),
         _ => false,
     }
 }
@@ -294,16 +294,16 @@ fn is_not_built(tokens: &[Token], at: usize, due: Due) -> bool
 /// The number of the token behind a token; behind the end stands the end.
 #[tactic(auto, using(crate::proofs::Ends::seen_past))]
 fn behind(tokens: &[Token], at: usize) -> usize
-    ensures { seen tokens.now result ≡ seen tokens.now (at + 1) }
+    ensures { terminal_at tokens.now result ≡ terminal_at tokens.now (at + 1) }
 {
     if at < tokens.len() { at + 1 } else { at }
 }
 
 /// What the token is that fits no head, by what was due there.
-pub fn judge(tokens: &[Token], at: usize, due: Due) -> Verdict
-    ensures { result ≡ verdict due (seen tokens.now at) (seen tokens.now (at + 1)) }
+pub fn judge(tokens: &[Token], at: usize, due: Expected) -> Verdict
+    ensures { result ≡ verdict due (terminal_at tokens.now at) (terminal_at tokens.now (at + 1)) }
 {
-    if due == Due::ListEnd {
+    if due == Expected::ListEnd {
         return Verdict::TooMany;
     }
     if let Some(number) = anywhere(tokens, at, behind(tokens, at)) {

@@ -16,7 +16,7 @@ use Rattle.xf_ir.specs.Valid.{OpsSee, RegionsSee}
 use Rattle.xf_ir.specs.Renamed.{ops_renamed, regions_renamed}
 use Rattle.xf_read.specs.Meant.{joined, yield_tree}
 use Rattle.xf_read.specs.Names.{op_name}
-use Rattle.xf_read.specs.Scopes.{Scope}
+use Rattle.xf_read.specs.Scopes.{Meanings}
 use Rattle.xf_read.specs.Syntax.{ends_open}
 use Rattle.xf_read.specs.Types.{operands_by, stated_by, fits}
 use Rattle.xf_read.specs.Written.{SaidNodes, node_said, SaidBodies, says_yield_last, operations, left_out, operations_inside}
@@ -159,7 +159,7 @@ abbrev mutual
 
 -- ---- one head
 
-uses_fit_by : (scope : Scope) (t : Said) (i : ℕ) (us : List UseSaid) → uses_fit scope t i us ≡ all_fit t i (map (use_type scope) us)
+uses_fit_by : (scope : Meanings) (t : Said) (i : ℕ) (us : List UseSaid) → uses_fit scope t i us ≡ all_fit t i (map (use_type scope) us)
 uses_fit_by scope t i [] = refl
 uses_fit_by scope t i (u ∷ us) = ap (λ b. fits (stated_by t.row (shape t) i) (use_type scope u) && b) (uses_fit_by scope t (i + 1) us)
 
@@ -175,7 +175,7 @@ pub all_true : (a b : Bool) → a ≡ true → b ≡ true → (a && b) ≡ true
 all_true a b p q = rw (p, q) refl
 
 -- a head whose names are free, and that says what its operation is
-pub head_is_well : (names : Names) (renamed : OpName → OpName) (n k a : ℕ) (kd : Kind) (ds : List Attr) (os : List ValueName) (ts args : List PayloadType) (named : Option (List ℕ)) (ss : List Seen) (scope : Scope)
+pub head_is_well : (names : Names) (renamed : OpName → OpName) (n k a : ℕ) (kd : Kind) (ds : List Attr) (os : List ValueName) (ts args : List PayloadType) (named : Option (List ℕ)) (ss : List Seen) (scope : Meanings)
     → SaysIt names (head_by names k a kd ds os ts args) kd ds os ts args named → k < 2 ^ 64 → a + length args < 2 ^ 64 → symbol_new scope named ≡ true → AllSeen ss os → Knows ss names renamed scope → Clear k a scope
     → head_well n (head_by names k a kd ds os ts args) scope ≡ true
 head_is_well names renamed n k a kd ds os ts args named ss scope says lt room new h w c =
@@ -251,21 +251,21 @@ mutual
 -- ---- all operations
 
 -- what is printed of operations is right, and means them again
-pub record OpsAgain (names : Names) (renamed : OpName → OpName) (n : ℕ) (scope : Scope) (ops : Ops) : Type 0 where
+pub record OpsAgain (names : Names) (renamed : OpName → OpName) (n : ℕ) (scope : Meanings) (ops : Ops) : Type 0 where
   pub well : nodes_well n scope (ops_printed names ops) ≡ true
   pub means : joined (ops_said n scope (ops_printed names ops)) (end_yield ops (n + operations (ops_printed names ops))) ≡ ops_renamed renamed ops
 
-pub record RegionsAgain (names : Names) (renamed : OpName → OpName) (n : ℕ) (scope : Scope) (t : Said) (rs : Regions) : Type 0 where
+pub record RegionsAgain (names : Names) (renamed : OpName → OpName) (n : ℕ) (scope : Meanings) (t : Said) (rs : Regions) : Type 0 where
   pub well : bodies_well n t scope (regions_printed names rs) ≡ true
   pub means : regions_said n t scope (regions_printed names rs) ≡ regions_renamed renamed rs
 
-yield_again : (names : Names) (renamed : OpName → OpName) (m : OpName) (n : ℕ) (scope : Scope) → renamed m ≡ op_name n → OpsAgain names renamed n scope (op m kind.Yield [] [] [] no_regions no_ops)
+yield_again : (names : Names) (renamed : OpName → OpName) (m : OpName) (n : ℕ) (scope : Meanings) → renamed m ≡ op_name n → OpsAgain names renamed n scope (op m kind.Yield [] [] [] no_regions no_ops)
 yield_again names renamed m n scope e =
     let z : n + 0 ≡ n = omega arith in
     record { well = refl; means = ap (λ x. op x kind.Yield [] [] [] no_regions no_ops) (ap op_name z ∙ sym e) }
 
-node_again : (names : Names) (renamed : OpName → OpName) (m : OpName) (n k a : ℕ) (kd : Kind) (ds : List Attr) (os : List ValueName) (ts : List PayloadType) (rs : Regions) (rest : Ops) (ss : List Seen) (scope : Scope)
-    → Shown names m k a kd ds os ts (first_args rs) → renamed m ≡ op_name n → Knows ss names renamed scope → AllSeen ss os → (scope_in scope_behind : Scope)
+node_again : (names : Names) (renamed : OpName → OpName) (m : OpName) (n k a : ℕ) (kd : Kind) (ds : List Attr) (os : List ValueName) (ts : List PayloadType) (rs : Regions) (rest : Ops) (ss : List Seen) (scope : Meanings)
+    → Shown names m k a kd ds os ts (first_args rs) → renamed m ≡ op_name n → Knows ss names renamed scope → AllSeen ss os → (scope_in scope_behind : Meanings)
     → inside_said n (head_by names k a kd ds os ts (first_args rs)) scope ≡ scope_in → behind_said n (head_by names k a kd ds os ts (first_args rs)) scope ≡ scope_behind → head_well n (head_by names k a kd ds os ts (first_args rs)) scope ≡ true
     → operations_inside (head_by names k a kd ds os ts (first_args rs)) (regions_printed names rs) ≡ regions_count rs → RegionsAgain names renamed (n + 1) scope_in (head_by names k a kd ds os ts (first_args rs)) rs
     → OpsAgain names renamed (n + (1 + regions_count rs)) scope_behind rest → OpsAgain names renamed n scope (op m kd ds os ts rs rest)
@@ -296,7 +296,7 @@ node_again names renamed m n k a kd ds os ts rs rest ss scope s r w h scope_in s
     }
 
 mutual
-  pub ops_again : (names : Names) (renamed : OpName → OpName) (ops : Ops) (ss : List Seen) (n k a : ℕ) (scope : Scope) → OpsSo names renamed n k a ops → OpsSee ss ops → Knows ss names renamed scope → Clear k a scope → OpsAgain names renamed n scope ops
+  pub ops_again : (names : Names) (renamed : OpName → OpName) (ops : Ops) (ss : List Seen) (n k a : ℕ) (scope : Meanings) → OpsSo names renamed n k a ops → OpsSee ss ops → Knows ss names renamed scope → Clear k a scope → OpsAgain names renamed n scope ops
   ops_again names renamed no_ops ss n k a scope so h w c = record { well = refl; means = refl }
   ops_again names renamed (op m kd ds os ts rs rest) ss n k a scope so h w c = elim so.1 [
     | inl y ↦ subst (OpsAgain names renamed n scope) (last_yield m kd ds os ts rs rest y) (yield_again names renamed m n scope so.0)
@@ -307,8 +307,8 @@ mutual
         let ns : SaidNodes = ops_printed names rest in
         let k' : ℕ = next_number k ts in
         let a' : ℕ = a + length first in
-        let scope_in : Scope = with_arguments n 0 first (arguments_printed a first) scope in
-        let scope_behind : Scope = with_defines n ts (defines_printed k ts) scope in
+        let scope_in : Meanings = with_arguments n 0 first (arguments_printed a first) scope in
+        let scope_behind : Meanings = with_defines n ts (defines_printed k ts) scope in
         let says = s.0.says in
         let e_in : inside_said n t scope ≡ scope_in = ap (λ xs. with_arguments n 0 xs (arguments_printed a first) scope) says.arguments in
         let xs = says.results in
@@ -331,7 +331,7 @@ mutual
         node_again names renamed m n k a kd ds os ts rs rest ss scope s.0 so.0 w h.0 scope_in scope_behind e_in e_behind head count inner later
   ]
 
-  pub regions_again : (names : Names) (renamed : OpName → OpName) (rs : Regions) (ss : List Seen) (m : OpName) (n k a i : ℕ) (scope : Scope) (t : Said) (first : List PayloadType) → argument_types t ≡ first → RegionsSo names renamed n k a i t first rs → RegionsSee ss m i rs
+  pub regions_again : (names : Names) (renamed : OpName → OpName) (rs : Regions) (ss : List Seen) (m : OpName) (n k a i : ℕ) (scope : Meanings) (t : Said) (first : List PayloadType) → argument_types t ≡ first → RegionsSo names renamed n k a i t first rs → RegionsSee ss m i rs
       → ((j : ℕ) → IsFirst j first → Knows (inside m j (length first) ∷ ss) names renamed scope) → Clear k a scope → RegionsAgain names renamed n scope t rs
   regions_again names renamed no_regions ss m n k a i scope t first e so h w c = record { well = refl; means = refl }
   regions_again names renamed (region args ops rest) ss m n k a i scope t first e so h w c =

@@ -7,7 +7,7 @@ use Rattle.xf_ir.specs.Lists.{Each, same_name, is_among, Once}
 use Rattle.xf_ir.specs.Tree.{Ops, no_ops, op, Regions, no_regions, region}
 use Rattle.xf_ir.specs.Walk.{ops_names, regions_names}
 use Rattle.xf_ir.proofs.Lists.{name_is, own_name, other_way, not_left, not_right, once_left, once_right, once_apart, each_left, each_right}
-use Rattle.xf_ir.specs.PrintedNames.{Entry, Names, first_args, next_number, with_op, with_ops, with_regions}
+use Rattle.xf_ir.specs.PrintedNames.{DefinedValues, Names, first_args, next_number, with_op, with_ops, with_regions}
 use Rattle.xf_roundtrip.proofs.Again.{ops_count, regions_count, ops_number, regions_number, ops_argument, regions_argument}
 use Rattle.xf_roundtrip.proofs.Names.{HasEntry}
 
@@ -162,7 +162,7 @@ mutual
       let two : Names = with_regions one rs in
       let inner = regions_names rs in
       let outer = ops_names rest in
-      let entry : Entry = record { number = names.number; results = ts; first = names.argument; args = first_args rs } in
+      let entry : DefinedValues = record { number = names.number; results = ts; first = names.argument; args = first_args rs } in
       let own : (n.0 == n.0) ≡ true = own_name n in
       let here : one.entry n.0 ≡ Some entry = rw own refl in
       let is : all.entry n.0 ≡ Some entry = e.0 ∙ (ops_absent n rest two (not_right n inner outer o.0) ∙ (regions_absent n rs one (not_left n inner outer o.0) ∙ here)) in

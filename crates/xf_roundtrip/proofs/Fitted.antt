@@ -10,7 +10,7 @@ use Rattle.xf_ir.specs.declared.kind.Attr.{Attr}
 use Rattle.xf_ir.specs.declared.kind.Kind.{Kind}
 use Rattle.xf_ir.specs.declared.kind.Kind.TheVariants as kind
 use Rattle.xf_ir.specs.declared.op.Module.{Module}
-use Rattle.xf_ir.specs.Kinds.{ends, ends_for, is_module, returned_types}
+use Rattle.xf_ir.specs.Kinds.{is_terminator, ends_for, is_module, returned_types}
 use Rattle.xf_ir.specs.Lists.{Each, every, Once}
 use Rattle.xf_ir.specs.Places.{Seen, done, inside, below, sees, AllSeen}
 use Rattle.xf_ir.specs.Placed.{Typed, type_at, Holder, holder_of, Placed, place, placed, top, functions_of, block_of, root_holder}
@@ -30,7 +30,7 @@ use Rattle.xf_ir_laws.proofs.Obeys.{OpsObey, RegionsObey, FunctionsObey, BlocksO
 use Rattle.xf_ir.proofs.Root.{one_block}
 use Rattle.xf_ir.specs.Bounds.{HasShortLists}
 use Rattle.xf_read.specs.Syntax.{most_operations}
-use Rattle.xf_ir.specs.PrintedNames.{Entry, Names, no_names, with_ops, first_args, next_number, number_of, first_of}
+use Rattle.xf_ir.specs.PrintedNames.{DefinedValues, Names, no_names, with_ops, first_args, next_number, number_of, first_of}
 use Rattle.xf_roundtrip.specs.Printing.{is_core, all_scalar, is_core_op, IsCore}
 use Rattle.xf_roundtrip.specs.Printable.{AllBytes, FunctionsNumber}
 use Rattle.xf_roundtrip.proofs.Needs.{Known, IsScalar, Fits, OpsFit, RegionsFit, FunctionsFit, ModuleFits}
@@ -112,7 +112,7 @@ rules_of sigs (x ∷ xs) a b c d e f g = (record { regions = a.0; blocks = b.0; 
 
 -- an operation that keeps the rules fits, where its entry and its operands are known
 op_fits : (names : Names) (sigs : Signatures) (h : Holder) (env : Typed) (n : OpName) (k : Kind) (ds : List Attr) (os : List ValueName) (ts : List PayloadType) (rs : Regions) (after rest : Ops)
-    → Rules sigs (place h env (record { name = n; kind = k; attrs = ds; operands = os; results = ts; regions = rs }) after) → (not (ends k) || is_end rest) ≡ true → Each (Known names) os
+    → Rules sigs (place h env (record { name = n; kind = k; attrs = ds; operands = os; results = ts; regions = rs }) after) → (not (is_terminator k) || is_end rest) ≡ true → Each (Known names) os
     → number_of (names.entry n.0) < 2 ^ 64 → first_of (names.entry n.0) + length (first_args rs) < 2 ^ 64 → Fits names n k ds os ts rs rest
 op_fits names sigs h env n k ds os ts rs after rest r last values number first =
     let at = and_parts (kind_fits k) (attributes_fit ds) r.attributes in
@@ -142,8 +142,8 @@ last_of true b c e = refl
 last_of false true c e = refl
 last_of false false c e = e
 
-last_right : (sigs : Signatures) (p : Placed) → Rules sigs p → (not (ends p.tree.kind) || is_end p.after) ≡ true
-last_right sigs p r = last_of (not (ends p.tree.kind)) (is_end p.after) (ends_for p.holder.kind p.tree.kind) (and_parts (blocks_end p.tree.kind p.tree.regions) _ r.blocks).1
+last_right : (sigs : Signatures) (p : Placed) → Rules sigs p → (not (is_terminator p.tree.kind) || is_end p.after) ≡ true
+last_right sigs p r = last_of (not (is_terminator p.tree.kind)) (is_end p.after) (ends_for p.holder.kind p.tree.kind) (and_parts (blocks_end p.tree.kind p.tree.regions) _ r.blocks).1
 
 -- ---- operations
 
@@ -199,7 +199,7 @@ mutual
 
 -- ---- functions
 
-each_same : (f : OpName → Option Entry) (ns : List OpName) → Each (λ n. f n ≡ f n) ns
+each_same : (f : OpName → Option DefinedValues) (ns : List OpName) → Each (λ n. f n ≡ f n) ns
 each_same f [] = tt
 each_same f (n ∷ ns) = (refl, each_same f ns)
 
@@ -255,8 +255,8 @@ root_empty sigs k symbol os ts e h =
     let p = and_parts (have_types os []) (same_types ts []) f in
     (have_length os [] p.0, none_by_length ts (same_length _ ts [] p.1))
 
-no_end_at_root : (k : Kind) (symbol : Option (List ℕ)) → k ≡ kind.Module symbol → (not (ends k) || true) ≡ true
-no_end_at_root k symbol e = ap (λ x. not (ends x) || true) e
+no_end_at_root : (k : Kind) (symbol : Option (List ℕ)) → k ≡ kind.Module symbol → (not (is_terminator k) || true) ≡ true
+no_end_at_root k symbol e = ap (λ x. not (is_terminator x) || true) e
 
 pub module_fits : (m : Module) → IsValid m → IsCore m → IsStored m → tree_count m.root ≤ most_operations → ModuleFits m
 module_fits m v core st few =

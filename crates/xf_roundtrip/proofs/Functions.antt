@@ -18,7 +18,7 @@ use Rattle.xf_ir.specs.Tree.{Ops, no_ops, op, Regions, no_regions, region, cons}
 use Rattle.xf_ir.specs.Valid.{block_of, FunctionsSee, symbols_of, symbols_before}
 use Rattle.xf_read.specs.Meant.{joined, yield_tree}
 use Rattle.xf_read.specs.Names.{op_name, symbol_named}
-use Rattle.xf_read.specs.Scopes.{Scope, no_names, with_name}
+use Rattle.xf_read.specs.Scopes.{Meanings, no_names, with_name}
 use Rattle.xf_read.specs.Syntax.{ends_open}
 use Rattle.xf_read.specs.Written.{SaidNodes, no_nodes_said, node_said, SaidBodies, no_bodies_said, body_said, says_yield_last, operations, operations_inside}
 use Rattle.xf_ir.specs.PrintedNames.{Names, first_args, with_ops, number_of, first_of}
@@ -59,7 +59,7 @@ FunctionsSo renamed n (op m k ds os ts rs rest) =
 -- ---- symbols
 
 -- no function's symbol is visible
-abbrev pub SymbolsFree : Scope → List (List ℕ) → Type 0
+abbrev pub SymbolsFree : Meanings → List (List ℕ) → Type 0
 SymbolsFree scope [] = Unit {0}
 SymbolsFree scope (s ∷ ss) = (scope (64 ∷ s) ≡ None) × SymbolsFree scope ss
 
@@ -71,30 +71,30 @@ texts_differ true s t e n = absurd (let p = (bytes_eq-Decides (64 ∷ s) (64 ∷
     same_self [] = refl
     same_self (x ∷ t) = let e = eq-eqb x x refl in rw e (same_self t)
 
-symbols_still_free : (scope : Scope) (s : List ℕ) (ss : List (List ℕ)) → is_text_among s ss ≡ false → SymbolsFree scope ss → SymbolsFree (with_name (64 ∷ s) symbol_named scope) ss
+symbols_still_free : (scope : Meanings) (s : List ℕ) (ss : List (List ℕ)) → is_text_among s ss ≡ false → SymbolsFree scope ss → SymbolsFree (with_name (64 ∷ s) symbol_named scope) ss
 symbols_still_free scope s [] a f = tt
 symbols_still_free scope s (t ∷ ss) a f =
     let p = or_parts (same_bytes t s) (is_text_among s ss) a in
     let e = texts_differ (bytes_eq (64 ∷ s) (64 ∷ t)) s t refl p.0 in
     (rw e f.0, symbols_still_free scope s ss p.1 f.1)
 
-symbol_clear : (s : List ℕ) (scope : Scope) → Clear 0 0 scope → Clear 0 0 (with_name (64 ∷ s) symbol_named scope)
+symbol_clear : (s : List ℕ) (scope : Meanings) → Clear 0 0 scope → Clear 0 0 (with_name (64 ∷ s) symbol_named scope)
 symbol_clear s scope c = record { numbers = λ j le lt. c.numbers j le lt; arguments = λ j le lt. c.arguments j le lt }
 
-knows_nothing : (names : Names) (renamed : OpName → OpName) (scope : Scope) → Knows [] names renamed scope
+knows_nothing : (names : Names) (renamed : OpName → OpName) (scope : Meanings) → Knows [] names renamed scope
 knows_nothing names renamed scope = record { by = λ v s. absurd (let z : false ≡ true = s in cc) }
 
 -- ---- functions
 
-behind_is : (n : ℕ) (t : Said) (ts : List PayloadType) (scope : Scope) (symbol : List ℕ) → t.defines ≡ defines_printed 0 ts → ts ≡ [] → function_named t.row t.symbol ≡ Some (64 ∷ symbol) → behind_said n t scope ≡ with_name (64 ∷ symbol) symbol_named scope
+behind_is : (n : ℕ) (t : Said) (ts : List PayloadType) (scope : Meanings) (symbol : List ℕ) → t.defines ≡ defines_printed 0 ts → ts ≡ [] → function_named t.row t.symbol ≡ Some (64 ∷ symbol) → behind_said n t scope ≡ with_name (64 ∷ symbol) symbol_named scope
 behind_is n t ts scope symbol d e f =
     let x = d ∙ ap (defines_printed 0) e in
     λ i. with_defines n (result_types t) (x i) (with_function (f i) scope)
 
-values_none : (names : Names) (renamed : OpName → OpName) (os : List ValueName) (scope : Scope) → os ≡ [] → map (use_value scope) (map (use_printed names) os) ≡ map (value_renamed renamed) os
+values_none : (names : Names) (renamed : OpName → OpName) (os : List ValueName) (scope : Meanings) → os ≡ [] → map (use_value scope) (map (use_printed names) os) ≡ map (value_renamed renamed) os
 values_none names renamed os scope e = subst (λ xs. map (use_value scope) (map (use_printed names) xs) ≡ map (value_renamed renamed) xs) (sym e) refl
 
-pub record FunctionsAgain (renamed : OpName → OpName) (n : ℕ) (scope : Scope) (fs : Ops) : Type 0 where
+pub record FunctionsAgain (renamed : OpName → OpName) (n : ℕ) (scope : Meanings) (fs : Ops) : Type 0 where
   pub well : nodes_well n scope (functions_printed fs) ≡ true
   pub means : ops_said n scope (functions_printed fs) ≡ ops_renamed renamed fs
 
@@ -111,7 +111,7 @@ symbols_are : (k : Kind) (more : List (List ℕ)) (s : List ℕ) → symbols_bef
 symbols_are (kind.Func symbol private results) more s e = let p : symbol ≡ s = cc in ap (λ x. x ∷ more) p
 symbols_are k more s e = absurd cc
 
-pub functions_again : (renamed : OpName → OpName) (fs : Ops) (n : ℕ) (scope : Scope) → FunctionsSo renamed n fs → FunctionsSee fs → Clear 0 0 scope → TextsOnce (symbols_of fs) → SymbolsFree scope (symbols_of fs) → FunctionsAgain renamed n scope fs
+pub functions_again : (renamed : OpName → OpName) (fs : Ops) (n : ℕ) (scope : Meanings) → FunctionsSo renamed n fs → FunctionsSee fs → Clear 0 0 scope → TextsOnce (symbols_of fs) → SymbolsFree scope (symbols_of fs) → FunctionsAgain renamed n scope fs
 functions_again renamed no_ops n scope so h c o f = record { well = refl; means = refl }
 functions_again renamed (op m k ds os ts rs rest) n scope so h c o f =
     let symbol : List ℕ = so.1.0 in
@@ -130,8 +130,8 @@ functions_again renamed (op m k ds os ts rs rest) n scope so h c o f =
     let free = subst (SymbolsFree scope) e f in
     let new : symbol_new scope (Some (64 ∷ symbol)) ≡ true = ap (λ x. not (is_some x)) free.0 in
     let w : Knows [] names renamed scope = knows_nothing names renamed scope in
-    let scope_in : Scope = with_arguments n 0 first (arguments_printed 0 first) scope in
-    let scope_behind : Scope = with_name (64 ∷ symbol) symbol_named scope in
+    let scope_in : Meanings = with_arguments n 0 first (arguments_printed 0 first) scope in
+    let scope_behind : Meanings = with_name (64 ∷ symbol) symbol_named scope in
     let e_in : inside_said n t scope ≡ scope_in = ap (λ xs. with_arguments n 0 xs (arguments_printed 0 first) scope) says.arguments in
     let e_behind : behind_said n t scope ≡ scope_behind = behind_is n t ts scope symbol refl s.results says.symbol in
     let head = head_is_well names renamed n 0 0 k ds os ts first (Some (64 ∷ symbol)) [] scope says zero_small room new h.0 w c in
@@ -194,7 +194,7 @@ module_again renamed m so =
     let none : 0 < 2 ^ 64 = omega arith in
     let short : 0 + 0 < 2 ^ 64 = omega arith in
     let head = head_is_well no_numbers renamed 0 0 0 m.root.kind m.root.attrs m.root.operands m.root.results [] None [] no_names says none short refl seen (knows_nothing no_numbers renamed no_names) clear in
-    let scope : Scope = inside_said 0 t no_names in
+    let scope : Meanings = inside_said 0 t no_names in
     let e : scope ≡ no_names = ap (λ xs. with_arguments 0 0 xs [] no_names) says.arguments in
     let f = functions_again renamed fs 1 no_names so.each so.see clear so.once (nothing_visible (symbols_of fs)) in
     let well_in : nodes_well 1 scope ns ≡ true = ap (λ names. nodes_well 1 names ns) e ∙ f.well in

@@ -10,8 +10,8 @@ use Rattle.xf_type.specs.Integers.{wrapped}
 use Rattle.xf_lex.specs.declared.token.Token.{Token}
 use Rattle.xf_lex.specs.declared.token.TokenKind.{TokenKind}
 use Rattle.xf_lex.specs.declared.token.TokenKind.TheVariants as kind_of
-use Rattle.xf_grammar.specs.Tokens.{Seen, the_end, sees, seen, seen_of, telling, is_kind, digits_of, number_of, number_at, is_index_at}
-use Rattle.xf_read_base.specs.declared.parts.Entry.{Entry}
+use Rattle.xf_grammar.specs.Tokens.{Terminal, the_end, terminal, terminal_at, terminal_of, telling, is_kind, digits_of, number_of, number_at, is_index_at}
+use Rattle.xf_read_base.specs.declared.parts.AttrEntry.{AttrEntry}
 use Rattle.xf_read_base.specs.declared.parts.EntryValue.{EntryValue}
 use Rattle.xf_read_base.specs.declared.parts.EntryValue.TheVariants as value
 use Rattle.xf_read_base.specs.declared.parts.Literal.{Literal}
@@ -27,7 +27,7 @@ use Rattle.xf_read.specs.Meant.{operands_of}
 use Rattle.xf_read.specs.Names.{argument_named, with_args, results_named, with_results, function_symbol, with_symbol}
 use Rattle.xf_read.specs.Names.{inside as inside_tokens, behind as behind_tokens}
 use Rattle.xf_read_base.specs.Values.{bytes_of, text}
-use Rattle.xf_read.specs.Scopes.{Scope, has_values, with_name, has_use, means, value_in, type_in, value_used, type_used}
+use Rattle.xf_read.specs.Scopes.{Meanings, has_values, with_name, has_use, means, value_in, type_in, value_used, type_used}
 use Rattle.xf_read.specs.Types.{results_by, args_by, operands_by, stated_by}
 use Rattle.xf_read_base.specs.Strings.{decoded}
 use Rattle.xf_read_base.specs.Values.{signed, integer_bits, literal_bits, value_of_entry, attr_of, with_attr, with_entries, attrs_of, symbol_of, symbol_or, width_at, kind_by}
@@ -38,7 +38,7 @@ use Rattle.xf_roundtrip.specs.Saying.{index_or, use_means, use_value, use_type, 
 
 -- a token of such a kind shows its bytes
 abbrev Shows : TokenKind → Type 0
-Shows k = (j : TokenKind) (bytes : List ℕ) → is_kind k (sees j (telling j bytes)) ≡ true → bytes ≡ telling j bytes
+Shows k = (j : TokenKind) (bytes : List ℕ) → is_kind k (terminal j (telling j bytes)) ≡ true → bytes ≡ telling j bytes
 
 symbol_shows : Shows kind_of.Symbol
 symbol_shows kind_of.Arrow bytes e = absurd cc
@@ -60,7 +60,7 @@ string_shows kind_of.Arrow bytes e = absurd cc
 string_shows (kind_of.Mark b) bytes e = absurd cc
 string_shows k bytes e = refl
 
-shown : (k : TokenKind) → Shows k → (o : Option Token) → is_kind k (seen_of o) ≡ true → bytes_of o ≡ text_of (seen_of o)
+shown : (k : TokenKind) → Shows k → (o : Option Token) → is_kind k (terminal_of o) ≡ true → bytes_of o ≡ text_of (terminal_of o)
 shown k f None e = refl
 shown k f (Some t) e = f t.kind t.bytes e
 
@@ -76,16 +76,16 @@ name_is all at e = text_is kind_of.Value value_shows all at e
 pub word_is : (all : List Token) (at : ℕ) → IsOf kind_of.Word all at → text all at ≡ text_at all at
 word_is all at e = text_is kind_of.Word word_shows all at e
 
-digits_kind : (k : TokenKind) (bytes : List ℕ) → is_kind kind_of.Integer (sees k bytes) ≡ true → digits_of (sees k bytes) ≡ bytes
+digits_kind : (k : TokenKind) (bytes : List ℕ) → is_kind kind_of.Integer (terminal k bytes) ≡ true → digits_of (terminal k bytes) ≡ bytes
 digits_kind kind_of.Integer bytes e = refl
 digits_kind k bytes e = absurd cc
 
-digits_are : (x : Seen) → is_kind kind_of.Integer x ≡ true → digits_of x ≡ text_of x
+digits_are : (x : Terminal) → is_kind kind_of.Integer x ≡ true → digits_of x ≡ text_of x
 digits_are the_end e = refl
-digits_are (sees k bytes) e = digits_kind k bytes e
+digits_are (terminal k bytes) e = digits_kind k bytes e
 
 number_is : (all : List Token) (at : ℕ) → IsOf kind_of.Integer all at → number_at all at ≡ number_of (text_at all at)
-number_is all at e = ap number_of (digits_are (seen all at) e)
+number_is all at e = ap number_of (digits_are (terminal_at all at) e)
 
 -- ---- uses
 
@@ -97,26 +97,26 @@ indexed_is : (b : Bool) (n : ℕ) → b ≡ is_some (number_if b n)
 indexed_is true n = refl
 indexed_is false n = refl
 
-pub means_is : (all : List Token) (scope : Scope) (r : Ref) → UseOf all r → means all scope r ≡ use_means scope (use_said all r)
+pub means_is : (all : List Token) (scope : Meanings) (r : Ref) → UseOf all r → means all scope r ≡ use_means scope (use_said all r)
 means_is all scope r w =
     let a = indexed_is (is_index_at all (r.token + 1)) r.count in
     let b = index_is (is_index_at all (r.token + 1)) r.count w.1 in
     let c = name_is all r.token w.0 in
     λ i. has_use (a i) (b i) (scope (c i))
 
-value_is : (all : List Token) (scope : Scope) (r : Ref) → UseOf all r → value_used all scope r ≡ use_value scope (use_said all r)
+value_is : (all : List Token) (scope : Meanings) (r : Ref) → UseOf all r → value_used all scope r ≡ use_value scope (use_said all r)
 value_is all scope r w =
     let b = index_is (is_index_at all (r.token + 1)) r.count w.1 in
     let c = name_is all r.token w.0 in
     λ i. value_in (scope (c i)) (b i)
 
-pub type_is : (all : List Token) (scope : Scope) (r : Ref) → UseOf all r → type_used all scope r ≡ use_type scope (use_said all r)
+pub type_is : (all : List Token) (scope : Meanings) (r : Ref) → UseOf all r → type_used all scope r ≡ use_type scope (use_said all r)
 type_is all scope r w =
     let b = index_is (is_index_at all (r.token + 1)) r.count w.1 in
     let c = name_is all r.token w.0 in
     λ i. type_in (scope (c i)) (b i)
 
-pub operands_are : (all : List Token) (scope : Scope) (us : List Ref) → All (UseOf all) us → operands_of all scope us ≡ map (use_value scope) (map (use_said all) us)
+pub operands_are : (all : List Token) (scope : Meanings) (us : List Ref) → All (UseOf all) us → operands_of all scope us ≡ map (use_value scope) (map (use_said all) us)
 operands_are all scope [] w = refl
 operands_are all scope (u ∷ us) w =
     let p = value_is all scope u (All-head (UseOf all) u us w) in
@@ -175,18 +175,18 @@ attr_value_is all (value.Truth b) w = refl
 attr_value_is all (value.Integer negative at width) w = ap (λ n. attr.Int width (wrapped width (signed negative n))) (number_is all at w)
 attr_value_is all (value.Text at) w = ap (λ bytes. attr.Text (decoded bytes)) (text_is kind_of.Text string_shows all at (and_parts _ _ w).0)
 
-attr_is : (all : List Token) (e : Entry) → EntryOf all e → attr_of all e ≡ attr_said (entry_said all e)
+attr_is : (all : List Token) (e : AttrEntry) → EntryOf all e → attr_of all e ≡ attr_said (entry_said all e)
 attr_is all e w =
     let p = word_is all e.name (and_parts _ _ w.0).0 in
     let q = attr_value_is all e.value w.1 in
     λ i. record { name = p i; value = q i }
 
-entries_are : (all : List Token) (es : List Entry) (attrs : List Attr) → All (EntryOf all) es → with_entries all es attrs ≡ with_said (map (entry_said all) es) attrs
+entries_are : (all : List Token) (es : List AttrEntry) (attrs : List Attr) → All (EntryOf all) es → with_entries all es attrs ≡ with_said (map (entry_said all) es) attrs
 entries_are all [] attrs w = refl
 entries_are all (e ∷ es) attrs w =
     entries_are all es (with_attr (attr_of all e) attrs) (All-tail (EntryOf all) e es w) ∙ ap (λ a. with_said (map (entry_said all) es) (with_attr a attrs)) (attr_is all e (All-head (EntryOf all) e es w))
 
-pub attrs_are : (all : List Token) (es : List Entry) → All (EntryOf all) es → attrs_of all es ≡ attrs_said (map (entry_said all) es)
+pub attrs_are : (all : List Token) (es : List AttrEntry) → All (EntryOf all) es → attrs_of all es ≡ attrs_said (map (entry_said all) es)
 attrs_are all es w = entries_are all es [] w
 
 -- ---- kinds
@@ -220,13 +220,13 @@ kind_is row.Yield all p w = refl
 
 -- ---- scopes
 
-with_args_are : (all : List Token) (n j : ℕ) (ts : List PayloadType) (rs : List Ref) (scope : Scope) → All (NameOf all) rs → with_args all n j ts rs scope ≡ with_arguments n j ts (map (arg_said all) rs) scope
+with_args_are : (all : List Token) (n j : ℕ) (ts : List PayloadType) (rs : List Ref) (scope : Meanings) → All (NameOf all) rs → with_args all n j ts rs scope ≡ with_arguments n j ts (map (arg_said all) rs) scope
 with_args_are all n j ts [] scope w = refl
 with_args_are all n j ts (r ∷ rs) scope w =
     with_args_are all n (j + 1) ts rs (with_name (text all r.token) (argument_named n j (slice_get ts j)) scope) (All-tail (NameOf all) r rs w)
     ∙ ap (λ name. with_arguments n (j + 1) ts (map (arg_said all) rs) (with_name name (argument_named n j (slice_get ts j)) scope)) (name_is all r.token (All-head (NameOf all) r rs w))
 
-with_results_are : (all : List Token) (n : ℕ) (ts : List PayloadType) (rs : List Ref) (scope : Scope) → All (NameOf all) rs → with_results all n ts rs scope ≡ with_defines n ts (map (define_said all) rs) scope
+with_results_are : (all : List Token) (n : ℕ) (ts : List PayloadType) (rs : List Ref) (scope : Meanings) → All (NameOf all) rs → with_results all n ts rs scope ≡ with_defines n ts (map (define_said all) rs) scope
 with_results_are all n ts [] scope w = refl
 with_results_are all n ts (r ∷ rs) scope w = ap (λ name. cond (has_values r.count) (with_name name (results_named n r.count ts) scope) scope) (name_is all r.token (All-head (NameOf all) r rs w))
 
@@ -250,15 +250,15 @@ function_is row.For all s w = refl
 function_is row.If all s w = refl
 function_is row.Yield all s w = refl
 
-with_symbol_is : (all : List Token) (at : Option ℕ) (s : Option (List ℕ)) (scope : Scope) → SymbolNamed all at s → with_symbol all at scope ≡ with_function s scope
+with_symbol_is : (all : List Token) (at : Option ℕ) (s : Option (List ℕ)) (scope : Meanings) → SymbolNamed all at s → with_symbol all at scope ≡ with_function s scope
 with_symbol_is all None s scope e = ap (λ x. with_function x scope) (sym e)
 with_symbol_is all (Some at) s scope e = ap (λ x. with_function x scope) (sym e)
 
-pub inside_is : (all : List Token) (n : ℕ) (p : Parts) (scope : Scope) → Inside all p → inside_tokens all n p scope ≡ inside n (said all p) scope
+pub inside_is : (all : List Token) (n : ℕ) (p : Parts) (scope : Meanings) → Inside all p → inside_tokens all n p scope ≡ inside n (said all p) scope
 inside_is all n p scope w =
     with_args_are all n 0 (args_by p.row p) p.args scope w.1.1.1.1.0 ∙ ap (λ ts. with_arguments n 0 ts (map (arg_said all) p.args) scope) (args_are p.row all p)
 
-pub behind_is : (all : List Token) (n : ℕ) (p : Parts) (scope : Scope) → Inside all p → behind_tokens all n p scope ≡ behind n (said all p) scope
+pub behind_is : (all : List Token) (n : ℕ) (p : Parts) (scope : Meanings) → Inside all p → behind_tokens all n p scope ≡ behind n (said all p) scope
 behind_is all n p scope w =
     let a = with_results_are all n (results_by p.row p) p.defines (with_symbol all (function_symbol p.row p.symbol) scope) w.1.1.1.0 in
     let b = results_are p.row all p in

@@ -2,9 +2,9 @@
 use Rattle.std.proofs.Common.{◌≡◌, ◌+◌, List, sym, ap, ◌∙◌}
 use Rattle.std.specs.Prelude.{map}
 use Rattle.xf_lex.specs.declared.token.Token.{Token}
-use Rattle.xf_lex.proofs.LaidLemmas.{laid_again}
-use Rattle.xf_grammar.specs.Laid.{seen_plains}
-use Rattle.xf_grammar.proofs.Laid.{laid_stand}
+use Rattle.xf_lex.proofs.LayoutLemmas.{layout_is_read}
+use Rattle.xf_grammar.specs.Layout.{terminals_plain}
+use Rattle.xf_grammar.proofs.Layout.{laid_stand}
 use Rattle.xf_read_base.specs.declared.parts.Parts.{Parts}
 use Rattle.xf_read_base.specs.Parts.{said}
 use Rattle.xf_read.specs.declared.tree.File.{File}
@@ -53,8 +53,8 @@ tokens_are_right all file text =
 
 pub texts_mean : TextsMeanWhatTheySay
 texts_mean ws tail ns stay utf8 written well =
-    let l = laid_again ws tail stay utf8 in
-    let r = texts_read_again l.0 (seen_plains (map (λ w. w.token) ws)) ns (laid_stand l.0 (map (λ w. w.token) ws) l.2) written in
+    let l = layout_is_read ws tail stay utf8 in
+    let r = texts_read_again l.0 (terminals_plain (map (λ w. w.token) ws)) ns (laid_stand l.0 (map (λ w. w.token) ws) l.2) written in
     record {
       tokens = l.0;
       file = r.0;

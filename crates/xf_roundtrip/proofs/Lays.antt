@@ -13,10 +13,10 @@ use Rattle.xf_lex.specs.declared.token.TokenKind.TheVariants as kind
 use Rattle.xf_type.specs.Bytes.{is_digit, is_letter, is_word_byte}
 use Rattle.xf_lex.specs.Bytes.{is_name_start, is_name_byte, is_blank}
 use Rattle.xf_lex.specs.Lexes.{is_tensor}
-use Rattle.xf_lex.specs.Laid.{Plain, Piece, laid, Stays, AllStay}
+use Rattle.xf_lex.specs.Layout.{Plain, SpacedToken, layout, Stays, AllStay}
 use Rattle.xf_lex.proofs.Stays.{AllPass, Stops, run_all, Digits, decimal_digits}
-use Rattle.xf_grammar.specs.Tokens.{Seen, sees}
-use Rattle.xf_grammar.specs.Laid.{seen_plain, seen_plains}
+use Rattle.xf_grammar.specs.Tokens.{Terminal, terminal}
+use Rattle.xf_grammar.specs.Layout.{terminal_plain, terminals_plain}
 use Rattle.xf_roundtrip.proofs.Needs.{Reads}
 
 -- ---- truth values
@@ -87,17 +87,17 @@ all_pass p (b ∷ bs) e = (and_left (p b) _ e, all_pass p bs (and_right (p b) _ 
 
 -- ---- one more token or blank
 
-more_token : (after : Bool) (t : Plain) (rest : List ℕ) (us : List Seen) → Stays after t rest → Reads (is_tensor t.kind t.bytes) rest us → Reads after (t.bytes ++ rest) (seen_plain t ∷ us)
+more_token : (after : Bool) (t : Plain) (rest : List ℕ) (us : List Terminal) → Stays after t rest → Reads (is_tensor t.kind t.bytes) rest us → Reads after (t.bytes ++ rest) (terminal_plain t ∷ us)
 more_token after t rest us s r = record {
   pieces = record { blanks = []; token = t } ∷ r.pieces;
   tail = r.tail;
   text_is = ap (λ x. t.bytes ++ x) r.text_is;
-  tokens_are = ap (λ x. seen_plain t ∷ x) r.tokens_are;
+  tokens_are = ap (λ x. terminal_plain t ∷ x) r.tokens_are;
   stay = (tt, subst (λ x. Stays after t x) (sym r.text_is) s, r.stay);
 }
 
 -- a blank before pieces, or before the tail
-blank_before : (after : Bool) (b : ℕ) (ws : List Piece) (tail rest : List ℕ) (us : List Seen) → is_blank b ≡ true → laid ws tail ≡ rest → seen_plains (map (λ w. w.token) ws) ≡ us → AllStay after ws tail → Reads after (b ∷ rest) us
+blank_before : (after : Bool) (b : ℕ) (ws : List SpacedToken) (tail rest : List ℕ) (us : List Terminal) → is_blank b ≡ true → layout ws tail ≡ rest → terminals_plain (map (λ w. w.token) ws) ≡ us → AllStay after ws tail → Reads after (b ∷ rest) us
 blank_before after b [] tail rest us e p q s = record { pieces = []; tail = b ∷ tail; text_is = ap (λ x. b ∷ x) p; tokens_are = q; stay = (e, s) }
 blank_before after b (w ∷ ws) tail rest us e p q s = record {
   pieces = record { blanks = b ∷ w.blanks; token = w.token } ∷ ws;
@@ -107,31 +107,31 @@ blank_before after b (w ∷ ws) tail rest us e p q s = record {
   stay = ((e, s.0), s.1, s.2);
 }
 
-more_blank : (after : Bool) (b : ℕ) (rest : List ℕ) (us : List Seen) → is_blank b ≡ true → Reads after rest us → Reads after (b ∷ rest) us
+more_blank : (after : Bool) (b : ℕ) (rest : List ℕ) (us : List Terminal) → is_blank b ≡ true → Reads after rest us → Reads after (b ∷ rest) us
 more_blank after b rest us e r = blank_before after b r.pieces r.tail rest us e r.text_is r.tokens_are r.stay
 
-more_blanks : (after : Bool) (bs rest : List ℕ) (us : List Seen) → AllPass is_blank bs → Reads after rest us → Reads after (bs ++ rest) us
+more_blanks : (after : Bool) (bs rest : List ℕ) (us : List Terminal) → AllPass is_blank bs → Reads after rest us → Reads after (bs ++ rest) us
 more_blanks after [] rest us h r = r
 more_blanks after (b ∷ bs) rest us h r = more_blank after b (bs ++ rest) us h.0 (more_blanks after bs rest us h.1 r)
 
 -- ---- texts that are laid out
 
 -- a text, of bytes below 128, is laid out of these tokens; what is behind it is free, or ends a token
-pub record Lays (free : Bool) (text : List ℕ) (ts : List Seen) : Type 0 where
+pub record Lays (free : Bool) (text : List ℕ) (ts : List Terminal) : Type 0 where
   pub low : Low text
-  pub lay : (rest : List ℕ) (us : List Seen) → (free || breaks rest) ≡ true → ((after : Bool) → Reads after rest us) → (after : Bool) → Reads after (text ++ rest) (ts ++ us)
+  pub lay : (rest : List ℕ) (us : List Terminal) → (free || breaks rest) ≡ true → ((after : Bool) → Reads after rest us) → (after : Bool) → Reads after (text ++ rest) (ts ++ us)
 
 -- a text before another
-pub joined : (f g : Bool) (a b : List ℕ) (ts us : List Seen) → Lays f a ts → Lays g b us → ((rest : List ℕ) → (g || breaks rest) ≡ true → (f || breaks (b ++ rest)) ≡ true) → Lays g (a ++ b) (ts ++ us)
+pub joined : (f g : Bool) (a b : List ℕ) (ts us : List Terminal) → Lays f a ts → Lays g b us → ((rest : List ℕ) → (g || breaks rest) ≡ true → (f || breaks (b ++ rest)) ≡ true) → Lays g (a ++ b) (ts ++ us)
 joined f g a b ts us p q front = record {
   low = pass_append is_low a b p.low q.low;
   lay = λ rest vs ends r after. rw (append_assoc a b rest, append_assoc ts us vs) (p.lay (b ++ rest) (us ++ vs) (front rest ends) (q.lay rest vs ends r) after);
 }
 
-one_token : (t : Plain) → Low t.bytes → ((after : Bool) (rest : List ℕ) → breaks rest ≡ true → Stays after t rest) → Lays false t.bytes (seen_plain t ∷ [])
+one_token : (t : Plain) → Low t.bytes → ((after : Bool) (rest : List ℕ) → breaks rest ≡ true → Stays after t rest) → Lays false t.bytes (terminal_plain t ∷ [])
 one_token t low s = record { low = low; lay = λ rest us ends r after. more_token after t rest us (s after rest ends) (r (is_tensor t.kind t.bytes)) }
 
-pub free_token : (t : Plain) → Low t.bytes → ((after : Bool) (rest : List ℕ) → Stays after t rest) → Lays true t.bytes (seen_plain t ∷ [])
+pub free_token : (t : Plain) → Low t.bytes → ((after : Bool) (rest : List ℕ) → Stays after t rest) → Lays true t.bytes (terminal_plain t ∷ [])
 free_token t low s = record { low = low; lay = λ rest us ends r after. more_token after t rest us (s after rest) (r (is_tensor t.kind t.bytes)) }
 
 blank_low : (b : ℕ) → is_blank b ≡ true → is_low b ≡ true
@@ -147,24 +147,24 @@ pub nothing : Lays false [] []
 nothing = record { low = tt; lay = λ rest us ends r after. r after }
 
 -- a text before another, with the texts and tokens found from the two
-pub before : {f g : Bool} {a b : List ℕ} {ts us : List Seen} → Lays f a ts → Lays g b us → ((rest : List ℕ) → (g || breaks rest) ≡ true → (f || breaks (b ++ rest)) ≡ true) → Lays g (a ++ b) (ts ++ us)
+pub before : {f g : Bool} {a b : List ℕ} {ts us : List Terminal} → Lays f a ts → Lays g b us → ((rest : List ℕ) → (g || breaks rest) ≡ true → (f || breaks (b ++ rest)) ≡ true) → Lays g (a ++ b) (ts ++ us)
 before {f} {g} {a} {b} {ts} {us} p q front = joined f g a b ts us p q front
 
 -- what ends in a blank or a mark, before any text
-pub front : {g : Bool} {a b : List ℕ} {ts us : List Seen} → Lays true a ts → Lays g b us → Lays g (a ++ b) (ts ++ us)
+pub front : {g : Bool} {a b : List ℕ} {ts us : List Terminal} → Lays true a ts → Lays g b us → Lays g (a ++ b) (ts ++ us)
 front {g} {a} {b} {ts} {us} p q = joined true g a b ts us p q (λ rest ends. refl)
 
 -- a whole text
-pub whole : (text : List ℕ) (ts : List Seen) → Lays true text ts → Reads false text ts
+pub whole : (text : List ℕ) (ts : List Terminal) → Lays true text ts → Reads false text ts
 whole text ts p =
     let none : (after : Bool) → Reads after [] [] = λ after. record { pieces = []; tail = []; text_is = refl; tokens_are = refl; stay = tt } in
     subst (λ x. Reads false x ts) (append-nil text) (subst (λ us. Reads false (text ++ []) us) (append-nil ts) (p.lay [] [] refl none false))
 
 -- a text whose end is known is free
-pub freed : {f : Bool} {a : List ℕ} {ts : List Seen} → Lays f a ts → f ≡ true → Lays true a ts
+pub freed : {f : Bool} {a : List ℕ} {ts : List Terminal} → Lays f a ts → f ≡ true → Lays true a ts
 freed {f} {a} {ts} p e = subst (λ x. Lays x a ts) e p
 
-pub looser : {f : Bool} {a : List ℕ} {ts : List Seen} → Lays true a ts → Lays f a ts
+pub looser : {f : Bool} {a : List ℕ} {ts : List Terminal} → Lays true a ts → Lays f a ts
 looser {f} {a} {ts} p = record { low = p.low; lay = λ rest us ends r after. p.lay rest us refl r after }
 
 -- ---- words and symbols
@@ -200,7 +200,7 @@ word_stays after (b ∷ bs) rest h ends = record {
   longest = let e = h.0 in let r = run_all is_word_byte bs rest h.1 (breaks_word rest ends) in rw (e, r) refl;
 }
 
-pub a_word : (bs : List ℕ) → IsWord bs → Lays false bs (sees kind.Word bs ∷ [])
+pub a_word : (bs : List ℕ) → IsWord bs → Lays false bs (terminal kind.Word bs ∷ [])
 a_word bs h = one_token (record { kind = kind.Word; bytes = bs }) (word_low bs h) (λ after rest ends. word_stays after bs rest h ends)
 
 -- a test of words
@@ -213,7 +213,7 @@ is_word_true [] e = absurd cc
 is_word_true (b ∷ bs) e = (and_left (is_letter b) _ e, all_pass is_word_byte bs (and_right (is_letter b) _ e))
 
 -- a word whose bytes are known
-pub known_word : (bs : List ℕ) → is_word bs ≡ true → Lays false bs (sees kind.Word bs ∷ [])
+pub known_word : (bs : List ℕ) → is_word bs ≡ true → Lays false bs (terminal kind.Word bs ∷ [])
 known_word bs e = a_word bs (is_word_true bs e)
 
 symbol_stays : (after : Bool) (bs rest : List ℕ) → IsWord bs → breaks rest ≡ true → Stays after (record { kind = kind.Symbol; bytes = 64 ∷ bs }) rest
@@ -223,7 +223,7 @@ symbol_stays after (b ∷ bs) rest h ends = record {
   longest = let e = h.0 in let r = run_all is_word_byte bs rest h.1 (breaks_word rest ends) in rw (e, r) refl;
 }
 
-pub a_symbol : (bs : List ℕ) → IsWord bs → Lays false (64 ∷ bs) (sees kind.Symbol (64 ∷ bs) ∷ [])
+pub a_symbol : (bs : List ℕ) → IsWord bs → Lays false (64 ∷ bs) (terminal kind.Symbol (64 ∷ bs) ∷ [])
 a_symbol bs h = one_token (record { kind = kind.Symbol; bytes = 64 ∷ bs }) (refl, word_low bs h) (λ after rest ends. symbol_stays after bs rest h ends)
 
 -- ---- numbers
@@ -256,7 +256,7 @@ integer_stays after (b ∷ ds) rest d small ends = record {
       rw (n, e, r, t, s) refl;
 }
 
-pub an_integer : (n : ℕ) → n < 2 ^ 64 → Lays false (decimal n) (sees kind.Integer (decimal n) ∷ [])
+pub an_integer : (n : ℕ) → n < 2 ^ 64 → Lays false (decimal n) (terminal kind.Integer (decimal n) ∷ [])
 an_integer n lt =
     let d = decimal_digits n lt in
     let small : digits_value 10 (decimal n) < 2 ^ 64 = subst (λ x. x < 2 ^ 64) (sym (decimal_is_IsNumeral n lt).1) lt in
@@ -270,12 +270,12 @@ minus_stays after (b ∷ ds) rest d = record {
 }
 
 -- a minus directly before digits
-pub a_negative : (n : ℕ) → n < 2 ^ 64 → Lays false (45 ∷ decimal n) (sees (kind.Mark 45) [] ∷ sees kind.Integer (decimal n) ∷ [])
+pub a_negative : (n : ℕ) → n < 2 ^ 64 → Lays false (45 ∷ decimal n) (terminal (kind.Mark 45) [] ∷ terminal kind.Integer (decimal n) ∷ [])
 a_negative n lt =
     let i = an_integer n lt in
     record {
       low = (refl, i.low);
-      lay = λ rest us ends r after. more_token after (record { kind = kind.Mark 45; bytes = 45 ∷ [] }) (decimal n ++ rest) (sees kind.Integer (decimal n) ∷ us) (minus_stays after (decimal n) rest (decimal_digits n lt)) (i.lay rest us ends r false);
+      lay = λ rest us ends r after. more_token after (record { kind = kind.Mark 45; bytes = 45 ∷ [] }) (decimal n ++ rest) (terminal kind.Integer (decimal n) ∷ us) (minus_stays after (decimal n) rest (decimal_digits n lt)) (i.lay rest us ends r false);
     }
 
 -- ---- names of values
@@ -288,7 +288,7 @@ number_stays after (b ∷ ds) rest d ends = record {
 }
 
 -- `%4`
-pub a_number : (n : ℕ) → n < 2 ^ 64 → Lays false (37 ∷ decimal n) (sees kind.Value (37 ∷ decimal n) ∷ [])
+pub a_number : (n : ℕ) → n < 2 ^ 64 → Lays false (37 ∷ decimal n) (terminal kind.Value (37 ∷ decimal n) ∷ [])
 a_number n lt =
     let d = decimal_digits n lt in
     one_token (record { kind = kind.Value; bytes = 37 ∷ decimal n }) (refl, digits_low (decimal n) d.all) (λ after rest ends. number_stays after (decimal n) rest d ends)
@@ -301,7 +301,7 @@ hash_stays after (b ∷ ds) rest d ends = record {
 }
 
 -- `#1`
-pub a_hash : (n : ℕ) → n < 2 ^ 64 → Lays false (35 ∷ decimal n) (sees kind.Hash (35 ∷ decimal n) ∷ [])
+pub a_hash : (n : ℕ) → n < 2 ^ 64 → Lays false (35 ∷ decimal n) (terminal kind.Hash (35 ∷ decimal n) ∷ [])
 a_hash n lt =
     let d = decimal_digits n lt in
     one_token (record { kind = kind.Hash; bytes = 35 ∷ decimal n }) (refl, digits_low (decimal n) d.all) (λ after rest ends. hash_stays after (decimal n) rest d ends)
@@ -316,7 +316,7 @@ name_stays after b bs rest n e g ends = record {
 }
 
 -- `%arg4`
-pub an_argument : (n : ℕ) → n < 2 ^ 64 → Lays false (37 ∷ 97 ∷ 114 ∷ 103 ∷ decimal n) (sees kind.Value (37 ∷ 97 ∷ 114 ∷ 103 ∷ decimal n) ∷ [])
+pub an_argument : (n : ℕ) → n < 2 ^ 64 → Lays false (37 ∷ 97 ∷ 114 ∷ 103 ∷ decimal n) (terminal kind.Value (37 ∷ 97 ∷ 114 ∷ 103 ∷ decimal n) ∷ [])
 an_argument n lt =
     let d = decimal_digits n lt in
     one_token (record { kind = kind.Value; bytes = 37 ∷ 97 ∷ 114 ∷ 103 ∷ decimal n }) (refl, (refl, (refl, (refl, digits_low (decimal n) d.all))))
@@ -324,39 +324,39 @@ an_argument n lt =
 
 -- ---- marks
 
-pub a_mark : (b : ℕ) → is_low b ≡ true → ((after : Bool) (rest : List ℕ) → Stays after (record { kind = kind.Mark b; bytes = b ∷ [] }) rest) → Lays true (b ∷ []) (sees (kind.Mark b) [] ∷ [])
+pub a_mark : (b : ℕ) → is_low b ≡ true → ((after : Bool) (rest : List ℕ) → Stays after (record { kind = kind.Mark b; bytes = b ∷ [] }) rest) → Lays true (b ∷ []) (terminal (kind.Mark b) [] ∷ [])
 a_mark b low s = free_token (record { kind = kind.Mark b; bytes = b ∷ [] }) (low, tt) s
 
 -- `(`
-pub open_lays : Lays true (40 ∷ []) (sees (kind.Mark 40) [] ∷ [])
+pub open_lays : Lays true (40 ∷ []) (terminal (kind.Mark 40) [] ∷ [])
 open_lays = a_mark 40 refl (λ after rest. record { no_gap = refl; longest = refl })
 
 -- `)`
-pub close_lays : Lays true (41 ∷ []) (sees (kind.Mark 41) [] ∷ [])
+pub close_lays : Lays true (41 ∷ []) (terminal (kind.Mark 41) [] ∷ [])
 close_lays = a_mark 41 refl (λ after rest. record { no_gap = refl; longest = refl })
 
 -- `,`
-pub comma_lays : Lays true (44 ∷ []) (sees (kind.Mark 44) [] ∷ [])
+pub comma_lays : Lays true (44 ∷ []) (terminal (kind.Mark 44) [] ∷ [])
 comma_lays = a_mark 44 refl (λ after rest. record { no_gap = refl; longest = refl })
 
 -- `:`
-pub colon_lays : Lays true (58 ∷ []) (sees (kind.Mark 58) [] ∷ [])
+pub colon_lays : Lays true (58 ∷ []) (terminal (kind.Mark 58) [] ∷ [])
 colon_lays = a_mark 58 refl (λ after rest. record { no_gap = refl; longest = refl })
 
 -- `=`
-pub equals_lays : Lays true (61 ∷ []) (sees (kind.Mark 61) [] ∷ [])
+pub equals_lays : Lays true (61 ∷ []) (terminal (kind.Mark 61) [] ∷ [])
 equals_lays = a_mark 61 refl (λ after rest. record { no_gap = refl; longest = refl })
 
 -- `{`
-pub open_brace_lays : Lays true (123 ∷ []) (sees (kind.Mark 123) [] ∷ [])
+pub open_brace_lays : Lays true (123 ∷ []) (terminal (kind.Mark 123) [] ∷ [])
 open_brace_lays = a_mark 123 refl (λ after rest. record { no_gap = refl; longest = refl })
 
 -- `}`
-pub close_brace_lays : Lays true (125 ∷ []) (sees (kind.Mark 125) [] ∷ [])
+pub close_brace_lays : Lays true (125 ∷ []) (terminal (kind.Mark 125) [] ∷ [])
 close_brace_lays = a_mark 125 refl (λ after rest. record { no_gap = refl; longest = refl })
 
 -- `->`
-pub arrow_lays : Lays true (45 ∷ 62 ∷ []) (sees kind.Arrow [] ∷ [])
+pub arrow_lays : Lays true (45 ∷ 62 ∷ []) (terminal kind.Arrow [] ∷ [])
 arrow_lays = free_token (record { kind = kind.Arrow; bytes = 45 ∷ 62 ∷ [] }) (refl, (refl, tt)) (λ after rest. record { no_gap = refl; longest = refl })
 
 pub space_lays : Lays true (32 ∷ []) []

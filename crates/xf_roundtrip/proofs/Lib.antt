@@ -19,7 +19,7 @@ pub mod Numbers
 pub mod Operations
 pub mod Pieces
 pub mod Printed
-pub mod PrintedLaid
+pub mod PrintedLayout
 pub mod Right
 pub mod RowTexts
 pub mod SameHeads

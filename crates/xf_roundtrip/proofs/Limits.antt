@@ -10,7 +10,7 @@ use Rattle.xf_ir.specs.Tree.{Ops, no_ops, op, Regions, no_regions, region, cons}
 use Rattle.xf_ir.specs.Valid.{IsValid}
 use Rattle.xf_ir.proofs.Root.{one_block}
 use Rattle.xf_read.specs.Meant.{joined, yield_tree}
-use Rattle.xf_read.specs.Scopes.{Scope}
+use Rattle.xf_read.specs.Scopes.{Meanings}
 use Rattle.xf_read.specs.Scopes.{no_names as no_scope}
 use Rattle.xf_read.specs.Syntax.{most_operations, ends_open}
 use Rattle.xf_read.specs.Written.{SaidNodes, no_nodes_said, node_said, SaidBodies, no_bodies_said, body_said, says_yield_last, left_out, operations, operations_inside, NestsWell, BodiesNestWell}
@@ -64,14 +64,14 @@ yield_count false n = refl
 
 -- as many operations as are said
 mutual
-  ops_said_count : (ns : SaidNodes) (n : ℕ) (scope : Scope) → ops_count (ops_said n scope ns) ≡ operations ns
+  ops_said_count : (ns : SaidNodes) (n : ℕ) (scope : Meanings) → ops_count (ops_said n scope ns) ≡ operations ns
   ops_said_count no_nodes_said n scope = refl
   ops_said_count (node_said t bs rest) n scope =
       let p = regions_said_count bs t (n + 1) (inside n t scope) in
       let q = ops_said_count rest (n + (1 + operations_inside t bs)) (behind n t scope) in
       omega (arith, p, q)
 
-  regions_said_count : (bs : SaidBodies) (t : Said) (n : ℕ) (scope : Scope) → regions_count (regions_said n t scope bs) ≡ operations_inside t bs
+  regions_said_count : (bs : SaidBodies) (t : Said) (n : ℕ) (scope : Meanings) → regions_count (regions_said n t scope bs) ≡ operations_inside t bs
   regions_said_count no_bodies_said t n scope = refl
   regions_said_count (body_said ns rest) t n scope =
       let a = ops_said_count ns n scope in

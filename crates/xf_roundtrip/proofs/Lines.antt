@@ -4,8 +4,8 @@ use Rattle.std.specs.Prelude.{◌||◌, codes, replicate, if◌then◌else◌}
 use Rattle.std.specs.List.{flat_map}
 use Rattle.std.proofs.lemmas.Grind.{flat_map-append}
 use Rattle.xf_type.specs.declared.payload_type.PayloadType.{PayloadType}
-use Rattle.xf_grammar.specs.Tokens.{Seen, open_brace, close_brace}
-use Rattle.xf_read_base.specs.declared.row.Slot.TheVariants as slot
+use Rattle.xf_grammar.specs.Tokens.{Terminal, open_brace, close_brace}
+use Rattle.xf_read_base.specs.declared.row.FormatElement.TheVariants as slot
 use Rattle.xf_read_base.specs.Rows.{slots}
 use Rattle.xf_read_base.specs.Pieces.{mark, word, piece_written, row_word, row_written, results_written}
 use Rattle.xf_ir.specs.declared.name.OpName.{OpName}
@@ -37,18 +37,18 @@ either_way true = refl
 either_way false = refl
 
 -- a text before the end of its line
-ended : {f : Bool} {a : List ℕ} {ts : List Seen} → Lays f a ts → Lays true (a ++ 10 ∷ []) ts
+ended : {f : Bool} {a : List ℕ} {ts : List Terminal} → Lays f a ts → Lays true (a ++ 10 ∷ []) ts
 ended {f} {a} {ts} p = subst (λ x. Lays true (a ++ 10 ∷ []) x) (append-nil ts) (before p (known_blanks (10 ∷ []) refl) (λ rest e. either_way f))
 
 -- lines are laid out of these tokens
-abbrev pub LinesLay : List (List ℕ) → List Seen → Type 0
+abbrev pub LinesLay : List (List ℕ) → List Terminal → Type 0
 LinesLay lines ts = Lays true (flat_map (λ line. line ++ 10 ∷ []) lines) ts
 
-lines_joined : (a b : List (List ℕ)) (ts us : List Seen) → LinesLay a ts → LinesLay b us → LinesLay (a ++ b) (ts ++ us)
+lines_joined : (a b : List (List ℕ)) (ts us : List Terminal) → LinesLay a ts → LinesLay b us → LinesLay (a ++ b) (ts ++ us)
 lines_joined a b ts us p q = rw (flat_map-append (λ line. line ++ 10 ∷ []) a b) (front p q)
 
 -- a line
-one_line : {f : Bool} {text : List ℕ} {ts : List Seen} (level : ℕ) → Lays f text ts → LinesLay (line_at level text ∷ []) ts
+one_line : {f : Bool} {text : List ℕ} {ts : List Terminal} (level : ℕ) → Lays f text ts → LinesLay (line_at level text ∷ []) ts
 one_line {f} {text} {ts} level p = subst (λ x. LinesLay (line_at level text ∷ []) x) (append-nil ts) (front (ended (front (margin_lays (2 * level)) p)) empty)
 
 -- ---- the line of an operation
@@ -97,7 +97,7 @@ no_label names level t (kind.Generic maps iterators) c = absurd cc
 no_label names level t k c = refl
 
 -- a line, or none where a yield is left out
-line_or_none : (b : Bool) (line : List ℕ) (label : List (List ℕ)) (H O R : List Seen) (rest : List (List ℕ)) → label ≡ [] → O ≡ [] → LinesLay (line ∷ []) (H ++ O) → LinesLay rest R
+line_or_none : (b : Bool) (line : List ℕ) (label : List (List ℕ)) (H O R : List Terminal) (rest : List (List ℕ)) → label ≡ [] → O ≡ [] → LinesLay (line ∷ []) (H ++ O) → LinesLay rest R
     → LinesLay (((if b then [] else (line ∷ label)) ++ ([] ++ [])) ++ rest) (if b then R else H ++ R)
 line_or_none true line label H O R rest e z p q = q
 line_or_none false line label H O R rest e z p q =
@@ -120,11 +120,11 @@ plain_lay names level n k ds os ts rest f more =
 
 -- ---- operations with regions
 
-brace : List Seen
+brace : List Terminal
 brace = mark open_brace ∷ []
 
 -- { O } and attributes D, before R
-body_tokens : (H O D R : List Seen) → ((H ++ mark open_brace ∷ []) ++ ((O ++ []) ++ (mark close_brace ∷ D))) ++ R ≡ H ++ ((mark open_brace ∷ (O ++ mark close_brace ∷ [])) ++ (D ++ R))
+body_tokens : (H O D R : List Terminal) → ((H ++ mark open_brace ∷ []) ++ ((O ++ []) ++ (mark close_brace ∷ D))) ++ R ≡ H ++ ((mark open_brace ∷ (O ++ mark close_brace ∷ [])) ++ (D ++ R))
 body_tokens H O D R =
     let E = mark close_brace ∷ D in
     append_assoc (H ++ mark open_brace ∷ []) ((O ++ []) ++ E) R
@@ -132,7 +132,7 @@ body_tokens H O D R =
     ∙ ap (λ x. H ++ mark open_brace ∷ x) (append_assoc (O ++ []) E R ∙ ap (λ x. x ++ (E ++ R)) (append-nil O) ∙ sym (append_assoc O (mark close_brace ∷ []) (D ++ R)))
 
 -- { O } else { P } and attributes D, before R
-else_tokens_are : (H O P D R : List Seen)
+else_tokens_are : (H O P D R : List Terminal)
     → ((H ++ mark open_brace ∷ []) ++ ((O ++ ((mark close_brace ∷ word (codes "else") ∷ mark open_brace ∷ []) ++ (P ++ []))) ++ (mark close_brace ∷ D))) ++ R
     ≡ H ++ ((mark open_brace ∷ (O ++ mark close_brace ∷ word (codes "else") ∷ mark open_brace ∷ (P ++ mark close_brace ∷ []))) ++ (D ++ R))
 else_tokens_are H O P D R =
@@ -154,14 +154,14 @@ else_lays : (level : ℕ) → LinesLay (line_at level (codes "} else {") ∷ [])
 else_lays level = one_line level (front close_brace_lays (front space_lays (before (known_word (codes "else") refl) (front space_lays open_brace_lays) (λ rest e. refl))))
 
 -- a line, one body, and a line that closes it
-one_body : (line close : List ℕ) (inner rest : List (List ℕ)) (H O D R : List Seen) → LinesLay (line ∷ []) (H ++ mark open_brace ∷ []) → LinesLay inner O → LinesLay (close ∷ []) (mark close_brace ∷ D) → LinesLay rest R
+one_body : (line close : List ℕ) (inner rest : List (List ℕ)) (H O D R : List Terminal) → LinesLay (line ∷ []) (H ++ mark open_brace ∷ []) → LinesLay inner O → LinesLay (close ∷ []) (mark close_brace ∷ D) → LinesLay rest R
     → LinesLay (((line ∷ []) ++ ((inner ++ []) ++ (close ∷ []))) ++ rest) (H ++ ((mark open_brace ∷ (O ++ mark close_brace ∷ [])) ++ (D ++ R)))
 one_body line close inner rest H O D R a b c d =
     let nil : LinesLay [] [] = empty in
     subst (λ x. LinesLay (((line ∷ []) ++ ((inner ++ []) ++ (close ∷ []))) ++ rest) x) (body_tokens H O D R)
     (lines_joined ((line ∷ []) ++ ((inner ++ []) ++ (close ∷ []))) rest _ R (lines_joined (line ∷ []) ((inner ++ []) ++ (close ∷ [])) _ _ a (lines_joined (inner ++ []) (close ∷ []) _ _ (lines_joined inner [] O [] b nil) c)) d)
 
-two_bodies : (line between close : List ℕ) (inner other rest : List (List ℕ)) (H O P D R : List Seen) → LinesLay (line ∷ []) (H ++ mark open_brace ∷ []) → LinesLay inner O
+two_bodies : (line between close : List ℕ) (inner other rest : List (List ℕ)) (H O P D R : List Terminal) → LinesLay (line ∷ []) (H ++ mark open_brace ∷ []) → LinesLay inner O
     → LinesLay (between ∷ []) (mark close_brace ∷ word (codes "else") ∷ mark open_brace ∷ []) → LinesLay other P → LinesLay (close ∷ []) (mark close_brace ∷ D) → LinesLay rest R
     → LinesLay (((line ∷ []) ++ ((inner ++ ((between ∷ []) ++ (other ++ []))) ++ (close ∷ []))) ++ rest)
     (H ++ ((mark open_brace ∷ (O ++ mark close_brace ∷ word (codes "else") ∷ mark open_brace ∷ (P ++ mark close_brace ∷ []))) ++ (D ++ R)))

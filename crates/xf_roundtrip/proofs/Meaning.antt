@@ -9,7 +9,7 @@ use Rattle.xf_read.specs.Meant.{joined, yield_tree, nodes_meant, bodies_meant}
 use Rattle.xf_read.specs.Meant.{left_out as left_out_tokens}
 use Rattle.xf_read.specs.Names.{op_name, yield_count, nodes_count, bodies_count}
 use Rattle.xf_read.specs.Names.{inside as inside_tokens, behind as behind_tokens}
-use Rattle.xf_read.specs.Scopes.{Scope}
+use Rattle.xf_read.specs.Scopes.{Meanings}
 use Rattle.xf_read.specs.Syntax.{ends_open, lacks_yield}
 use Rattle.xf_read.specs.Tree.{Nodes, no_nodes, node, Bodies, no_bodies, body}
 use Rattle.xf_read.specs.Written.{nodes_said, bodies_said, operations, left_out, operations_inside}
@@ -58,7 +58,7 @@ open_bodies all no_bodies w = tt
 open_bodies all (body ns close rest) w = (w.0, w.1.1)
 
 mutual
-  pub nodes_are : (all : List Token) (ns : Nodes) (n : ℕ) (scope : Scope) → NodesOf all ns → nodes_meant all n scope ns ≡ ops_said n scope (nodes_said all ns)
+  pub nodes_are : (all : List Token) (ns : Nodes) (n : ℕ) (scope : Meanings) → NodesOf all ns → nodes_meant all n scope ns ≡ ops_said n scope (nodes_said all ns)
   nodes_are all no_nodes n scope w = refl
   nodes_are all (node first p bs rest) n scope w =
       let s = w.1.0 in
@@ -72,7 +72,7 @@ mutual
       let more = nodes_are all rest (n + (1 + bodies_count p bs)) (behind_tokens all n p scope) w.1.1.1 ∙ (λ i. ops_said (n + (1 + count i)) (names i) (nodes_said all rest)) in
       λ i. op (op_name n) (k i) (ds i) (os i) (ts i) (rs i) (more i)
 
-  pub bodies_are : (all : List Token) (bs : Bodies) (n : ℕ) (p : Parts) (scope : Scope) → FunctionsOf all bs → bodies_meant all n p scope bs ≡ regions_said n (said all p) scope (bodies_said all bs)
+  pub bodies_are : (all : List Token) (bs : Bodies) (n : ℕ) (p : Parts) (scope : Meanings) → FunctionsOf all bs → bodies_meant all n p scope bs ≡ regions_said n (said all p) scope (bodies_said all bs)
   bodies_are all no_bodies n p scope w = refl
   bodies_are all (body ns close rest) n p scope w =
       let ts = args_are p.row all p in

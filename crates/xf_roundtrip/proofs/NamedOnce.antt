@@ -11,7 +11,7 @@ use Rattle.xf_ir.specs.Walk.{ops_names, regions_names}
 use Rattle.xf_ir.proofs.Lists.{not_both, each_both, each_map}
 use Rattle.xf_read.specs.Meant.{joined, yield_tree}
 use Rattle.xf_read.specs.Names.{op_name}
-use Rattle.xf_read.specs.Scopes.{Scope, no_names}
+use Rattle.xf_read.specs.Scopes.{Meanings, no_names}
 use Rattle.xf_read.specs.Syntax.{ends_open}
 use Rattle.xf_read.specs.Written.{SaidNodes, no_nodes_said, node_said, SaidBodies, no_bodies_said, body_said, says_yield_last, operations, left_out, operations_inside, bodies_said}
 use Rattle.xf_read_base.specs.Parts.{said}
@@ -72,7 +72,7 @@ yield_range true n = ranges_own n (n + 1) [] (omega arith) (record { once = tt; 
 yield_range false n = none_range n
 
 mutual
-  ops_range : (ns : SaidNodes) (n : ℕ) (scope : Scope) → Ranges n (n + operations ns) (ops_names (ops_said n scope ns))
+  ops_range : (ns : SaidNodes) (n : ℕ) (scope : Meanings) → Ranges n (n + operations ns) (ops_names (ops_said n scope ns))
   ops_range no_nodes_said n scope = none_range n
   ops_range (node_said t bs rest) n scope =
       let i : ℕ = operations_inside t bs in
@@ -86,7 +86,7 @@ mutual
       ranges_own n d _ (omega (arith, total))
       (ranges_both (n + 1) ((n + 1) + i) (n + (1 + i)) d _ _ (omega arith) (omega arith) (omega (arith, total)) inner later')
 
-  bodies_range : (bs : SaidBodies) (n : ℕ) (t : Said) (scope : Scope) → Ranges n (n + operations_inside t bs) (regions_names (regions_said n t scope bs))
+  bodies_range : (bs : SaidBodies) (n : ℕ) (t : Said) (scope : Meanings) → Ranges n (n + operations_inside t bs) (regions_names (regions_said n t scope bs))
   bodies_range no_bodies_said n t scope = none_range n
   bodies_range (body_said ns rest) n t scope =
       let i : ℕ = operations ns in

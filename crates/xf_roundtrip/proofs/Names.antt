@@ -19,9 +19,9 @@ use Rattle.xf_ir.specs.Places.{Seen, done, inside, results_of, args_of, below, s
 use Rattle.xf_ir.specs.Renamed.{value_renamed}
 use Rattle.xf_read.specs.declared.scope.Named.{Named}
 use Rattle.xf_read.specs.Names.{op_name, argument_number, argument_named, results_named}
-use Rattle.xf_read.specs.Scopes.{Scope, beside, with_name, has_value, has_use, value_in, type_in, value_of}
+use Rattle.xf_read.specs.Scopes.{Meanings, beside, with_name, has_value, has_use, value_in, type_in, value_of}
 use Rattle.xf_read.specs.Types.{one_type}
-use Rattle.xf_ir.specs.PrintedNames.{Entry, Names, argument_text, next_number, type_of}
+use Rattle.xf_ir.specs.PrintedNames.{DefinedValues, Names, argument_text, next_number, type_of}
 use Rattle.xf_roundtrip.specs.Saying.{index_or, use_means, use_value, use_type, with_arguments, with_defines}
 use Rattle.xf_roundtrip.specs.SaidWell.{is_new, defines_new, arguments_new}
 use Rattle.xf_roundtrip.specs.Naming.{number_name, part_said, result_use, argument_use, use_or, use_printed, defines_printed, arguments_printed}
@@ -54,7 +54,7 @@ number_argument j k h e = digits_differ (decimal j) (114 ∷ 103 ∷ decimal k) 
 -- ---- what is visible
 
 -- a use stands for a value of a type
-pub record Stands (scope : Scope) (u : UseSaid) (v : ValueName) (t : Option PayloadType) : Type 0 where
+pub record Stands (scope : Meanings) (u : UseSaid) (v : ValueName) (t : Option PayloadType) : Type 0 where
   pub named : Named
   pub is : scope u.name ≡ Some named
   pub has : has_value (is_some u.number) (index_or u.number) named ≡ true
@@ -62,30 +62,30 @@ pub record Stands (scope : Scope) (u : UseSaid) (v : ValueName) (t : Option Payl
   pub type_is : slice_get named.types (index_or u.number) ≡ t
 
 -- each visible value is what its printed name stands for
-pub record Knows (ss : List Seen) (names : Names) (renamed : OpName → OpName) (scope : Scope) : Type 0 where
+pub record Knows (ss : List Seen) (names : Names) (renamed : OpName → OpName) (scope : Meanings) : Type 0 where
   pub by : (v : ValueName) → sees ss v ≡ true → Stands scope (use_printed names v) (value_renamed renamed v) (type_of names v)
 
 -- the numbers from here on are free, of results and of arguments
-pub record Clear (k a : ℕ) (scope : Scope) : Type 0 where
+pub record Clear (k a : ℕ) (scope : Meanings) : Type 0 where
   pub numbers : (j : ℕ) → k ≤ j → j < 2 ^ 64 → scope (number_name j) ≡ None
   pub arguments : (j : ℕ) → a ≤ j → j < 2 ^ 64 → scope (argument_text j) ≡ None
 
-pub clear_more : (k a k' a' : ℕ) (scope : Scope) → k ≤ k' → a ≤ a' → Clear k a scope → Clear k' a' scope
+pub clear_more : (k a k' a' : ℕ) (scope : Meanings) → k ≤ k' → a ≤ a' → Clear k a scope → Clear k' a' scope
 clear_more k a k' a' scope p q c = record { numbers = λ j le lt. c.numbers j (omega arith) lt; arguments = λ j le lt. c.arguments j (omega arith) lt }
 
 -- ---- a new name
 
-other_name : (b name : List ℕ) (x : Named) (scope : Scope) → b ≢ name → with_name b x scope name ≡ scope name
+other_name : (b name : List ℕ) (x : Named) (scope : Meanings) → b ≢ name → with_name b x scope name ≡ scope name
 other_name b name x scope n = let e = differ b name n in rw e refl
 
-this_name : (b : List ℕ) (x : Named) (scope : Scope) → scope b ≡ None → with_name b x scope b ≡ Some x
+this_name : (b : List ℕ) (x : Named) (scope : Meanings) → scope b ≡ None → with_name b x scope b ≡ Some x
 this_name b x scope free = let e = itself b in rw e (ap (λ o. Some (beside o x)) free)
 
 -- a name that stands for something is none that does not
-apart_from : (b name : List ℕ) (x : Named) (scope : Scope) → scope b ≡ None → scope name ≡ Some x → b ≢ name
+apart_from : (b name : List ℕ) (x : Named) (scope : Meanings) → scope b ≡ None → scope name ≡ Some x → b ≢ name
 apart_from b name x scope free is e = let p = ap scope e in absurd cc
 
-still_stands : (b : List ℕ) (x : Named) (scope : Scope) (u : UseSaid) (v : ValueName) (t : Option PayloadType) → scope b ≡ None → Stands scope u v t → Stands (with_name b x scope) u v t
+still_stands : (b : List ℕ) (x : Named) (scope : Meanings) (u : UseSaid) (v : ValueName) (t : Option PayloadType) → scope b ≡ None → Stands scope u v t → Stands (with_name b x scope) u v t
 still_stands b x scope u v t free s = record { named = s.named; is = other_name b u.name x scope (apart_from b u.name s.named scope free s.is) ∙ s.is; has = s.has; value = s.value; type_is = s.type_is }
 
 -- ---- results
@@ -105,7 +105,7 @@ result_seen false num count s = absurd cc
 same_op_name : (o m : OpName) → o.0 == m.0 ≡ true → o ≡ m
 same_op_name o m e = let p = eqb-true o.0 m.0 e in λ i. record { 0 = p i }
 
-result_stands : (n k num : ℕ) (ts : List PayloadType) (scope : Scope) (e : Entry) → e.number ≡ k → e.results ≡ ts → scope (number_name k) ≡ None → num < length ts
+result_stands : (n k num : ℕ) (ts : List PayloadType) (scope : Meanings) (e : DefinedValues) → e.number ≡ k → e.results ≡ ts → scope (number_name k) ≡ None → num < length ts
     → Stands (with_defines n ts (defines_printed k ts) scope) (result_use e num) (Result (op_name n) num) (slice_get ts num)
 result_stands n k num [] scope e p q free lt = absurd (omega (arith, lt))
 result_stands n k num (t ∷ []) scope e p q free lt =
@@ -129,31 +129,31 @@ result_stands n k num (t ∷ (s ∷ ts)) scope e p q free lt =
       type_is = ap (λ o. slice_get (t ∷ (s ∷ ts)) (index_or o)) i;
     }
 
-still_by_results : (n k a : ℕ) (ts : List PayloadType) (scope : Scope) (u : UseSaid) (v : ValueName) (t : Option PayloadType) → k < 2 ^ 64 → Clear k a scope → Stands scope u v t → Stands (with_defines n ts (defines_printed k ts) scope) u v t
+still_by_results : (n k a : ℕ) (ts : List PayloadType) (scope : Meanings) (u : UseSaid) (v : ValueName) (t : Option PayloadType) → k < 2 ^ 64 → Clear k a scope → Stands scope u v t → Stands (with_defines n ts (defines_printed k ts) scope) u v t
 still_by_results n k a [] scope u v t lt c s = s
 still_by_results n k a (x ∷ ts) scope u v t lt c s = still_stands (number_name k) (results_named n (length (x ∷ ts)) (x ∷ ts)) scope u v t (c.numbers k (omega arith) lt) s
 
 -- what the numbers of an operation are
 pub record HasEntry (names : Names) (m : OpName) (k a : ℕ) (ts args : List PayloadType) : Type 0 where
-  pub entry : Entry
+  pub entry : DefinedValues
   pub is : names.entry m.0 ≡ Some entry
   pub number : entry.number ≡ k
   pub results : entry.results ≡ ts
   pub first : entry.first ≡ a
   pub arguments : entry.args ≡ args
 
-new_result : (names : Names) (renamed : OpName → OpName) (m o : OpName) (n k a num : ℕ) (ts args : List PayloadType) (scope : Scope) → HasEntry names m k a ts args → renamed m ≡ op_name n → o ≡ m → scope (number_name k) ≡ None → num < length ts
+new_result : (names : Names) (renamed : OpName → OpName) (m o : OpName) (n k a num : ℕ) (ts args : List PayloadType) (scope : Meanings) → HasEntry names m k a ts args → renamed m ≡ op_name n → o ≡ m → scope (number_name k) ≡ None → num < length ts
     → Stands (with_defines n ts (defines_printed k ts) scope) (use_printed names (Result o num)) (Result (renamed o) num) (type_of names (Result o num))
 new_result names renamed m o n k a num ts args scope h r e free lt =
     let s = result_stands n k num ts scope h.entry h.number h.results free lt in
     let at : names.entry o.0 ≡ Some h.entry = ap (λ (p : OpName). names.entry p.0) e ∙ h.is in
     let u : result_use h.entry num ≡ use_printed names (Result o num) = ap (use_or (λ e. result_use e num)) (sym at) in
     let v : Result (op_name n) num ≡ Result (renamed o) num = ap (λ p. Result p num) (sym r ∙ ap renamed (sym e)) in
-    let t : slice_get ts num ≡ type_of names (Result o num) = ap (λ us. slice_get us num) (sym h.results) ∙ ap (option_and_then (λ (e : Entry). slice_get e.results num)) (sym at) in
-    let scope' : Scope = with_defines n ts (defines_printed k ts) scope in
+    let t : slice_get ts num ≡ type_of names (Result o num) = ap (λ us. slice_get us num) (sym h.results) ∙ ap (option_and_then (λ (e : DefinedValues). slice_get e.results num)) (sym at) in
+    let scope' : Meanings = with_defines n ts (defines_printed k ts) scope in
     subst (λ x. Stands scope' x (Result (renamed o) num) (type_of names (Result o num))) u (subst (λ x. Stands scope' (result_use h.entry num) x (type_of names (Result o num))) v (subst (λ x. Stands scope' (result_use h.entry num) (Result (op_name n) num) x) t s))
 
-knows_at_results : (names : Names) (renamed : OpName → OpName) (ss : List Seen) (m : OpName) (n k a : ℕ) (ts args : List PayloadType) (scope : Scope) → HasEntry names m k a ts args → renamed m ≡ op_name n → k < 2 ^ 64 → Knows ss names renamed scope → Clear k a scope
+knows_at_results : (names : Names) (renamed : OpName → OpName) (ss : List Seen) (m : OpName) (n k a : ℕ) (ts args : List PayloadType) (scope : Meanings) → HasEntry names m k a ts args → renamed m ≡ op_name n → k < 2 ^ 64 → Knows ss names renamed scope → Clear k a scope
     → (v : ValueName) → (is_some (results_of m (length ts) v) || sees ss v) ≡ true → Stands (with_defines n ts (defines_printed k ts) scope) (use_printed names v) (value_renamed renamed v) (type_of names v)
 knows_at_results names renamed ss m n k a ts args scope h r lt w c (Result o num) s = elim (seen_or (results_of m (length ts) (Result o num)) (sees ss (Result o num)) s) [
   | inl new ↦ let p = result_seen (o.0 == m.0) num (length ts) new in new_result names renamed m o n k a num ts args scope h r (same_op_name o m p.0) (c.numbers k (omega arith) lt) p.1
@@ -162,33 +162,33 @@ knows_at_results names renamed ss m n k a ts args scope h r lt w c (Result o num
 knows_at_results names renamed ss m n k a ts args scope h r lt w c (Arg o q num) s = still_by_results n k a ts scope _ _ _ lt c (w.by (Arg o q num) s)
 knows_at_results names renamed ss m n k a ts args scope h r lt w c (Free num) s = still_by_results n k a ts scope _ _ _ lt c (w.by (Free num) s)
 
-pub knows_results : (names : Names) (renamed : OpName → OpName) (ss : List Seen) (m : OpName) (n k a : ℕ) (ts args : List PayloadType) (scope : Scope) → HasEntry names m k a ts args → renamed m ≡ op_name n → k < 2 ^ 64 → Knows ss names renamed scope → Clear k a scope
+pub knows_results : (names : Names) (renamed : OpName → OpName) (ss : List Seen) (m : OpName) (n k a : ℕ) (ts args : List PayloadType) (scope : Meanings) → HasEntry names m k a ts args → renamed m ≡ op_name n → k < 2 ^ 64 → Knows ss names renamed scope → Clear k a scope
     → Knows (done m (length ts) ∷ ss) names renamed (with_defines n ts (defines_printed k ts) scope)
 knows_results names renamed ss m n k a ts args scope h r lt w c = record { by = λ v s. knows_at_results names renamed ss m n k a ts args scope h r lt w c v s }
 
-pub clear_results : (n k a : ℕ) (ts : List PayloadType) (scope : Scope) → k < 2 ^ 64 → Clear k a scope → Clear (next_number k ts) a (with_defines n ts (defines_printed k ts) scope)
+pub clear_results : (n k a : ℕ) (ts : List PayloadType) (scope : Meanings) → k < 2 ^ 64 → Clear k a scope → Clear (next_number k ts) a (with_defines n ts (defines_printed k ts) scope)
 clear_results n k a [] scope lt c = c
 clear_results n k a (t ∷ ts) scope lt c = record {
   numbers = λ j le l. other_name (number_name k) (number_name j) _ scope (numbers_differ k j lt l (λ e. omega (arith, e, le))) ∙ c.numbers j (omega arith) l;
   arguments = λ j le l. other_name (number_name k) (argument_text j) _ scope (number_argument k j lt) ∙ c.arguments j le l;
 }
 
-new_by : (scope : Scope) (name : List ℕ) → scope name ≡ None → is_new scope name ≡ true
+new_by : (scope : Meanings) (name : List ℕ) → scope name ≡ None → is_new scope name ≡ true
 new_by scope name e = ap (λ o. not (is_some o)) e
 
-pub results_new : (k a : ℕ) (ts : List PayloadType) (scope : Scope) → k < 2 ^ 64 → Clear k a scope → defines_new scope (defines_printed k ts) ≡ true
+pub results_new : (k a : ℕ) (ts : List PayloadType) (scope : Meanings) → k < 2 ^ 64 → Clear k a scope → defines_new scope (defines_printed k ts) ≡ true
 results_new k a [] scope lt c = refl
 results_new k a (t ∷ ts) scope lt c = new_by scope (number_name k) (c.numbers k (omega arith) lt)
 
 -- ---- arguments
 
-clear_argument : (k a : ℕ) (y : Named) (scope : Scope) → a < 2 ^ 64 → Clear k a scope → Clear k (suc a) (with_name (argument_text a) y scope)
+clear_argument : (k a : ℕ) (y : Named) (scope : Meanings) → a < 2 ^ 64 → Clear k a scope → Clear k (suc a) (with_name (argument_text a) y scope)
 clear_argument k a y scope lt c = record {
   numbers = λ j le l. other_name (argument_text a) (number_name j) y scope (λ e. number_argument j a l (sym e)) ∙ c.numbers j le l;
   arguments = λ j le l. other_name (argument_text a) (argument_text j) y scope (arguments_differ a j lt l (λ e. omega (arith, e, le))) ∙ c.arguments j (omega arith) l;
 }
 
-still_by_arguments : (n j k a : ℕ) (us ts : List PayloadType) (scope : Scope) (u : UseSaid) (v : ValueName) (t : Option PayloadType) → a + length ts < 2 ^ 64 → Clear k a scope → Stands scope u v t
+still_by_arguments : (n j k a : ℕ) (us ts : List PayloadType) (scope : Meanings) (u : UseSaid) (v : ValueName) (t : Option PayloadType) → a + length ts < 2 ^ 64 → Clear k a scope → Stands scope u v t
     → Stands (with_arguments n j us (arguments_printed a ts) scope) u v t
 still_by_arguments n j k a us [] scope u v t lt c s = s
 still_by_arguments n j k a us (x ∷ ts) scope u v t lt c s =
@@ -196,15 +196,15 @@ still_by_arguments n j k a us (x ∷ ts) scope u v t lt c s =
     still_by_arguments n (j + 1) k (suc a) us ts (with_name (argument_text a) y scope) u v t (omega (arith, lt)) (clear_argument k a y scope (omega (arith, lt)) c)
     (still_stands (argument_text a) y scope u v t (c.arguments a (omega arith) (omega (arith, lt))) s)
 
-pub clear_arguments : (n j k a : ℕ) (us ts : List PayloadType) (scope : Scope) → a + length ts < 2 ^ 64 → Clear k a scope → Clear k (a + length ts) (with_arguments n j us (arguments_printed a ts) scope)
+pub clear_arguments : (n j k a : ℕ) (us ts : List PayloadType) (scope : Meanings) → a + length ts < 2 ^ 64 → Clear k a scope → Clear k (a + length ts) (with_arguments n j us (arguments_printed a ts) scope)
 clear_arguments n j k a us [] scope lt c = clear_more k a k (a + 0) scope (omega arith) (omega arith) c
 clear_arguments n j k a us (x ∷ ts) scope lt c =
     let y : Named = argument_named n j (slice_get us j) in
-    let inner : Scope = with_name (argument_text a) y scope in
+    let inner : Meanings = with_name (argument_text a) y scope in
     let r = clear_arguments n (j + 1) k (suc a) us ts inner (omega (arith, lt)) (clear_argument k a y scope (omega (arith, lt)) c) in
     clear_more k (suc a + length ts) k (a + suc (length ts)) (with_arguments n (j + 1) us (arguments_printed (suc a) ts) inner) (omega arith) (omega arith) r
 
-pub arguments_are_new : (n j k a : ℕ) (us ts : List PayloadType) (scope : Scope) → a + length ts < 2 ^ 64 → Clear k a scope → arguments_new n j us (arguments_printed a ts) scope ≡ true
+pub arguments_are_new : (n j k a : ℕ) (us ts : List PayloadType) (scope : Meanings) → a + length ts < 2 ^ 64 → Clear k a scope → arguments_new n j us (arguments_printed a ts) scope ≡ true
 arguments_are_new n j k a us [] scope lt c = refl
 arguments_are_new n j k a us (x ∷ ts) scope lt c =
     let y : Named = argument_named n j (slice_get us j) in
@@ -222,7 +222,7 @@ number_kept j lt = grind (arith, nat_tests)
 argument : ℕ → UseSaid
 argument j = record { name = argument_text j; number = None }
 
-argument_here : (n j a : ℕ) (us : List PayloadType) (scope : Scope) → scope (argument_text a) ≡ None → j < 2 ^ 32 → Stands (with_name (argument_text a) (argument_named n j (slice_get us j)) scope) (argument a) (Arg (op_name n) 0 j) (slice_get us j)
+argument_here : (n j a : ℕ) (us : List PayloadType) (scope : Meanings) → scope (argument_text a) ≡ None → j < 2 ^ 32 → Stands (with_name (argument_text a) (argument_named n j (slice_get us j)) scope) (argument a) (Arg (op_name n) 0 j) (slice_get us j)
 unfolding argument
 argument_here n j a us scope free lt = record {
   named = argument_named n j (slice_get us j);
@@ -232,25 +232,25 @@ argument_here n j a us scope free lt = record {
   type_is = one_of (slice_get us j);
 }
 
-argument_stands : (n j k a x : ℕ) (us ts : List PayloadType) (scope : Scope) → a + length ts < 2 ^ 64 → j + length ts ≤ 2 ^ 32 → x < length ts → Clear k a scope
+argument_stands : (n j k a x : ℕ) (us ts : List PayloadType) (scope : Meanings) → a + length ts < 2 ^ 64 → j + length ts ≤ 2 ^ 32 → x < length ts → Clear k a scope
     → Stands (with_arguments n j us (arguments_printed a ts) scope) (argument (a + x)) (Arg (op_name n) 0 (j + x)) (slice_get us (j + x))
 argument_stands n j k a x us [] scope lt le below c = absurd (omega (arith, below))
 argument_stands n j k a zero us (t ∷ ts) scope lt le below c =
     let y : Named = argument_named n j (slice_get us j) in
-    let inner : Scope = with_name (argument_text a) y scope in
+    let inner : Meanings = with_name (argument_text a) y scope in
     let h = argument_here n j a us scope (c.arguments a (omega arith) (omega (arith, lt))) (omega (arith, le)) in
     let s = still_by_arguments n (j + 1) k (suc a) us ts inner (argument a) (Arg (op_name n) 0 j) (slice_get us j) (omega (arith, lt)) (clear_argument k a y scope (omega (arith, lt)) c) h in
     let p : a ≡ a + 0 = omega arith in
     let q : j ≡ j + 0 = omega arith in
-    let whole : Scope = with_arguments n (j + 1) us (arguments_printed (suc a) ts) inner in
+    let whole : Meanings = with_arguments n (j + 1) us (arguments_printed (suc a) ts) inner in
     subst (λ i. Stands whole (argument i) (Arg (op_name n) 0 (j + 0)) (slice_get us (j + 0))) p (subst (λ i. Stands whole (argument a) (Arg (op_name n) 0 i) (slice_get us i)) q s)
 argument_stands n j k a (suc x) us (t ∷ ts) scope lt le below c =
     let y : Named = argument_named n j (slice_get us j) in
-    let inner : Scope = with_name (argument_text a) y scope in
+    let inner : Meanings = with_name (argument_text a) y scope in
     let s = argument_stands n (j + 1) k (suc a) x us ts inner (omega (arith, lt)) (omega (arith, le)) (omega (arith, below)) (clear_argument k a y scope (omega (arith, lt)) c) in
     let p : suc a + x ≡ a + suc x = omega arith in
     let q : (j + 1) + x ≡ j + suc x = omega arith in
-    let whole : Scope = with_arguments n (j + 1) us (arguments_printed (suc a) ts) inner in
+    let whole : Meanings = with_arguments n (j + 1) us (arguments_printed (suc a) ts) inner in
     subst (λ i. Stands whole (argument i) (Arg (op_name n) 0 (j + suc x)) (slice_get us (j + suc x))) p (subst (λ i. Stands whole (argument (suc a + x)) (Arg (op_name n) 0 i) (slice_get us i)) q s)
 
 -- only the first block of an operation has arguments
@@ -265,7 +265,7 @@ both_true : (a b : Bool) → (a && b) ≡ true → (a ≡ true) × (b ≡ true)
 both_true true b e = (refl, e)
 both_true false b e = absurd cc
 
-new_argument : (names : Names) (renamed : OpName → OpName) (m o : OpName) (n k a q num : ℕ) (ts args : List PayloadType) (scope : Scope) → HasEntry names m k a ts args → renamed m ≡ op_name n → o ≡ m → q ≡ 0 → num < length args
+new_argument : (names : Names) (renamed : OpName → OpName) (m o : OpName) (n k a q num : ℕ) (ts args : List PayloadType) (scope : Meanings) → HasEntry names m k a ts args → renamed m ≡ op_name n → o ≡ m → q ≡ 0 → num < length args
     → a + length args < 2 ^ 64 → length args ≤ 2 ^ 32 → (k' : ℕ) → Clear k' a scope
     → Stands (with_arguments n 0 args (arguments_printed a args) scope) (use_printed names (Arg o q num)) (Arg (renamed o) q num) (type_of names (Arg o q num))
 unfolding argument
@@ -275,12 +275,12 @@ new_argument names renamed m o n k a q num ts args scope h r e z lt room small k
     let u : argument (a + num) ≡ use_printed names (Arg o q num) = ap (λ i. argument (i + num)) (sym h.first) ∙ ap (use_or (λ e. argument_use e num)) (sym at) in
     let i : 0 + num ≡ num = omega arith in
     let v : Arg (op_name n) 0 (0 + num) ≡ Arg (renamed o) q num = ap (Arg (op_name n) 0) i ∙ ap (λ p. Arg p 0 num) (sym r ∙ ap renamed (sym e)) ∙ ap (λ p. Arg (renamed o) p num) (sym z) in
-    let t : slice_get args (0 + num) ≡ type_of names (Arg o q num) = ap (slice_get args) i ∙ ap (λ us. slice_get us num) (sym h.arguments) ∙ ap (option_and_then (λ (e : Entry). slice_get e.args num)) (sym at) in
-    let scope' : Scope = with_arguments n 0 args (arguments_printed a args) scope in
+    let t : slice_get args (0 + num) ≡ type_of names (Arg o q num) = ap (slice_get args) i ∙ ap (λ us. slice_get us num) (sym h.arguments) ∙ ap (option_and_then (λ (e : DefinedValues). slice_get e.args num)) (sym at) in
+    let scope' : Meanings = with_arguments n 0 args (arguments_printed a args) scope in
     subst (λ x. Stands scope' x (Arg (renamed o) q num) (type_of names (Arg o q num))) u
     (subst (λ x. Stands scope' (argument (a + num)) x (type_of names (Arg o q num))) v (subst (λ x. Stands scope' (argument (a + num)) (Arg (op_name n) 0 (0 + num)) x) t s))
 
-knows_at_arguments : (names : Names) (renamed : OpName → OpName) (ss : List Seen) (m : OpName) (n k a i : ℕ) (ts args : List PayloadType) (scope : Scope) → HasEntry names m k a ts args → renamed m ≡ op_name n → IsFirst i args → a + length args < 2 ^ 64 → length args ≤ 2 ^ 32 → Knows ss names renamed scope
+knows_at_arguments : (names : Names) (renamed : OpName → OpName) (ss : List Seen) (m : OpName) (n k a i : ℕ) (ts args : List PayloadType) (scope : Meanings) → HasEntry names m k a ts args → renamed m ≡ op_name n → IsFirst i args → a + length args < 2 ^ 64 → length args ≤ 2 ^ 32 → Knows ss names renamed scope
     → (k' : ℕ) → Clear k' a scope → (v : ValueName) → (is_some (args_of m i (length args) v) || sees ss v) ≡ true → Stands (with_arguments n 0 args (arguments_printed a args) scope) (use_printed names v) (value_renamed renamed v) (type_of names v)
 knows_at_arguments names renamed ss m n k a i ts args scope h r first room small w k' c (Arg o q num) s = elim (seen_or (args_of m i (length args) (Arg o q num)) (sees ss (Arg o q num)) s) [
   | inl new ↦
@@ -292,23 +292,23 @@ knows_at_arguments names renamed ss m n k a i ts args scope h r first room small
 knows_at_arguments names renamed ss m n k a i ts args scope h r first room small w k' c (Result o num) s = still_by_arguments n 0 k' a args args scope _ _ _ room c (w.by (Result o num) s)
 knows_at_arguments names renamed ss m n k a i ts args scope h r first room small w k' c (Free num) s = still_by_arguments n 0 k' a args args scope _ _ _ room c (w.by (Free num) s)
 
-pub knows_arguments : (names : Names) (renamed : OpName → OpName) (ss : List Seen) (m : OpName) (n k a i : ℕ) (ts args : List PayloadType) (scope : Scope) → HasEntry names m k a ts args → renamed m ≡ op_name n → IsFirst i args → a + length args < 2 ^ 64 → length args ≤ 2 ^ 32 → Knows ss names renamed scope
+pub knows_arguments : (names : Names) (renamed : OpName → OpName) (ss : List Seen) (m : OpName) (n k a i : ℕ) (ts args : List PayloadType) (scope : Meanings) → HasEntry names m k a ts args → renamed m ≡ op_name n → IsFirst i args → a + length args < 2 ^ 64 → length args ≤ 2 ^ 32 → Knows ss names renamed scope
     → (k' : ℕ) → Clear k' a scope → Knows (inside m i (length args) ∷ ss) names renamed (with_arguments n 0 args (arguments_printed a args) scope)
 knows_arguments names renamed ss m n k a i ts args scope h r first room small w k' c = record { by = λ v s. knows_at_arguments names renamed ss m n k a i ts args scope h r first room small w k' c v s }
 
 -- ---- uses
 
 -- the uses of an operation stand for its operands
-pub record UsesAgain (scope : Scope) (us : List UseSaid) (os : List ValueName) (ts : List (Option PayloadType)) : Type 0 where
+pub record UsesAgain (scope : Meanings) (us : List UseSaid) (os : List ValueName) (ts : List (Option PayloadType)) : Type 0 where
   pub mean : every (use_means scope) us ≡ true
   pub values : map (use_value scope) us ≡ os
   pub types : map (use_type scope) us ≡ ts
 
-use_again : (scope : Scope) (u : UseSaid) (v : ValueName) (t : Option PayloadType) → Stands scope u v t → (use_means scope u ≡ true) × ((use_value scope u ≡ v) × (use_type scope u ≡ t))
+use_again : (scope : Meanings) (u : UseSaid) (v : ValueName) (t : Option PayloadType) → Stands scope u v t → (use_means scope u ≡ true) × ((use_value scope u ≡ v) × (use_type scope u ≡ t))
 use_again scope u v t s =
     (ap (has_use (is_some u.number) (index_or u.number)) s.is ∙ s.has, (ap (λ o. value_in o (index_or u.number)) s.is ∙ s.value, ap (λ o. type_in o (index_or u.number)) s.is ∙ s.type_is))
 
-pub uses_again : (names : Names) (renamed : OpName → OpName) (ss : List Seen) (scope : Scope) (os : List ValueName) → Knows ss names renamed scope → AllSeen ss os
+pub uses_again : (names : Names) (renamed : OpName → OpName) (ss : List Seen) (scope : Meanings) (os : List ValueName) → Knows ss names renamed scope → AllSeen ss os
     → UsesAgain scope (map (use_printed names) os) (map (value_renamed renamed) os) (map (type_of names) os)
 uses_again names renamed ss scope [] w h = record { mean = refl; values = refl; types = refl }
 uses_again names renamed ss scope (v ∷ os) w h =

@@ -3,10 +3,10 @@ use Rattle.std.specs.Prelude.{◌≡◌, ℕ, ◌+◌, ◌^◌, ◌<◌, List, [
 use Rattle.xf_type.specs.declared.payload_type.PayloadType.{PayloadType}
 use Rattle.xf_type.specs.declared.payload_type.PayloadType.TheVariants.{Scalar}
 use Rattle.xf_type.specs.declared.payload_type.Width.{Width}
-use Rattle.xf_lex.specs.Laid.{Piece, laid, AllStay}
-use Rattle.xf_grammar.specs.Tokens.{Seen, open_brace, close_brace}
-use Rattle.xf_grammar.specs.Laid.{seen_plains}
-use Rattle.xf_read_base.specs.declared.row.Slot.TheVariants as slot
+use Rattle.xf_lex.specs.Layout.{SpacedToken, layout, AllStay}
+use Rattle.xf_grammar.specs.Tokens.{Terminal, open_brace, close_brace}
+use Rattle.xf_grammar.specs.Layout.{terminals_plain}
+use Rattle.xf_read_base.specs.declared.row.FormatElement.TheVariants as slot
 use Rattle.xf_read_base.specs.Pieces.{mark, word, piece_written, head_written}
 use Rattle.xf_ir.specs.declared.name.OpName.{OpName}
 use Rattle.xf_ir.specs.declared.name.ValueName.{ValueName}
@@ -15,14 +15,14 @@ use Rattle.xf_ir.specs.declared.kind.Attr.{Attr}
 use Rattle.xf_ir.specs.declared.kind.Kind.{Kind}
 use Rattle.xf_ir.specs.declared.kind.Kind.TheVariants as kind
 use Rattle.xf_ir.specs.declared.op.Module.{Module}
-use Rattle.xf_ir.specs.Kinds.{ends, is_container, returned_types}
+use Rattle.xf_ir.specs.Kinds.{is_terminator, is_container, returned_types}
 use Rattle.xf_ir.specs.Lists.{Each}
 use Rattle.xf_ir.specs.Placed.{functions_of}
 use Rattle.xf_ir.specs.RuleAttributes.{kind_fits, value_fits}
 use Rattle.xf_ir.specs.RuleBlocks.{is_end}
 use Rattle.xf_ir.specs.Tree.{Ops, no_ops, op, Regions, no_regions, region, Tree}
 use Rattle.xf_ir.specs.Words.{is_word}
-use Rattle.xf_ir.specs.PrintedNames.{Entry, Names, no_names, with_ops, first_args, number_of, first_of}
+use Rattle.xf_ir.specs.PrintedNames.{DefinedValues, Names, no_names, with_ops, first_args, number_of, first_of}
 use Rattle.xf_ir.specs.PrintedForm.{is_empty_yield}
 use Rattle.xf_ir.specs.Bounds.{IsShortAttr, HasShortSymbol}
 use Rattle.xf_roundtrip.specs.Printable.{HasBytes}
@@ -30,50 +30,50 @@ use Rattle.xf_roundtrip.specs.Printing.{dictionary_piece, is_core, row_of, piece
 
 -- ---- tokens
 
-abbrev pub head_tokens : Names → Tree → List Seen
+abbrev pub head_tokens : Names → Tree → List Terminal
 head_tokens names t =
     head_written (results_of (number_of (names.entry t.name.0)) t.results) (row_of t.kind)
     (pieces_of names (first_of (names.entry t.name.0)) (first_args t.regions) t.kind t.attrs t.operands t.results)
 
 -- the attributes behind the bodies
-abbrev pub tail_tokens : Kind → List Attr → List Seen
+abbrev pub tail_tokens : Kind → List Attr → List Terminal
 tail_tokens (kind.For width) ds = piece_written slot.Dictionary (dictionary_piece ds)
 tail_tokens kind.If ds = piece_written slot.Dictionary (dictionary_piece ds)
 tail_tokens k ds = []
 
 -- a region behind another one is that of else
-abbrev pub else_tokens : Regions → List Seen
+abbrev pub else_tokens : Regions → List Terminal
 else_tokens no_regions = []
 else_tokens (region args ops rest) = word (codes "else") ∷ []
 
 abbrev mutual
   -- the operations of a block; a yield without operands and attributes is left out
-  pub ops_tokens : Names → Ops → List Seen
+  pub ops_tokens : Names → Ops → List Terminal
   ops_tokens names no_ops = []
   ops_tokens names (op n k ds os ts rs rest) =
       if is_empty_yield k ds os then ops_tokens names rest
       else head_tokens names (record { name = n; kind = k; attrs = ds; operands = os; results = ts; regions = rs }) ++ (regions_tokens names rs ++ (tail_tokens k ds ++ ops_tokens names rest))
 
-  pub regions_tokens : Names → Regions → List Seen
+  pub regions_tokens : Names → Regions → List Terminal
   regions_tokens names no_regions = []
   regions_tokens names (region args ops rest) = mark open_brace ∷ (ops_tokens names ops ++ mark close_brace ∷ (else_tokens rest ++ regions_tokens names rest))
 
 -- functions, each of which names its own values
-abbrev pub functions_tokens : Ops → List Seen
+abbrev pub functions_tokens : Ops → List Terminal
 functions_tokens no_ops = []
 functions_tokens (op n k ds os ts rs rest) =
     head_tokens (with_ops no_names (op n k ds os ts rs no_ops)) (record { name = n; kind = k; attrs = ds; operands = os; results = ts; regions = rs })
     ++ (regions_tokens (with_ops no_names (op n k ds os ts rs no_ops)) rs ++ functions_tokens rest)
 
-abbrev pub module_tokens : Module → List Seen
+abbrev pub module_tokens : Module → List Terminal
 module_tokens m = head_tokens no_names m.root ++ mark open_brace ∷ (functions_tokens (functions_of m) ++ mark close_brace ∷ [])
 
 -- ---- what operations need
 
 -- a value that has a name and a scalar type, which is at a place with a number of 64 bits
 abbrev pub Known : Names → ValueName → Type 0
-Known names (Result o num) = (e : Entry) × ((w : Width) × ((names.entry o.0 ≡ Some e) × ((slice_get e.results num ≡ Some (Scalar w)) × ((e.number < 2 ^ 64) × (num < 2 ^ 32)))))
-Known names (Arg o r num) = (e : Entry) × ((w : Width) × ((names.entry o.0 ≡ Some e) × ((slice_get e.args num ≡ Some (Scalar w)) × (e.first + num < 2 ^ 64))))
+Known names (Result o num) = (e : DefinedValues) × ((w : Width) × ((names.entry o.0 ≡ Some e) × ((slice_get e.results num ≡ Some (Scalar w)) × ((e.number < 2 ^ 64) × (num < 2 ^ 32)))))
+Known names (Arg o r num) = (e : DefinedValues) × ((w : Width) × ((names.entry o.0 ≡ Some e) × ((slice_get e.args num ≡ Some (Scalar w)) × (e.first + num < 2 ^ 64))))
 Known names (Free num) = ⊥
 
 abbrev pub IsScalar : PayloadType → Type 0
@@ -158,7 +158,7 @@ pub record Fits (names : Names) (n : OpName) (k : Kind) (ds : List Attr) (os : L
   pub number : number_of (names.entry n.0) < 2 ^ 64
   pub first : first_of (names.entry n.0) + length (first_args rs) < 2 ^ 64
   pub few : HasFew k ds os ts (first_args rs)
-  pub last : (not (ends k) || is_end rest) ≡ true
+  pub last : (not (is_terminator k) || is_end rest) ≡ true
 
 abbrev mutual
   pub OpsFit : Names → Ops → Type 0
@@ -189,9 +189,9 @@ pub record ModuleFits (m : Module) : Type 0 where
 -- ---- texts that are laid out
 
 -- a text is laid out of blanks and these tokens, behind the word tensor or not
-pub record Reads (after_tensor : Bool) (text : List ℕ) (ts : List Seen) : Type 0 where
-  pub pieces : List Piece
+pub record Reads (after_tensor : Bool) (text : List ℕ) (ts : List Terminal) : Type 0 where
+  pub pieces : List SpacedToken
   pub tail : List ℕ
-  pub text_is : laid pieces tail ≡ text
-  pub tokens_are : seen_plains (map (λ w. w.token) pieces) ≡ ts
+  pub text_is : layout pieces tail ≡ text
+  pub tokens_are : terminals_plain (map (λ w. w.token) pieces) ≡ ts
   pub stay : AllStay after_tensor pieces tail

@@ -13,7 +13,7 @@ use Rattle.xf_ir.specs.declared.name.ValueName.TheVariants.{Result, Arg, Free}
 use Rattle.xf_ir.specs.Calls.{Signatures}
 use Rattle.xf_ir.specs.Kinds.{is_container, is_module, is_function}
 use Rattle.xf_ir.specs.Lists.{is_empty}
-use Rattle.xf_ir.specs.Places.{done, inside, place_of, below, sees, AllSeen}
+use Rattle.xf_ir.specs.Places.{done, inside, numbering_of, below, sees, AllSeen}
 use Rattle.xf_ir.specs.Placed.{Typed, type_or, type_at, Holder, holder_of}
 use Rattle.xf_ir.specs.RuleBlocks.{block_args, are_blocks, is_one, block_ends, blocks_end, stands_at_end}
 use Rattle.xf_ir.specs.Tree.{Ops, no_ops, op, Regions, no_regions, region}
@@ -22,7 +22,7 @@ use Rattle.xf_ir.specs.Walk.{ops_names, regions_names}
 use Rattle.xf_ir_laws.proofs.Obeys.{OpsObey, RegionsObey}
 use Rattle.xf_ir_laws.proofs.SeenTypes.{seen_of}
 use Rattle.xf_read.specs.Names.{op_name}
-use Rattle.xf_ir.specs.PrintedNames.{Entry, Names, first_args, next_number, type_of}
+use Rattle.xf_ir.specs.PrintedNames.{DefinedValues, Names, first_args, next_number, type_of}
 use Rattle.xf_ir.specs.PrintedForm.{is_empty_yield}
 use Rattle.xf_roundtrip.specs.SaidPrinted.{head_by}
 use Rattle.xf_roundtrip.proofs.Again.{ops_count, regions_count, ops_number, regions_number, ops_argument, regions_argument, number_more, ops_number_more, regions_number_more, ops_argument_more, regions_argument_more, SaysIt, OpsSo, RegionsSo}
@@ -67,10 +67,10 @@ knows_more_results env names m k a ts args h w = record { by = at }
   where
     at : (v : ValueName) → sees (seen_of ((done m (length ts), ts) ∷ env)) v ≡ true → type_of names v ≡ type_at ((done m (length ts), ts) ∷ env) v
     at (Result o num) s =
-        value_type (place_of (done m (length ts)) (Result o num)) ts (type_of names (Result o num)) (type_at env (Result o num)) (sees (seen_of env) (Result o num))
+        value_type (numbering_of (done m (length ts)) (Result o num)) ts (type_of names (Result o num)) (type_at env (Result o num)) (sees (seen_of env) (Result o num))
         (λ i e. let p = place_result (o.0 == m.0) num (length ts) i e in
-        ap (λ (q : OpName). option_and_then (λ (x : Entry). slice_get x.results num) (names.entry q.0)) (same_op_name o m p.0)
-        ∙ (ap (option_and_then (λ (x : Entry). slice_get x.results num)) h.is ∙ (ap (λ xs. slice_get xs num) h.results ∙ ap (slice_get ts) p.1)))
+        ap (λ (q : OpName). option_and_then (λ (x : DefinedValues). slice_get x.results num) (names.entry q.0)) (same_op_name o m p.0)
+        ∙ (ap (option_and_then (λ (x : DefinedValues). slice_get x.results num)) h.is ∙ (ap (λ xs. slice_get xs num) h.results ∙ ap (slice_get ts) p.1)))
         (w.by (Result o num)) s
     at (Arg o r num) s = w.by (Arg o r num) s
     at (Free num) s = w.by (Free num) s
@@ -80,11 +80,11 @@ knows_more_arguments env names m k a j ts args h w = record { by = at }
   where
     at : (v : ValueName) → sees (seen_of ((inside m j (length args), args) ∷ env)) v ≡ true → type_of names v ≡ type_at ((inside m j (length args), args) ∷ env) v
     at (Arg o r num) s =
-        value_type (place_of (inside m j (length args)) (Arg o r num)) args (type_of names (Arg o r num)) (type_at env (Arg o r num)) (sees (seen_of env) (Arg o r num))
+        value_type (numbering_of (inside m j (length args)) (Arg o r num)) args (type_of names (Arg o r num)) (type_at env (Arg o r num)) (sees (seen_of env) (Arg o r num))
         (λ i e. let p = place_result ((o.0 == m.0) && (r == j)) num (length args) i e in
         let q = and_parts (o.0 == m.0) (r == j) p.0 in
-        ap (λ (q : OpName). option_and_then (λ (x : Entry). slice_get x.args num) (names.entry q.0)) (same_op_name o m q.0)
-        ∙ (ap (option_and_then (λ (x : Entry). slice_get x.args num)) h.is ∙ (ap (λ xs. slice_get xs num) h.arguments ∙ ap (slice_get args) p.1)))
+        ap (λ (q : OpName). option_and_then (λ (x : DefinedValues). slice_get x.args num) (names.entry q.0)) (same_op_name o m q.0)
+        ∙ (ap (option_and_then (λ (x : DefinedValues). slice_get x.args num)) h.is ∙ (ap (λ xs. slice_get xs num) h.arguments ∙ ap (slice_get args) p.1)))
         (w.by (Arg o r num)) s
     at (Result o num) s = w.by (Result o num) s
     at (Free num) s = w.by (Free num) s

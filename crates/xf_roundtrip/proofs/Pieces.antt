@@ -10,9 +10,9 @@ use Rattle.xf_type.specs.declared.payload_type.Width.{Width}
 use Rattle.xf_type.specs.declared.payload_type.Width.TheVariants.{I1, I8, I16, I32, I64, Index}
 use Rattle.xf_lex.specs.declared.token.TokenKind.TheVariants as kind
 use Rattle.xf_lex.proofs.Stays.{AllPass}
-use Rattle.xf_grammar.specs.Tokens.{Seen, sees, comma, colon, open_paren, close_paren, open_brace, close_brace}
+use Rattle.xf_grammar.specs.Tokens.{Terminal, terminal, comma, colon, open_paren, close_paren, open_brace, close_brace}
 use Rattle.xf_grammar.specs.Grammar.{more_written}
-use Rattle.xf_read_base.specs.declared.row.Slot.TheVariants as slot
+use Rattle.xf_read_base.specs.declared.row.FormatElement.TheVariants as slot
 use Rattle.xf_read_base.specs.Pieces.{mark, word, width_word, truth_word, use_written, hash_written, type_written, minus_written, value_written, attribute_written, list_written, until_written, piece_written}
 use Rattle.xf_ir.specs.declared.name.ValueName.{ValueName}
 use Rattle.xf_ir.specs.declared.name.ValueName.TheVariants.{Result, Arg, Free}
@@ -40,18 +40,18 @@ pub empty : Lays true [] []
 empty = known_blanks [] refl
 
 -- texts are laid out of these lists of tokens, one by one
-abbrev pub EachLays : List (List ℕ) → List (List Seen) → Type 0
+abbrev pub EachLays : List (List ℕ) → List (List Terminal) → Type 0
 EachLays [] [] = Unit {0}
 EachLays [] (p ∷ ps) = ⊥
 EachLays (t ∷ ts) [] = ⊥
 EachLays (t ∷ ts) (p ∷ ps) = Lays false t p × EachLays ts ps
 
 -- tokens with a comma between each two, before others
-abbrev pub more_then : List (List Seen) → List Seen → List Seen
+abbrev pub more_then : List (List Terminal) → List Terminal → List Terminal
 more_then [] us = us
 more_then (p ∷ ps) us = mark comma ∷ (p ++ more_then ps us)
 
-abbrev pub list_then : List (List Seen) → List Seen → List Seen
+abbrev pub list_then : List (List Terminal) → List Terminal → List Terminal
 list_then [] us = us
 list_then (p ∷ ps) us = p ++ more_then ps us
 
@@ -63,7 +63,7 @@ more_ends : (g : Bool) (text : List ℕ) (ts : List (List ℕ)) → Ends g text 
 more_ends g text [] e rest ends = e rest ends
 more_ends g text (t ∷ ts) e rest ends = refl
 
-more_lay : {g : Bool} {text : List ℕ} {us : List Seen} (ts : List (List ℕ)) (ps : List (List Seen)) → EachLays ts ps → Lays g text us → Ends g text → Lays g (listed_more ts ++ text) (more_then ps us)
+more_lay : {g : Bool} {text : List ℕ} {us : List Terminal} (ts : List (List ℕ)) (ps : List (List Terminal)) → EachLays ts ps → Lays g text us → Ends g text → Lays g (listed_more ts ++ text) (more_then ps us)
 more_lay [] [] h l e = l
 more_lay [] (p ∷ ps) h l e = absurd h
 more_lay (t ∷ ts) [] h l e = absurd h
@@ -71,31 +71,31 @@ more_lay {g} {text} {us} (t ∷ ts) (p ∷ ps) h l e =
     subst (λ x. Lays g x (more_then (p ∷ ps) us)) (ap (λ x. 44 ∷ 32 ∷ x) (sym (append_assoc t (listed_more ts) text)))
     (front comma_lays (front space_lays (before h.0 (more_lay ts ps h.1 l e) (more_ends g text ts e))))
 
-pub list_lays : {g : Bool} {text : List ℕ} {us : List Seen} (ts : List (List ℕ)) (ps : List (List Seen)) → EachLays ts ps → Lays g text us → Ends g text → Lays g (listed ts ++ text) (list_then ps us)
+pub list_lays : {g : Bool} {text : List ℕ} {us : List Terminal} (ts : List (List ℕ)) (ps : List (List Terminal)) → EachLays ts ps → Lays g text us → Ends g text → Lays g (listed ts ++ text) (list_then ps us)
 list_lays [] [] h l e = l
 list_lays [] (p ∷ ps) h l e = absurd h
 list_lays (t ∷ ts) [] h l e = absurd h
 list_lays {g} {text} {us} (t ∷ ts) (p ∷ ps) h l e =
     subst (λ x. Lays g x (p ++ more_then ps us)) (sym (append_assoc t (listed_more ts) text)) (before h.0 (more_lay ts ps h.1 l e) (more_ends g text ts e))
 
-more_is : (ps : List (List Seen)) (us : List Seen) → more_then ps us ≡ more_written ps ++ us
+more_is : (ps : List (List Terminal)) (us : List Terminal) → more_then ps us ≡ more_written ps ++ us
 more_is [] us = refl
 more_is (p ∷ ps) us = ap (λ x. mark comma ∷ x) (ap (λ x. p ++ x) (more_is ps us) ∙ sym (append_assoc p (more_written ps) us))
 
-pub list_is : {A : Type 0} (print : A → List Seen) (x : A) (xs : List A) (us : List Seen) → list_then (map print (x ∷ xs)) us ≡ list_written print x xs ++ us
+pub list_is : {A : Type 0} (print : A → List Terminal) (x : A) (xs : List A) (us : List Terminal) → list_then (map print (x ∷ xs)) us ≡ list_written print x xs ++ us
 list_is print x xs us = ap (λ y. print x ++ y) (more_is (map print xs) us) ∙ sym (append_assoc (print x) (more_written (map print xs)) us)
 
-until_is : {A : Type 0} (b : ℕ) (print : A → List Seen) (xs : List A) (us : List Seen) → list_then (map print xs) (mark (kind.Mark b) ∷ us) ≡ until_written (kind.Mark b) print xs ++ us
+until_is : {A : Type 0} (b : ℕ) (print : A → List Terminal) (xs : List A) (us : List Terminal) → list_then (map print xs) (mark (kind.Mark b) ∷ us) ≡ until_written (kind.Mark b) print xs ++ us
 until_is b print [] us = refl
 until_is b print (x ∷ xs) us = list_is print x xs (mark (kind.Mark b) ∷ us) ∙ sym (append_assoc (list_written print x xs) (mark (kind.Mark b) ∷ []) us)
 
 -- items up to a mark, before a text
-enclosed : {A : Type 0} {g : Bool} {text : List ℕ} {us : List Seen} (b : ℕ) (print : A → List Seen) (xs : List A) (ts : List (List ℕ)) → EachLays ts (map print xs) → Lays true (b ∷ []) (mark (kind.Mark b) ∷ []) → ((r : List ℕ) → breaks (b ∷ r) ≡ true)
+enclosed : {A : Type 0} {g : Bool} {text : List ℕ} {us : List Terminal} (b : ℕ) (print : A → List Terminal) (xs : List A) (ts : List (List ℕ)) → EachLays ts (map print xs) → Lays true (b ∷ []) (mark (kind.Mark b) ∷ []) → ((r : List ℕ) → breaks (b ∷ r) ≡ true)
     → Lays g text us → Lays g (listed ts ++ b ∷ text) (until_written (kind.Mark b) print xs ++ us)
 enclosed {A} {g} {text} {us} b print xs ts h m e l = subst (λ x. Lays g (listed ts ++ b ∷ text) x) (until_is b print xs us) (list_lays ts (map print xs) h (front m l) (λ rest ends. e (text ++ rest)))
 
 -- up to a parenthesis
-pub in_parens : {A : Type 0} {g : Bool} {text : List ℕ} {us : List Seen} (print : A → List Seen) (xs : List A) (ts : List (List ℕ)) → EachLays ts (map print xs) → Lays g text us → Lays g (listed ts ++ 41 ∷ text) (until_written close_paren print xs ++ us)
+pub in_parens : {A : Type 0} {g : Bool} {text : List ℕ} {us : List Terminal} (print : A → List Terminal) (xs : List A) (ts : List (List ℕ)) → EachLays ts (map print xs) → Lays g text us → Lays g (listed ts ++ 41 ∷ text) (until_written close_paren print xs ++ us)
 in_parens print xs ts h l = enclosed 41 print xs ts h close_lays (λ r. refl) l
 
 -- ---- words
@@ -130,7 +130,7 @@ types_lay [] h = tt
 types_lay (t ∷ ts) h = (scalar_lays t h.0, types_lay ts h.1)
 
 -- the tokens behind an arrow
-abbrev pub results_tokens : List PayloadType → List Seen
+abbrev pub results_tokens : List PayloadType → List Terminal
 results_tokens (t ∷ []) = type_written (element_of t)
 results_tokens ts = mark open_paren ∷ until_written close_paren type_written (widths ts)
 
@@ -142,7 +142,7 @@ arrow_types_lay (t ∷ (u ∷ ts)) h =
 
 -- ---- numbers
 
-integer_lays : (z : ℤ) (w : Width) → IsShort z → Lays false (signed_decimal z ++ (codes " : " ++ width_text w)) (minus_written (has_minus z) (sees kind.Integer (digits_of z) ∷ mark colon ∷ word (width_word w) ∷ []))
+integer_lays : (z : ℤ) (w : Width) → IsShort z → Lays false (signed_decimal z ++ (codes " : " ++ width_text w)) (minus_written (has_minus z) (terminal kind.Integer (digits_of z) ∷ mark colon ∷ word (width_word w) ∷ []))
 integer_lays (pos n) w h = before (an_integer n h) (stated_lays w) (λ rest ends. refl)
 integer_lays (negsuc n) w h = before (a_negative (suc n) h) (stated_lays w) (λ rest ends. refl)
 

@@ -181,9 +181,11 @@ module_so m x =
 pub printed_says : PrintedSaysTheModule
 printed_says m x =
     let renamed : OpName → OpName = named_by (λ o. index_of o (tree_names m.root)) in
-    let a = module_again renamed m (module_so m x) in
-    (a.well, record {
-      names = renamed;
-      root = a.means;
-      apart = λ p q h k e. same_place (tree_names m.root) p q h k (ap (λ (n : OpName). n.0) e);
-    })
+    let a = module_again renamed m (module_so m x) in (
+      a.well,
+      record {
+        names = renamed;
+        root = a.means;
+        apart = λ p q h k e. same_place (tree_names m.root) p q h k (ap (λ (n : OpName). n.0) e);
+      },
+    )

@@ -6,7 +6,7 @@ use Rattle.std.proofs.lemmas.List.{length-map}
 use Rattle.std.proofs.lemmas.List.Elements.{All-head, All-tail}
 use Rattle.xf_type.specs.declared.payload_type.PayloadType.{PayloadType}
 use Rattle.xf_lex.specs.declared.token.Token.{Token}
-use Rattle.xf_read_base.specs.declared.parts.Entry.{Entry}
+use Rattle.xf_read_base.specs.declared.parts.AttrEntry.{AttrEntry}
 use Rattle.xf_read_base.specs.declared.parts.Parts.{Parts}
 use Rattle.xf_read_base.specs.declared.parts.Ref.{Ref}
 use Rattle.xf_read_base.specs.Parts.{text_at, use_said, define_said, arg_said, entry_said, said}
@@ -16,7 +16,7 @@ use Rattle.xf_read_base.specs.Attributes.{also, entries_twice}
 use Rattle.xf_read.specs.Names.{earlier, no_faults, with_faults, yield_count, nodes_count, bodies_count, argument_named, function_symbol, undefined_in, visible_at, symbol_twice, results_twice, args_twice, names_twice, twice, operands_fit, results_fit, agrees, head_faults, nodes_faults, bodies_faults}
 use Rattle.xf_read.specs.Names.{inside as inside_tokens, behind as behind_tokens}
 use Rattle.xf_read_base.specs.Values.{text}
-use Rattle.xf_read.specs.Scopes.{Scope, has_values, with_name, means}
+use Rattle.xf_read.specs.Scopes.{Meanings, has_values, with_name, means}
 use Rattle.xf_read.specs.Tree.{Nodes, no_nodes, node, Bodies, no_bodies, body}
 use Rattle.xf_read.specs.Types.{results_by, args_by, fits}
 use Rattle.xf_read.specs.Written.{nodes_said, bodies_said}
@@ -88,7 +88,7 @@ free_unless false o at = refl
 
 -- ---- uses
 
-uses_free : (all : List Token) (scope : Scope) (us : List Ref) → All (UseOf all) us → free (undefined_in all scope us) ≡ every (use_means scope) (map (use_said all) us)
+uses_free : (all : List Token) (scope : Meanings) (us : List Ref) → All (UseOf all) us → free (undefined_in all scope us) ≡ every (use_means scope) (map (use_said all) us)
 unfolding free
 uses_free all scope [] w = refl
 uses_free all scope (r ∷ rs) w =
@@ -98,7 +98,7 @@ uses_free all scope (r ∷ rs) w =
 
 -- ---- names
 
-visible_free : (all : List Token) (scope : Scope) (at : ℕ) (name : List ℕ) → text all at ≡ name → free (visible_at all scope at) ≡ is_new scope name
+visible_free : (all : List Token) (scope : Meanings) (at : ℕ) (name : List ℕ) → text all at ≡ name → free (visible_at all scope at) ≡ is_new scope name
 unfolding free
 visible_free all scope at name e = new (is_some (scope (text all at))) at ∙ ap (is_new scope) e
   where
@@ -106,7 +106,7 @@ visible_free all scope at name e = new (is_some (scope (text all at))) at ∙ ap
     new true at = refl
     new false at = refl
 
-entries_free : (all : List Token) (names : List ℕ → Bool) (es : List Entry) → All (EntryOf all) es → free (entries_twice all names es) ≡ entries_once names (map (entry_said all) es)
+entries_free : (all : List Token) (names : List ℕ → Bool) (es : List AttrEntry) → All (EntryOf all) es → free (entries_twice all names es) ≡ entries_once names (map (entry_said all) es)
 unfolding free
 entries_free all names [] w = refl
 entries_free all names (e ∷ es) w =
@@ -116,12 +116,12 @@ entries_free all names (e ∷ es) w =
     ∙ ap (λ c. not (names (text all e.name)) && c) b
     ∙ ap (λ name. not (names name) && entries_once (also name names) (map (entry_said all) es)) a
 
-symbol_free : (all : List Token) (scope : Scope) (at : Option ℕ) (s : Option (List ℕ)) → SymbolNamed all at s → free (symbol_twice all scope at) ≡ symbol_new scope s
+symbol_free : (all : List Token) (scope : Meanings) (at : Option ℕ) (s : Option (List ℕ)) → SymbolNamed all at s → free (symbol_twice all scope at) ≡ symbol_new scope s
 unfolding free
 symbol_free all scope None s e = ap (symbol_new scope) (sym e)
 symbol_free all scope (Some at) s e = visible_free all scope at (text all at) refl ∙ ap (symbol_new scope) (sym e)
 
-results_free : (all : List Token) (scope : Scope) (rs : List Ref) → All (NameOf all) rs → free (results_twice all scope rs) ≡ defines_new scope (map (define_said all) rs)
+results_free : (all : List Token) (scope : Meanings) (rs : List Ref) → All (NameOf all) rs → free (results_twice all scope rs) ≡ defines_new scope (map (define_said all) rs)
 unfolding free
 results_free all scope [] w = refl
 results_free all scope (r ∷ rs) w =
@@ -131,17 +131,17 @@ results_free all scope (r ∷ rs) w =
     free_or_none true o = refl
     free_or_none false o = refl
 
-args_free : (all : List Token) (n j : ℕ) (ts : List PayloadType) (rs : List Ref) (scope : Scope) → All (NameOf all) rs → free (args_twice all n j ts rs scope) ≡ arguments_new n j ts (map (arg_said all) rs) scope
+args_free : (all : List Token) (n j : ℕ) (ts : List PayloadType) (rs : List Ref) (scope : Meanings) → All (NameOf all) rs → free (args_twice all n j ts rs scope) ≡ arguments_new n j ts (map (arg_said all) rs) scope
 unfolding free
 args_free all n j ts [] scope w = refl
 args_free all n j ts (r ∷ rs) scope w =
     let name = name_is all r.token (All-head (NameOf all) r rs w) in
-    let names : List ℕ → Scope = λ b. with_name b (argument_named n j (slice_get ts j)) scope in
+    let names : List ℕ → Meanings = λ b. with_name b (argument_named n j (slice_get ts j)) scope in
     let a = visible_free all scope r.token (text_at all r.token) name in
     let b = args_free all n (j + 1) ts rs (names (text all r.token)) (All-tail (NameOf all) r rs w) ∙ ap (λ c. arguments_new n (j + 1) ts (map (arg_said all) rs) (names c)) name in
     free_earlier (visible_at all scope r.token) (args_twice all n (j + 1) ts rs (names (text all r.token))) ∙ (λ i. a i && b i)
 
-twice_free : (all : List Token) (n : ℕ) (p : Parts) (scope : Scope) → Inside all p → free (twice all n p scope) ≡ names_once n (said all p) scope
+twice_free : (all : List Token) (n : ℕ) (p : Parts) (scope : Meanings) → Inside all p → free (twice all n p scope) ≡ names_once n (said all p) scope
 twice_free all n p scope w =
     let es = entries_free all (λ name. false) p.entries w.1.1.0 in
     let s = symbol_free all scope (function_symbol p.row p.symbol) (function_named p.row (option_map (text_at all) p.symbol)) (function_is p.row all p.symbol w.0) in
@@ -153,7 +153,7 @@ twice_free all n p scope w =
 
 -- ---- types
 
-uses_fit_are : (all : List Token) (scope : Scope) (p : Parts) (k : ℕ) (us : List Ref) → All (UseOf all) us → operands_fit all scope p.row p k us ≡ uses_fit scope (said all p) k (map (use_said all) us)
+uses_fit_are : (all : List Token) (scope : Meanings) (p : Parts) (k : ℕ) (us : List Ref) → All (UseOf all) us → operands_fit all scope p.row p k us ≡ uses_fit scope (said all p) k (map (use_said all) us)
 uses_fit_are all scope p k [] w = refl
 uses_fit_are all scope p k (u ∷ us) w =
     let a = stated_are p.row all p k in
@@ -165,7 +165,7 @@ defines_fit_are : (all : List Token) (rs : List Ref) (ts us : List PayloadType) 
 defines_fit_are all [] ts us e = refl
 defines_fit_are all (r ∷ rs) ts us e = ap (λ xs. r.count == length xs) e
 
-agrees_is : (all : List Token) (p : Parts) (scope : Scope) → Inside all p → agrees all p scope ≡ types_agree (said all p) scope
+agrees_is : (all : List Token) (p : Parts) (scope : Meanings) → Inside all p → agrees all p scope ≡ types_agree (said all p) scope
 agrees_is all p scope w =
     let a = sym (length-map p.uses (use_said all)) in
     let b = operands_by_are p.row all p in
@@ -177,7 +177,7 @@ agrees_is all p scope w =
 
 -- ---- all operations
 
-pub head_faultless : (all : List Token) (n first : ℕ) (p : Parts) (scope : Scope) → Inside all p → faultless (head_faults all n first p scope) ≡ head_well n (said all p) scope
+pub head_faultless : (all : List Token) (n first : ℕ) (p : Parts) (scope : Meanings) → Inside all p → faultless (head_faults all n first p scope) ≡ head_well n (said all p) scope
 unfolding free faultless
 head_faultless all n first p scope w =
     let a = uses_free all scope p.uses w.1.1.1.1.1 in
@@ -190,7 +190,7 @@ head_faultless all n first p scope w =
     agree false at = refl
 
 mutual
-  pub nodes_faultless : (all : List Token) (ns : Nodes) (n : ℕ) (scope : Scope) → NodesOf all ns → faultless (nodes_faults all n scope ns) ≡ nodes_well n scope (nodes_said all ns)
+  pub nodes_faultless : (all : List Token) (ns : Nodes) (n : ℕ) (scope : Meanings) → NodesOf all ns → faultless (nodes_faults all n scope ns) ≡ nodes_well n scope (nodes_said all ns)
   nodes_faultless all no_nodes n scope w = nothing_faultless
   nodes_faultless all (node first p bs rest) n scope w =
       let s = w.1.0 in
@@ -204,7 +204,7 @@ mutual
       let one = faultless_both f g ∙ (λ i. h i && inner i) in
       faultless_both (with_faults f g) (nodes_faults all (n + (1 + bodies_count p bs)) (behind_tokens all n p scope) rest) ∙ (λ i. one i && more i)
 
-  pub bodies_faultless : (all : List Token) (bs : Bodies) (n : ℕ) (p : Parts) (scope : Scope) → FunctionsOf all bs → faultless (bodies_faults all n p scope bs) ≡ bodies_well n (said all p) scope (bodies_said all bs)
+  pub bodies_faultless : (all : List Token) (bs : Bodies) (n : ℕ) (p : Parts) (scope : Meanings) → FunctionsOf all bs → faultless (bodies_faults all n p scope bs) ≡ bodies_well n (said all p) scope (bodies_said all bs)
   bodies_faultless all no_bodies n p scope w = nothing_faultless
   bodies_faultless all (body ns close rest) n p scope w =
       let inner = nodes_faultless all ns n scope w.0 in

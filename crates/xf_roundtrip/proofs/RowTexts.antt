@@ -10,9 +10,9 @@ use Rattle.xf_type.specs.declared.kind.CmpKind.TheVariants as cmp
 use Rattle.xf_type.specs.declared.payload_type.PayloadType.{PayloadType}
 use Rattle.xf_type.specs.declared.payload_type.Width.{Width}
 use Rattle.xf_lex.specs.declared.token.TokenKind.TheVariants as token_kind
-use Rattle.xf_grammar.specs.Tokens.{Seen, colon, open_paren, close_paren, open_brace}
-use Rattle.xf_read_base.specs.declared.row.Slot.{Slot}
-use Rattle.xf_read_base.specs.declared.row.Slot.TheVariants as slot
+use Rattle.xf_grammar.specs.Tokens.{Terminal, colon, open_paren, close_paren, open_brace}
+use Rattle.xf_read_base.specs.declared.row.FormatElement.{FormatElement}
+use Rattle.xf_read_base.specs.declared.row.FormatElement.TheVariants as slot
 use Rattle.xf_read_base.specs.Rows.{slots}
 use Rattle.xf_read_base.specs.Pieces.{mark, word, Piece, nothing as no_piece, a_width, piece_written, row_written, row_word, binary_word, conversion_word, predicate_word, use_written, type_written, param_written, pair_written, results_written, until_written, list_written}
 use Rattle.xf_ir.specs.declared.name.ValueName.{ValueName}
@@ -36,18 +36,18 @@ use Rattle.xf_roundtrip.proofs.Pieces.{empty, EachLays, list_then, Ends, list_la
 
 -- ---- pieces before others
 
-abbrev pub row_then : List Slot → List Piece → List Seen → List Seen
+abbrev pub row_then : List FormatElement → List Piece → List Terminal → List Terminal
 row_then [] ps us = us
 row_then (s ∷ ss) [] us = us
 row_then (s ∷ ss) (p ∷ ps) us = piece_written s p ++ row_then ss ps us
 
-pub row_then_is : (ss : List Slot) (ps : List Piece) (us : List Seen) → row_then ss ps us ≡ row_written ss ps ++ us
+pub row_then_is : (ss : List FormatElement) (ps : List Piece) (us : List Terminal) → row_then ss ps us ≡ row_written ss ps ++ us
 row_then_is [] ps us = refl
 row_then_is (s ∷ ss) [] us = refl
 row_then_is (s ∷ ss) (p ∷ ps) us = ap (λ x. piece_written s p ++ x) (row_then_is ss ps us) ∙ sym (append_assoc (piece_written s p) (row_written ss ps) us)
 
 -- the brace behind the head of a kind with a body
-abbrev pub opens : Kind → List Seen
+abbrev pub opens : Kind → List Terminal
 opens (kind.Module symbol) = mark open_brace ∷ []
 opens (kind.Func symbol private results) = mark open_brace ∷ []
 opens (kind.For width) = mark open_brace ∷ []
@@ -59,7 +59,7 @@ brace_lays : Lays false (codes " {") (mark open_brace ∷ [])
 brace_lays = looser (front space_lays open_brace_lays)
 
 -- tokens behind which nothing stands
-at_end : {g : Bool} {text : List ℕ} {us : List Seen} → Lays g text us → Lays g text (us ++ [])
+at_end : {g : Bool} {text : List ℕ} {us : List Terminal} → Lays g text us → Lays g text (us ++ [])
 at_end {g} {text} {us} l = subst (λ x. Lays g text x) (sym (append-nil us)) l
 
 -- ---- words
@@ -182,7 +182,7 @@ call_results_lay [] h = front space_lays (front arrow_lays (front space_lays (ar
 call_results_lay (t ∷ []) h = front space_lays (front arrow_lays (front space_lays (arrow_types_lay (t ∷ []) h)))
 call_results_lay (t ∷ (u ∷ ts)) h = front space_lays (front arrow_lays (front space_lays (arrow_types_lay (t ∷ (u ∷ ts)) h)))
 
-name_before : {g : Bool} {text : List ℕ} {us : List Seen} (private : Bool) (symbol : List ℕ) → is_ir_word symbol ≡ true → Lays g text us → Ends g text
+name_before : {g : Bool} {text : List ℕ} {us : List Terminal} (private : Bool) (symbol : List ℕ) → is_ir_word symbol ≡ true → Lays g text us → Ends g text
     → Lays g (private_text private ++ (codes "@" ++ (symbol ++ text))) (piece_written slot.FunctionName (function_symbol private symbol) ++ us)
 name_before true symbol h l e = before (name_lays true symbol h) l e
 name_before false symbol h l e = before (name_lays false symbol h) l e
@@ -191,7 +191,7 @@ returned_ends : (g : Bool) (ts : List PayloadType) (text : List ℕ) → Ends g 
 returned_ends g [] text e rest ends = e rest ends
 returned_ends g (t ∷ ts) text e rest ends = refl
 
-symbol_before : {g : Bool} {text : List ℕ} {us : List Seen} (symbol : Option (List ℕ)) → is_word_or_none symbol ≡ true → Lays g text us → Ends g text → Lays g (symbol_text symbol ++ text) (piece_written slot.ModuleName (module_symbol symbol) ++ us)
+symbol_before : {g : Bool} {text : List ℕ} {us : List Terminal} (symbol : Option (List ℕ)) → is_word_or_none symbol ≡ true → Lays g text us → Ends g text → Lays g (symbol_text symbol ++ text) (piece_written slot.ModuleName (module_symbol symbol) ++ us)
 symbol_before None h l e = l
 symbol_before (Some s) h l e = front space_lays (before (a_symbol s (word_true s h)) l e)
 

@@ -8,7 +8,7 @@ use Rattle.xf_type.specs.declared.payload_type.Width.TheVariants.{I1, I8, I16, I
 use Rattle.xf_type.specs.Integers.{signed_value}
 use Rattle.xf_read_base.specs.declared.row.Row.{Row}
 use Rattle.xf_read_base.specs.declared.row.Row.TheVariants as row
-use Rattle.xf_read_base.specs.declared.row.Slot.TheVariants as slot
+use Rattle.xf_read_base.specs.declared.row.FormatElement.TheVariants as slot
 use Rattle.xf_read_base.specs.Laws.{nothing_said}
 use Rattle.xf_read_base.specs.Parts.{number, UseSaid, Said, says_row, says_symbol, says_private, says_arg, says_width, says_result, says_literal, says_predicate}
 use Rattle.xf_read_base.specs.Pieces.{params, use_says, says_all, piece_says, row_says, results_say, head_says}

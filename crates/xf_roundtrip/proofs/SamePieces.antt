@@ -11,7 +11,7 @@ use Rattle.xf_type.specs.declared.payload_type.Width.{Width}
 use Rattle.xf_type.specs.declared.payload_type.Width.TheVariants.{I1, I8, I16, I32, I64, Index}
 use Rattle.xf_type.specs.Integers.{signed_value}
 use Rattle.xf_grammar.specs.Tokens.{number_of}
-use Rattle.xf_read_base.specs.declared.row.Slot.TheVariants as slot
+use Rattle.xf_read_base.specs.declared.row.FormatElement.TheVariants as slot
 use Rattle.xf_read_base.specs.Parts.{count_of, ValueSaid, number_value, EntrySaid, DefineSaid, UseSaid, Said, says_result, says_width}
 use Rattle.xf_read_base.specs.Pieces.{Use, hash, use_says, says_all, attribute_says, param_says, pair_says, piece_says, results_say}
 use Rattle.xf_ir.specs.declared.kind.Attr.{Attr}
@@ -19,7 +19,7 @@ use Rattle.xf_ir.specs.declared.name.ValueName.{ValueName}
 use Rattle.xf_ir.specs.declared.name.ValueName.TheVariants.{Result, Arg, Free}
 use Rattle.xf_ir.specs.Lists.{Each}
 use Rattle.xf_ir.specs.Types.{element_of}
-use Rattle.xf_ir.specs.PrintedNames.{Entry, Names, argument_text}
+use Rattle.xf_ir.specs.PrintedNames.{DefinedValues, Names, argument_text}
 use Rattle.xf_roundtrip.specs.Naming.{number_name, use_printed, use_or, part_said, result_use, argument_use, defines_printed, arguments_printed}
 use Rattle.xf_roundtrip.specs.Plain.{IsScalar}
 use Rattle.xf_roundtrip.specs.SaidPrinted.{signed_said, value_printed, integer_printed, entry_printed}
@@ -106,11 +106,11 @@ part_is (t ∷ (u ∷ ts)) num lt = ap Some (count_is num lt)
 abbrev said_by : Use → UseSaid
 said_by u = record { name = u.name; number = option_map (λ digits. count_of (hash digits)) u.digits }
 
-result_is : (o : Option Entry) (num : ℕ) → num < 2 ^ 32 → said_by (use_or_none (λ (e : Entry). record { name = number_name e.number; digits = part_digits e.results num }) o) ≡ use_or (λ e. result_use e num) o
+result_is : (o : Option DefinedValues) (num : ℕ) → num < 2 ^ 32 → said_by (use_or_none (λ (e : DefinedValues). record { name = number_name e.number; digits = part_digits e.results num }) o) ≡ use_or (λ e. result_use e num) o
 result_is None num lt = refl
 result_is (Some e) num lt = ap (λ n. let u : UseSaid = record { name = (result_use e num).name; number = n } in u) (part_is e.results num lt)
 
-argument_is : (o : Option Entry) (num : ℕ) → said_by (use_or_none (λ (e : Entry). record { name = argument_text (e.first + num); digits = None }) o) ≡ use_or (λ e. argument_use e num) o
+argument_is : (o : Option DefinedValues) (num : ℕ) → said_by (use_or_none (λ (e : DefinedValues). record { name = argument_text (e.first + num); digits = None }) o) ≡ use_or (λ e. argument_use e num) o
 argument_is None num = refl
 argument_is (Some e) num = refl
 

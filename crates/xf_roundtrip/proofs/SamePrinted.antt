@@ -11,7 +11,7 @@ use Rattle.xf_ir.specs.declared.op.Module.{Module}
 use Rattle.xf_ir.specs.Calls.{Signatures, signatures}
 use Rattle.xf_ir.specs.Kinds.{is_module, returned_types}
 use Rattle.xf_ir.specs.Lists.{Each, Once, is_among}
-use Rattle.xf_ir.specs.Places.{Seen, done, inside, place_of, sees, AllSeen}
+use Rattle.xf_ir.specs.Places.{Seen, done, inside, numbering_of, sees, AllSeen}
 use Rattle.xf_ir.specs.Placed.{Typed, type_or, type_at, Holder, holder_of, placed, root_holder}
 use Rattle.xf_ir.specs.Tree.{Ops, no_ops, op, Regions, no_regions, region}
 use Rattle.xf_ir.specs.Valid.{OpsInner, RegionsInner, FunctionsAlone, BlocksAlone, OpsSee, RegionsSee, FunctionsSee, block_of}
@@ -58,7 +58,7 @@ narrow_seen : (env : Typed) (v : ValueName) → EnvPlain env → sees (seen_of e
 narrow_seen env (Arg o r num) p s = tt
 narrow_seen env (Free num) p s = tt
 narrow_seen [] (Result o num) p s = absurd cc
-narrow_seen ((done n count, ts) ∷ env) (Result o num) p s = elim (seen_or (place_of (done n count) (Result o num)) (sees (seen_of env) (Result o num)) s) [
+narrow_seen ((done n count, ts) ∷ env) (Result o num) p s = elim (seen_or (numbering_of (done n count) (Result o num)) (sees (seen_of env) (Result o num)) s) [
   | inl new ↦ let q = (result_seen (o.0 == n.0) num count new).1 in let l = p.0.0 in omega (arith, q, l)
   | inr old ↦ narrow_seen env (Result o num) p.1 old
 ]
@@ -79,7 +79,7 @@ or_scalar (Some i) ts older h g = get_scalar ts i h
 
 scalar_at : (env : Typed) (v : ValueName) → EnvPlain env → ScalarType (type_at env v)
 scalar_at [] v p = tt
-scalar_at (x ∷ env) v p = or_scalar (place_of x.0 v) x.1 (type_at env v) p.0.1 (scalar_at env v p.1)
+scalar_at (x ∷ env) v p = or_scalar (numbering_of x.0 v) x.1 (type_at env v) p.0.1 (scalar_at env v p.1)
 
 all_scalar_at : (env : Typed) (os : List ValueName) → EnvPlain env → Each ScalarType (map (type_at env) os)
 all_scalar_at env [] p = tt

@@ -66,11 +66,11 @@ chosen_blocks ts rs e = elim (either_true (is_empty ts && are_blocks (block_args
 -- ---- types of operands and results
 
 -- operands have these types, and results those
-pub record Gives (types : List (Option PayloadType)) (ts wanted given : List PayloadType) : Type 0 where
+pub record TypesAgree (types : List (Option PayloadType)) (ts wanted given : List PayloadType) : Type 0 where
   pub operands : types ≡ map Some wanted
   pub results : ts ≡ given
 
-pub gives_it : (wanted given : List PayloadType) (types : List (Option PayloadType)) (ts : List PayloadType) → takes_gives wanted given types ts ≡ true → Gives types ts wanted given
+pub gives_it : (wanted given : List PayloadType) (types : List (Option PayloadType)) (ts : List PayloadType) → takes_gives wanted given types ts ≡ true → TypesAgree types ts wanted given
 gives_it wanted given types ts e = let p = and_parts (have_types types wanted) (same_types ts given) e in record { operands = have_is types wanted p.0; results = types_are ts given p.1 }
 
 module_symbol : (s : Option (List ℕ)) → option_map (drop 1) (option_map (λ (b : List ℕ). 64 ∷ b) s) ≡ s

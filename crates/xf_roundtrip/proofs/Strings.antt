@@ -5,11 +5,11 @@ use Rattle.std.specs.List.{flat_map}
 use Rattle.std.proofs.lemmas.Bool.Decides.{nat_tests}
 use Rattle.std.proofs.lemmas.List.{take_at, drop_at}
 use Rattle.xf_lex.specs.declared.token.TokenKind.TheVariants as kind
-use Rattle.xf_lex.specs.declared.front.Front.TheVariants as front_of
+use Rattle.xf_lex.specs.declared.lexeme.Lexeme.TheVariants as front_of
 use Rattle.xf_type.specs.Bytes.{is_hex}
-use Rattle.xf_lex.specs.Fronts.{quoted_in, escaped_in, string_at}
-use Rattle.xf_lex.specs.Laid.{Stays}
-use Rattle.xf_grammar.specs.Tokens.{sees}
+use Rattle.xf_lex.specs.Lexemes.{quoted_in, escaped_in, string_at}
+use Rattle.xf_lex.specs.Layout.{Stays}
+use Rattle.xf_grammar.specs.Tokens.{terminal}
 use Rattle.xf_ir.specs.Lists.{Each}
 use Rattle.xf_ir.specs.PrintedAttributes.{hex_digit, is_plain, byte_text, string_text}
 use Rattle.xf_roundtrip.proofs.Lays.{Low, is_low, pass_append, Lays, free_token}
@@ -117,7 +117,7 @@ string_stays after text rest o = record {
   longest = ap string_at (append_assoc text (34 ∷ []) rest) ∙ string_is text rest o ∙ ap (λ n. front_of.Token kind.Text (suc n)) (let l = length-append text (34 ∷ []) in omega arith);
 }
 
-pub string_lays : (bytes : List ℕ) → Each (λ b. b < 256) bytes → Lays true (string_text bytes) (sees kind.Text (string_text bytes) ∷ [])
+pub string_lays : (bytes : List ℕ) → Each (λ b. b < 256) bytes → Lays true (string_text bytes) (terminal kind.Text (string_text bytes) ∷ [])
 string_lays bytes h =
     let o = over_bytes bytes h in
     free_token (record { kind = kind.Text; bytes = 34 ∷ (flat_map byte_text bytes ++ 34 ∷ []) }) (refl, pass_append is_low (flat_map byte_text bytes) (34 ∷ []) o.low (refl, tt)) (λ after rest. string_stays after (flat_map byte_text bytes) rest o)

@@ -13,7 +13,7 @@ use Rattle.xf_type.specs.declared.attribute.AttrValue.TheVariants.{Unit as unit_
 use Rattle.xf_type.specs.declared.payload_type.PayloadType.{PayloadType}
 use Rattle.xf_type.specs.declared.payload_type.Width.{Width}
 use Rattle.xf_type.specs.declared.payload_type.Width.TheVariants.{I1, I8, I16, I32, I64, Index}
-use Rattle.xf_grammar.specs.Tokens.{Seen, sees, is_kind, is_word, is_index, starts_digit, number_of, comma, colon, equals, close_paren, open_brace, close_brace}
+use Rattle.xf_grammar.specs.Tokens.{Terminal, terminal, is_kind, is_word, is_index, starts_digit, number_of, comma, colon, equals, close_paren, open_brace, close_brace}
 use Rattle.xf_grammar.specs.Grammar.{first_seen}
 use Rattle.xf_lex.specs.declared.token.TokenKind.TheVariants as token_kind
 use Rattle.xf_lex.proofs.Stays.{Digits, decimal_digits}
@@ -21,8 +21,8 @@ use Rattle.xf_read_base.specs.declared.list.Item.{Item}
 use Rattle.xf_read_base.specs.declared.list.Item.TheVariants as item
 use Rattle.xf_read_base.specs.declared.row.Level.TheVariants as level
 use Rattle.xf_read_base.specs.declared.row.Row.{Row}
-use Rattle.xf_read_base.specs.declared.row.Slot.{Slot}
-use Rattle.xf_read_base.specs.declared.row.Slot.TheVariants as slot
+use Rattle.xf_read_base.specs.declared.row.FormatElement.{FormatElement}
+use Rattle.xf_read_base.specs.declared.row.FormatElement.TheVariants as slot
 use Rattle.xf_read_base.specs.Parts.{Said, number_value, says_width, says_result}
 use Rattle.xf_read_base.specs.Rows.{slots, fits}
 use Rattle.xf_read_base.specs.Rules.{is_short, room_for, most_items}
@@ -76,15 +76,15 @@ number_is : (n : ℕ) → n < 2 ^ 64 → number_of (decimal n) ≡ n
 number_is n lt = let e = (decimal_is_IsNumeral n lt).1 in rw e (grind (arith, nat_tests))
 
 -- room for it in as many bits as 64 or fewer
-room : (w : Width) (half full : ℕ) (z : ℤ) → InRange half full z → half ≤ 2 ^ (bits_of w - 1) → full ≤ 2 ^ bits_of w → full ≤ 2 ^ 64 → half ≤ 2 ^ 63 → room_for w (has_minus z) (sees token_kind.Integer (digits_of z)) ≡ true
+room : (w : Width) (half full : ℕ) (z : ℤ) → InRange half full z → half ≤ 2 ^ (bits_of w - 1) → full ≤ 2 ^ bits_of w → full ≤ 2 ^ 64 → half ≤ 2 ^ 63 → room_for w (has_minus z) (terminal token_kind.Integer (digits_of z)) ≡ true
 room w half full (pos n) h p q r s = let e = number_is n (omega arith) in rw e (le-leb n (2 ^ bits_of w - 1) (omega arith))
 room w half full (negsuc n) h p q r s = let e = number_is (suc n) (omega arith) in rw e (le-leb (suc n) (2 ^ (bits_of w - 1)) (omega arith))
 
-number_suits : (w : Width) (half full : ℕ) (z : ℤ) (y : Seen) → InRange half full z → half ≤ 2 ^ (bits_of w - 1) → full ≤ 2 ^ bits_of w → full ≤ 2 ^ 64 → half ≤ 2 ^ 63
+number_suits : (w : Width) (half full : ℕ) (z : ℤ) (y : Terminal) → InRange half full z → half ≤ 2 ^ (bits_of w - 1) → full ≤ 2 ^ bits_of w → full ≤ 2 ^ 64 → half ≤ 2 ^ 63
     → value_suits (number_value (has_minus z) (digits_of z) w) y ≡ true
 number_suits w half full z y h p q r s = both_true (room I64 half full z h s r r s) (room w half full z h p q r s)
 
-bits_suit : (w : Width) (bits : ℕ) (y : Seen) → fits_bits w bits ≡ true → value_suits (number_said w bits) y ≡ true
+bits_suit : (w : Width) (bits : ℕ) (y : Terminal) → fits_bits w bits ≡ true → value_suits (number_said w bits) y ≡ true
 unfolding signed_by
 bits_suit I1 bits y e = refl
 bits_suit I8 bits y e = number_suits I8 (2 ^ 7) (2 ^ 8) (signed_value I8 bits) y (in_range bits (2 ^ 7) (2 ^ 8) (ltb-true bits (2 ^ 8) e) refl) (omega arith) (omega arith) (omega arith) (omega arith)
@@ -146,7 +146,7 @@ string_short bytes h few = subst (λ x. is_short x ≡ true) (sym (string_again 
 
 -- ---- attributes
 
-value_suit : (v : AttrValue) (y : Seen) → value_fits v ≡ true → HasBytes v → HasShortText v → not (is_kind equals y) ≡ true → value_suits (attribute_value v) y ≡ true
+value_suit : (v : AttrValue) (y : Terminal) → value_fits v ≡ true → HasBytes v → HasShortText v → not (is_kind equals y) ≡ true → value_suits (attribute_value v) y ≡ true
 value_suit unit_attr y fit h few e = e
 value_suit (Int width bits) y fit h few e = bits_suit width bits y fit
 value_suit (Text bytes) y fit h few e = string_short bytes h few
@@ -161,11 +161,11 @@ entries_suit (d ∷ ds) h =
     let a : AttrFits d = h.0 in
     both_true (both_true (short_is d.name a.short.0) (value_suit d.value (follow (map attribute_of ds) (mark close_brace)) a.value a.bytes a.short.1 (no_equals ds))) (entries_suit ds h.1)
 
-pub dictionary_suits : (ds : List Attr) (y : Seen) → Each AttrFits ds → length ds < 2 ^ 32 → not (is_kind open_brace y) ≡ true → suits slot.Dictionary (dictionary_piece ds) y ≡ true
+pub dictionary_suits : (ds : List Attr) (y : Terminal) → Each AttrFits ds → length ds < 2 ^ 32 → not (is_kind open_brace y) ≡ true → suits slot.Dictionary (dictionary_piece ds) y ≡ true
 dictionary_suits [] y h few e = e
 dictionary_suits (d ∷ ds) y h few e = both_true (few_others attribute_of ds few) (entries_suit (d ∷ ds) h)
 
-attributes_suit : (ds : List Attr) (y : Seen) → Each AttrFits ds → length ds < 2 ^ 32 → not (is_word (codes "attributes") y) ≡ true → suits slot.Attributes (dictionary_piece ds) y ≡ true
+attributes_suit : (ds : List Attr) (y : Terminal) → Each AttrFits ds → length ds < 2 ^ 32 → not (is_word (codes "attributes") y) ≡ true → suits slot.Attributes (dictionary_piece ds) y ≡ true
 attributes_suit [] y h few e = e
 attributes_suit (d ∷ ds) y h few e = both_true (few_others attribute_of ds few) (entries_suit (d ∷ ds) h)
 
@@ -175,21 +175,21 @@ starts : (ds : List ℕ) → Digits ds → starts_digit ds ≡ true
 starts [] d = absurd (let z = d.some in omega arith)
 starts (b ∷ ds) d = d.all.0
 
-part_suits : (ts : List PayloadType) (num : ℕ) (y : Seen) → num < 2 ^ 64 → not (is_index y) ≡ true → hash_suits (part_digits ts num) y ≡ true
+part_suits : (ts : List PayloadType) (num : ℕ) (y : Terminal) → num < 2 ^ 64 → not (is_index y) ≡ true → hash_suits (part_digits ts num) y ≡ true
 part_suits [] num y lt e = e
 part_suits (t ∷ []) num y lt e = e
 part_suits (t ∷ (u ∷ ts)) num y lt e = starts (decimal num) (decimal_digits num lt)
 
-use_suit : (names : Names) (v : ValueName) (y : Seen) → Known names v → not (is_index y) ≡ true → use_suits (use_of names v) y ≡ true
+use_suit : (names : Names) (v : ValueName) (y : Terminal) → Known names v → not (is_index y) ≡ true → use_suits (use_of names v) y ≡ true
 use_suit names (Result o num) y k e = let is = k.1.1.0 in let lt = k.1.1.1.1.1 in rw is (part_suits k.0.results num y (omega arith) e)
 use_suit names (Arg o r num) y k e = let is = k.1.1.0 in rw is e
 use_suit names (Free num) y k e = absurd k
 
-no_index : {A : Type 0} (xs : List A) (y : Seen) → not (is_index y) ≡ true → not (is_index (follow xs y)) ≡ true
+no_index : {A : Type 0} (xs : List A) (y : Terminal) → not (is_index y) ≡ true → not (is_index (follow xs y)) ≡ true
 no_index [] y e = e
 no_index (x ∷ xs) y e = refl
 
-uses_suit : (names : Names) (vs : List ValueName) (y : Seen) → Each (Known names) vs → not (is_kind comma y) ≡ true → not (is_index y) ≡ true → more_suit use_suits (map (use_of names) vs) y ≡ true
+uses_suit : (names : Names) (vs : List ValueName) (y : Terminal) → Each (Known names) vs → not (is_kind comma y) ≡ true → not (is_index y) ≡ true → more_suit use_suits (map (use_of names) vs) y ≡ true
 uses_suit names [] y h c e = c
 uses_suit names (v ∷ vs) y h c e = both_true (use_suit names v (follow (map (use_of names) vs) y) h.0 (no_index (map (use_of names) vs) y e)) (uses_suit names vs y h.1 c e)
 
@@ -207,7 +207,7 @@ carried_suit names k (v ∷ vs) h few = both_true (few_pairs names (suc k) vs fe
 
 -- ---- types
 
-any_suit : {A : Type 0} (xs : List A) (y : Seen) → not (is_kind comma y) ≡ true → more_suit always xs y ≡ true
+any_suit : {A : Type 0} (xs : List A) (y : Terminal) → not (is_kind comma y) ≡ true → more_suit always xs y ≡ true
 any_suit [] y e = e
 any_suit (x ∷ xs) y e = any_suit xs y e
 
@@ -220,12 +220,12 @@ given_suits names [] h few = refl
 given_suits names (v ∷ vs) h few =
     both_true (both_true (few_others (use_of names) vs few) (uses_suit names (v ∷ vs) (mark colon) h refl refl)) (both_true (few_others (operand_width names) vs few) (any_suit (map (operand_width names) vs) (mark close_brace) refl))
 
-results_suit : (ts : List PayloadType) (y : Seen) → length ts < 2 ^ 32 → suits slot.CallResults (results_piece ts) y ≡ true
+results_suit : (ts : List PayloadType) (y : Terminal) → length ts < 2 ^ 32 → suits slot.CallResults (results_piece ts) y ≡ true
 results_suit [] y few = refl
 results_suit (t ∷ []) y few = refl
 results_suit (t ∷ (u ∷ ts)) y few = until_any item.Result (widths (t ∷ (u ∷ ts))) (few_mapped element_of (t ∷ (u ∷ ts)) few)
 
-function_results_suit : (ts : List PayloadType) (y : Seen) → length ts < 2 ^ 32 → not (is_kind token_kind.Arrow y) ≡ true → suits slot.FunctionResults (function_results ts) y ≡ true
+function_results_suit : (ts : List PayloadType) (y : Terminal) → length ts < 2 ^ 32 → not (is_kind token_kind.Arrow y) ≡ true → suits slot.FunctionResults (function_results ts) y ≡ true
 function_results_suit [] y few e = e
 function_results_suit (t ∷ []) y few e = refl
 function_results_suit (t ∷ (u ∷ ts)) y few e = until_any item.Result (widths (t ∷ (u ∷ ts))) (few_mapped element_of (t ∷ (u ∷ ts)) few)
@@ -233,11 +233,11 @@ function_results_suit (t ∷ (u ∷ ts)) y few e = until_any item.Result (widths
 -- ---- what stands behind a slot
 
 -- the dictionary, or what is behind it
-pub dictionary_first : (P : Seen → Bool) (ds : List Attr) (qs : List Seen) (y : Seen) → P (mark open_brace) ≡ true → P (first_seen qs y) ≡ true → P (first_seen (piece_written slot.Dictionary (dictionary_piece ds) ++ qs) y) ≡ true
+pub dictionary_first : (P : Terminal → Bool) (ds : List Attr) (qs : List Terminal) (y : Terminal) → P (mark open_brace) ≡ true → P (first_seen qs y) ≡ true → P (first_seen (piece_written slot.Dictionary (dictionary_piece ds) ++ qs) y) ≡ true
 dictionary_first P [] qs y a b = b
 dictionary_first P (d ∷ ds) qs y a b = a
 
-attributes_first : (P : Seen → Bool) (ds : List Attr) (qs : List Seen) (y : Seen) → P (word (codes "attributes")) ≡ true → P (first_seen qs y) ≡ true → P (first_seen (piece_written slot.Attributes (dictionary_piece ds) ++ qs) y) ≡ true
+attributes_first : (P : Terminal → Bool) (ds : List Attr) (qs : List Terminal) (y : Terminal) → P (word (codes "attributes")) ≡ true → P (first_seen qs y) ≡ true → P (first_seen (piece_written slot.Attributes (dictionary_piece ds) ++ qs) y) ≡ true
 attributes_first P [] qs y a b = b
 attributes_first P (d ∷ ds) qs y a b = a
 
@@ -245,11 +245,11 @@ given_first : (names : Names) (os : List ValueName) → not (is_kind open_brace 
 given_first names [] = refl
 given_first names (v ∷ vs) = refl
 
-signed_first : (b : Bool) (digits : List ℕ) (w : Width) (y : Seen) → not (is_kind open_brace (first_seen (piece_written slot.Literal (a_number b digits w) ++ []) y)) ≡ true
+signed_first : (b : Bool) (digits : List ℕ) (w : Width) (y : Terminal) → not (is_kind open_brace (first_seen (piece_written slot.Literal (a_number b digits w) ++ []) y)) ≡ true
 signed_first true digits w y = refl
 signed_first false digits w y = refl
 
-literal_first : (w : Width) (bits : ℕ) (y : Seen) → not (is_kind open_brace (first_seen (piece_written slot.Literal (literal_piece w bits) ++ []) y)) ≡ true
+literal_first : (w : Width) (bits : ℕ) (y : Terminal) → not (is_kind open_brace (first_seen (piece_written slot.Literal (literal_piece w bits) ++ []) y)) ≡ true
 literal_first I1 bits y = refl
 literal_first I8 bits y = signed_first _ _ I8 y
 literal_first I16 bits y = signed_first _ _ I16 y
@@ -257,7 +257,7 @@ literal_first I32 bits y = signed_first _ _ I32 y
 literal_first I64 bits y = signed_first _ _ I64 y
 literal_first Index bits y = signed_first _ _ Index y
 
-literal_suits : (w : Width) (bits : ℕ) (y : Seen) → suits slot.Literal (literal_piece w bits) y ≡ true
+literal_suits : (w : Width) (bits : ℕ) (y : Terminal) → suits slot.Literal (literal_piece w bits) y ≡ true
 literal_suits I1 bits y = refl
 literal_suits I8 bits y = refl
 literal_suits I16 bits y = refl
@@ -266,7 +266,7 @@ literal_suits I64 bits y = refl
 literal_suits Index bits y = refl
 
 -- the width of a loop, or nothing
-width_first : (P : Seen → Bool) (b : Bool) (w : Width) → P (mark colon) ≡ true → P (mark open_brace) ≡ true → P (first_seen (piece_written slot.LoopWidth (if b then nothing else a_width w) ++ []) (mark open_brace)) ≡ true
+width_first : (P : Terminal → Bool) (b : Bool) (w : Width) → P (mark colon) ≡ true → P (mark open_brace) ≡ true → P (first_seen (piece_written slot.LoopWidth (if b then nothing else a_width w) ++ []) (mark open_brace)) ≡ true
 width_first P true w c o = o
 width_first P false w c o = c
 
@@ -295,11 +295,11 @@ chosen_suits (t ∷ ts) few = until_any item.Result (widths (t ∷ ts)) (few_map
 -- ---- the rows
 
 -- behind one use, a dictionary and a colon
-behind_use : (ds : List Attr) (qs : List Seen) (y : Seen) → not (is_index (first_seen (piece_written slot.Dictionary (dictionary_piece ds) ++ mark colon ∷ qs) y)) ≡ true
+behind_use : (ds : List Attr) (qs : List Terminal) (y : Terminal) → not (is_index (first_seen (piece_written slot.Dictionary (dictionary_piece ds) ++ mark colon ∷ qs) y)) ≡ true
 behind_use ds qs y = dictionary_first (λ z. not (is_index z)) ds (mark colon ∷ qs) y refl refl
 
 -- what may stand behind the head of a kind
-abbrev pub Follows : Kind → Seen → Type 0
+abbrev pub Follows : Kind → Terminal → Type 0
 Follows (kind.Module symbol) y = y ≡ mark open_brace
 Follows (kind.Func symbol private results) y = y ≡ mark open_brace
 Follows (kind.For width) y = y ≡ mark open_brace
@@ -312,7 +312,7 @@ module_suits : (symbol : Option (List ℕ)) (ds : List Attr) → Each AttrFits d
 module_suits None ds h few s = both_true (attributes_first (λ z. not (is_kind token_kind.Symbol z)) ds [] (mark open_brace) refl refl) (both_true (attributes_suit ds (mark open_brace) h few refl) refl)
 module_suits (Some bytes) ds h few s = both_true (short_is bytes s) (both_true (attributes_suit ds (mark open_brace) h few refl) refl)
 
-name_suits : (private : Bool) (s : List ℕ) (y : Seen) → length s < 2 ^ 32 → suits slot.FunctionName (function_symbol private s) y ≡ true
+name_suits : (private : Bool) (s : List ℕ) (y : Terminal) → length s < 2 ^ 32 → suits slot.FunctionName (function_symbol private s) y ≡ true
 name_suits true s y few = short_is s few
 name_suits false s y few = short_is s few
 
@@ -320,7 +320,7 @@ return_suits : (names : Names) (ds : List Attr) (os : List ValueName) → Each A
 return_suits names ds os h k few few_operands = both_true (dictionary_suits ds _ h few (given_first names os)) (both_true (given_suits names os k few_operands) refl)
 
 -- the pieces of a kind
-pub pieces_suit : (names : Names) (first : ℕ) (args : List PayloadType) (k : Kind) (ds : List Attr) (os : List ValueName) (ts : List PayloadType) (y : Seen) → is_core k ≡ true → Each AttrFits ds → Each (Known names) os → counted k os ≡ true → HasFew k ds os ts args → Follows k y
+pub pieces_suit : (names : Names) (first : ℕ) (args : List PayloadType) (k : Kind) (ds : List Attr) (os : List ValueName) (ts : List PayloadType) (y : Terminal) → is_core k ≡ true → Each AttrFits ds → Each (Known names) os → counted k os ≡ true → HasFew k ds os ts args → Follows k y
     → row_suits (slots (row_of k)) (pieces_of names first args k ds os ts) y ≡ true
 pieces_suit names first args (kind.Module symbol) ds os ts y c h k n few f = subst (λ z. row_suits (slot.ModuleName ∷ slot.Attributes ∷ []) (module_symbol symbol ∷ dictionary_piece ds ∷ []) z ≡ true) (sym f) (module_suits symbol ds h few.attributes few.symbol)
 pieces_suit names first args (kind.Func symbol private results) ds os ts y c h k n few f =
@@ -357,7 +357,7 @@ pieces_suit names first args k ds os ts y c h known n few f = absurd cc
 -- ---- heads
 
 -- inside a body
-pub body_suits : (n : ℕ) (ts : List PayloadType) (r : Row) (ps : List Piece) (y : Seen) → fits level.Body r ≡ true → row_suits (slots r) ps y ≡ true → head_suits level.Body (results_of n ts) r ps y ≡ true
+pub body_suits : (n : ℕ) (ts : List PayloadType) (r : Row) (ps : List Piece) (y : Terminal) → fits level.Body r ≡ true → row_suits (slots r) ps y ≡ true → head_suits level.Body (results_of n ts) r ps y ≡ true
 body_suits n [] r ps y f e = both_true f e
 body_suits n (t ∷ []) r ps y f e = both_true f e
 body_suits n (t ∷ (u ∷ ts)) r ps y f e = both_true f e
@@ -370,7 +370,7 @@ all_row say h (x ∷ xs) t = all_row say h xs (say x t) ∙ h x t
 pub entries_row : (es : List Attribute) (t : Said) → (says_all attribute_says es t).row ≡ t.row
 entries_row es t = all_row attribute_says (λ x t. refl) es t
 
-piece_row : (s : Slot) (p : Piece) (t : Said) → (piece_says s p t).row ≡ t.row
+piece_row : (s : FormatElement) (p : Piece) (t : Said) → (piece_says s p t).row ≡ t.row
 piece_row slot.Attributes (attributes es) t = entries_row es t
 piece_row slot.Dictionary (attributes es) t = entries_row es t
 piece_row slot.Uses (operands us) t = all_row use_says (λ x t. refl) us t
@@ -392,7 +392,7 @@ piece_row slot.Width (a_width w) t = refl
 piece_row slot.LoopWidth (a_width w) t = refl
 piece_row s p t = refl
 
-row_row : (ss : List Slot) (ps : List Piece) (t : Said) → (row_says ss ps t).row ≡ t.row
+row_row : (ss : List FormatElement) (ps : List Piece) (t : Said) → (row_says ss ps t).row ≡ t.row
 row_row [] ps t = refl
 row_row (s ∷ ss) [] t = refl
 row_row (s ∷ ss) (p ∷ ps) t = row_row ss ps (piece_says s p t) ∙ piece_row s p t

@@ -7,13 +7,13 @@ use Rattle.xf_type.specs.declared.kind.BinKind.TheVariants as bin
 use Rattle.xf_type.specs.declared.kind.ConvKind.{ConvKind}
 use Rattle.xf_type.specs.declared.kind.ConvKind.TheVariants as conv
 use Rattle.xf_type.specs.declared.payload_type.PayloadType.{PayloadType}
-use Rattle.xf_grammar.specs.Tokens.{Seen, the_end, is_kind, is_word, open_brace, close_brace}
+use Rattle.xf_grammar.specs.Tokens.{Terminal, the_end, is_kind, is_word, open_brace, close_brace}
 use Rattle.xf_grammar.specs.Grammar.{first_seen, Writes}
 use Rattle.xf_read_base.specs.declared.row.Level.{Level}
 use Rattle.xf_read_base.specs.declared.row.Level.TheVariants as level
 use Rattle.xf_read_base.specs.declared.row.Row.{Row}
 use Rattle.xf_read_base.specs.declared.row.Row.TheVariants as row
-use Rattle.xf_read_base.specs.declared.row.Slot.TheVariants as slot
+use Rattle.xf_read_base.specs.declared.row.FormatElement.TheVariants as slot
 use Rattle.xf_read_base.specs.Laws.{nothing_said}
 use Rattle.xf_read_base.specs.Parts.{Said}
 use Rattle.xf_read_base.specs.Pieces.{mark, word, Piece, piece_written, piece_says, says_all, attribute_says, binary_word, conversion_word, row_word, head_written, head_suits, head_says}
@@ -27,7 +27,7 @@ use Rattle.xf_ir.specs.declared.kind.Attr.{Attr}
 use Rattle.xf_ir.specs.declared.kind.Kind.{Kind}
 use Rattle.xf_ir.specs.declared.kind.Kind.TheVariants as kind
 use Rattle.xf_ir.specs.declared.op.Module.{Module}
-use Rattle.xf_ir.specs.Kinds.{ends, is_container, is_module, is_function}
+use Rattle.xf_ir.specs.Kinds.{is_terminator, is_container, is_module, is_function}
 use Rattle.xf_ir.specs.Lists.{Each}
 use Rattle.xf_ir.specs.Placed.{functions_of}
 use Rattle.xf_ir.specs.RuleBlocks.{is_end}
@@ -79,16 +79,16 @@ no_else_row row.If = refl
 no_else_row row.Yield = refl
 
 -- no brace that opens, and no else
-record Begins (y : Seen) : Type 0 where
+record Begins (y : Terminal) : Type 0 where
   no_brace : not (is_kind open_brace y) ≡ true
   no_else : not (is_word (codes "else") y) ≡ true
 
-head_begins : (n : ℕ) (ts : List PayloadType) (r : Row) (ps : List Piece) (qs : List Seen) (y : Seen) → Begins (first_seen (head_written (results_of n ts) r ps ++ qs) y)
+head_begins : (n : ℕ) (ts : List PayloadType) (r : Row) (ps : List Piece) (qs : List Terminal) (y : Terminal) → Begins (first_seen (head_written (results_of n ts) r ps ++ qs) y)
 head_begins n [] r ps qs y = record { no_brace = refl; no_else = ap not (no_else_row r) }
 head_begins n (t ∷ []) r ps qs y = record { no_brace = refl; no_else = refl }
 head_begins n (t ∷ (u ∷ ts)) r ps qs y = record { no_brace = refl; no_else = refl }
 
-either_begins : (b : Bool) (ps qs : List Seen) (y : Seen) → Begins (first_seen ps y) → Begins (first_seen qs y) → Begins (first_seen (if b then ps else qs) y)
+either_begins : (b : Bool) (ps qs : List Terminal) (y : Terminal) → Begins (first_seen ps y) → Begins (first_seen qs y) → Begins (first_seen (if b then ps else qs) y)
 either_begins true ps qs y p q = p
 either_begins false ps qs y p q = q
 
@@ -99,7 +99,7 @@ ops_begin names (op n k ds os ts rs rest) =
 
 -- ---- what follows a head
 
-follows : (names : Names) (k : Kind) (rs : Regions) (ds : List Attr) (rest : Ops) → has_regions k rs ≡ true → (not (ends k) || is_end rest) ≡ true
+follows : (names : Names) (k : Kind) (rs : Regions) (ds : List Attr) (rest : Ops) → has_regions k rs ≡ true → (not (is_terminator k) || is_end rest) ≡ true
     → Follows k (first_seen (regions_tokens names rs ++ (tail_tokens k ds ++ ops_tokens names rest)) (mark close_brace))
 follows names (kind.Module symbol) (region args ops more) ds rest h e = refl
 follows names (kind.Module symbol) no_regions ds rest h e = absurd cc
@@ -128,17 +128,17 @@ dictionary_says : (ds : List Attr) (t : Said) → piece_says slot.Dictionary (di
 dictionary_says [] t = refl
 dictionary_says (d ∷ ds) t = refl
 
-dictionary_written : (ds : List Attr) (at : ℕ) (y : Seen) (t : Said) → Each AttrFits ds → length ds < 2 ^ 32 → not (is_kind open_brace y) ≡ true → Writes dictionary_rule at (piece_written slot.Dictionary (dictionary_piece ds)) y t (says_all attribute_says (map attribute_of ds) t)
+dictionary_written : (ds : List Attr) (at : ℕ) (y : Terminal) (t : Said) → Each AttrFits ds → length ds < 2 ^ 32 → not (is_kind open_brace y) ≡ true → Writes dictionary_rule at (piece_written slot.Dictionary (dictionary_piece ds)) y t (says_all attribute_says (map attribute_of ds) t)
 dictionary_written ds at y t h few e = subst (λ u. Writes dictionary_rule at (piece_written slot.Dictionary (dictionary_piece ds)) y t u) (dictionary_says ds t) (piece_writes slot.Dictionary (dictionary_piece ds) at y t (dictionary_suits ds y h few e))
 
-tail_written : (k : Kind) (ds : List Attr) (at : ℕ) (y : Seen) (t : Said) → is_core k ≡ true → Each AttrFits ds → length ds < 2 ^ 32 → not (is_kind open_brace y) ≡ true → TailWritten (has_tail (row_of k)) at (tail_tokens k ds) y t (tail_says k ds t)
+tail_written : (k : Kind) (ds : List Attr) (at : ℕ) (y : Terminal) (t : Said) → is_core k ≡ true → Each AttrFits ds → length ds < 2 ^ 32 → not (is_kind open_brace y) ≡ true → TailWritten (has_tail (row_of k)) at (tail_tokens k ds) y t (tail_says k ds t)
 tail_written (kind.For width) ds at y t c h few e = dictionary_written ds at y t h few e
 tail_written kind.If ds at y t c h few e = dictionary_written ds at y t h few e
 tail_written k ds at y t c h few e = (refl, refl)
 
 -- ---- operations
 
-either_written : (b : Bool) (l : Level) (at : ℕ) (ps qs : List Seen) (y : Seen) (m n : SaidNodes) → NodesWritten l at ps y m → (b ≡ false → NodesWritten l at qs y n) → NodesWritten l at (if b then ps else qs) y (if b then m else n)
+either_written : (b : Bool) (l : Level) (at : ℕ) (ps qs : List Terminal) (y : Terminal) (m n : SaidNodes) → NodesWritten l at ps y m → (b ≡ false → NodesWritten l at qs y n) → NodesWritten l at (if b then ps else qs) y (if b then m else n)
 either_written true l at ps qs y m n p q = p
 either_written false l at ps qs y m n p q = q refl
 
@@ -147,16 +147,16 @@ not_so true e = absurd cc
 not_so false e = refl
 
 -- no else behind the bodies
-no_else_behind : (k : Kind) (ds : List Attr) (qs : List Seen) (y : Seen) → Begins (first_seen qs y) → (has_else (row_of k) && is_word (codes "else") (first_seen (tail_tokens k ds ++ qs) y)) ≡ false
+no_else_behind : (k : Kind) (ds : List Attr) (qs : List Terminal) (y : Terminal) → Begins (first_seen qs y) → (has_else (row_of k) && is_word (codes "else") (first_seen (tail_tokens k ds ++ qs) y)) ≡ false
 no_else_behind kind.If ds qs y b = not_so _ (dictionary_first (λ z. not (is_word (codes "else") z)) ds qs y refl b.no_else)
 no_else_behind k ds qs y b = refl
 
 -- { operations } alone
-one_braced : (qs : List Seen) → mark open_brace ∷ (qs ++ mark close_brace ∷ []) ≡ (mark open_brace ∷ (qs ++ mark close_brace ∷ [])) ++ []
+one_braced : (qs : List Terminal) → mark open_brace ∷ (qs ++ mark close_brace ∷ []) ≡ (mark open_brace ∷ (qs ++ mark close_brace ∷ [])) ++ []
 one_braced qs = sym (append-nil (mark open_brace ∷ (qs ++ mark close_brace ∷ [])))
 
 -- an operation before others, by its head and its bodies
-node_written : (l : Level) (names : Names) (n : OpName) (k : Kind) (ds : List Attr) (os : List ValueName) (ts : List PayloadType) (rs : Regions) (rest : List Seen) (said : SaidNodes) (at : ℕ)
+node_written : (l : Level) (names : Names) (n : OpName) (k : Kind) (ds : List Attr) (os : List ValueName) (ts : List PayloadType) (rs : Regions) (rest : List Terminal) (said : SaidNodes) (at : ℕ)
     → is_core k ≡ true → Each AttrFits ds → length ds < 2 ^ 32 → Begins (first_seen rest (mark close_brace))
     → let t : Tree = record { name = n; kind = k; attrs = ds; operands = os; results = ts; regions = rs } in
     let d = results_of (number_of (names.entry n.0)) ts in
@@ -220,7 +220,7 @@ mutual
       (λ e. body_node names n k ds os ts rs rest at f.0 f.1.0
       (bodies_written names k rs _ _ (or_parts (is_module k) (is_function k) f.0).0 f.1.0.core f.1.0.regions f.1.1.0 (no_else_behind k ds (ops_tokens names rest) (mark close_brace) (ops_begin names rest))) (ops_written names rest _ f.1.1.1))
 
-  pub bodies_written : (names : Names) (k : Kind) (rs : Regions) (at : ℕ) (y : Seen) → is_module k ≡ false → is_core k ≡ true → has_regions k rs ≡ true → RegionsFit names rs → (has_else (row_of k) && is_word (codes "else") y) ≡ false
+  pub bodies_written : (names : Names) (k : Kind) (rs : Regions) (at : ℕ) (y : Terminal) → is_module k ≡ false → is_core k ≡ true → has_regions k rs ≡ true → RegionsFit names rs → (has_else (row_of k) && is_word (codes "else") y) ≡ false
       → BodiesWritten (row_of k) at (regions_tokens names rs) y (bodies_printed names rs)
   bodies_written names (kind.Func symbol private results) (region args ops no_regions) at y m c h f e =
       (refl, (_, ([], (one_braced (ops_tokens names ops), ((ops_tokens names ops, (refl, ops_written names ops _ f.0)), (refl, refl))))))
@@ -257,12 +257,12 @@ functions_begin : (fs : Ops) → FunctionsFit fs → Begins (first_seen (functio
 functions_begin no_ops f = record { no_brace = refl; no_else = refl }
 functions_begin (op n k ds os ts rs rest) f = head_begins (number_of ((with_ops no_names (op n k ds os ts rs no_ops)).entry n.0)) ts (row_of k) _ _ (mark close_brace)
 
-function_follows : (names : Names) (symbol : List ℕ) (private : Bool) (results : List PayloadType) (rs : Regions) (rest : List Seen) → has_regions (kind.Func symbol private results) rs ≡ true
+function_follows : (names : Names) (symbol : List ℕ) (private : Bool) (results : List PayloadType) (rs : Regions) (rest : List Terminal) → has_regions (kind.Func symbol private results) rs ≡ true
     → first_seen (regions_tokens names rs ++ rest) (mark close_brace) ≡ mark open_brace
 function_follows names symbol private results (region args ops more) rest h = refl
 function_follows names symbol private results no_regions rest h = absurd cc
 
-function_written : (names : Names) (n : OpName) (symbol : List ℕ) (private : Bool) (results : List PayloadType) (ds : List Attr) (os : List ValueName) (rs : Regions) (rest : List Seen) (said : SaidNodes) (at : ℕ)
+function_written : (names : Names) (n : OpName) (symbol : List ℕ) (private : Bool) (results : List PayloadType) (ds : List Attr) (os : List ValueName) (rs : Regions) (rest : List Terminal) (said : SaidNodes) (at : ℕ)
     → Fits names n (kind.Func symbol private results) ds os [] rs no_ops → RegionsFit names rs → Begins (first_seen rest (mark close_brace))
     → let t : Tree = record { name = n; kind = kind.Func symbol private results; attrs = ds; operands = os; results = []; regions = rs } in
     NodesWritten level.Functions (at + length (head_tokens names t) + length (regions_tokens names rs) + 0) rest (mark close_brace) said

@@ -12,7 +12,7 @@ use Rattle.xf_ir.specs.declared.kind.Kind.TheVariants as kind
 use Rattle.xf_ir.specs.declared.name.ValueName.{ValueName}
 use Rattle.xf_ir.specs.Bounds.{HasShortLists}
 use Rattle.xf_ir.specs.Calls.{Signatures, has_its_callee}
-use Rattle.xf_ir.specs.Kinds.{ends, ends_for, is_endless}
+use Rattle.xf_ir.specs.Kinds.{is_terminator, ends_for, is_endless}
 use Rattle.xf_ir.specs.Lists.{is_empty}
 use Rattle.xf_ir.specs.Placed.{Typed, type_at, Holder, holder_of, Placed}
 use Rattle.xf_ir.specs.RuleAttributes.{has_its_attributes, kind_fits, attributes_fit}
@@ -92,11 +92,11 @@ not_end_before : (a b : Bool) → (not a || (false && b)) ≡ true → a ≡ fal
 not_end_before true b e = absurd cc
 not_end_before false b e = refl
 
-no_end_no_yield : (k : Kind) (ds : List Attr) (os : List ValueName) → ends k ≡ false → is_empty_yield k ds os ≡ false
+no_end_no_yield : (k : Kind) (ds : List Attr) (os : List ValueName) → is_terminator k ≡ false → is_empty_yield k ds os ≡ false
 no_end_no_yield kind.Yield ds os e = absurd cc
 no_end_no_yield k ds os e = refl
 
-no_end_no_row : (k : Kind) → ends k ≡ false → is_yield (row_of k) ≡ false
+no_end_no_row : (k : Kind) → is_terminator k ≡ false → is_yield (row_of k) ≡ false
 no_end_no_row kind.Yield e = absurd cc
 no_end_no_row kind.Return e = refl
 no_end_no_row (kind.Func symbol private results) e = refl
@@ -132,7 +132,7 @@ yields_last names sigs h env (op m k ds os ts rs no_ops) e f g b =
     let y : k ≡ kind.Yield = f k (or_false (is_endless h.kind) (ends_for h.kind k) e b) in
     last_printed (is_empty_yield k ds os) _ _ (ap (λ x. is_yield (row_of x)) y)
 yields_last names sigs h env (op m k ds os ts rs (op m' k' ds' os' ts' rs' rest)) e f g b =
-    let n : ends k ≡ false = not_end_before (ends k) (ends_for h.kind k) (stands_there sigs _ g.0) in
+    let n : is_terminator k ≡ false = not_end_before (is_terminator k) (ends_for h.kind k) (stands_there sigs _ g.0) in
     let more = yields_last names sigs h _ (op m' k' ds' os' ts' rs' rest) e f g.1.1 b in
     more_printed (is_empty_yield k ds os) _ _ (ops_printed names (op m' k' ds' os' ts' rs' rest)) (ends_empty (op m' k' ds' os' ts' rs' rest)) (no_end_no_yield k ds os n) (no_end_no_row k n) more
 

@@ -2,8 +2,8 @@
 use Rattle.std.specs.Prelude.{◌≡◌, ◌↔◌, ℕ, List, map, false, true}
 use Rattle.std.specs.Str.{IsUtf8}
 use Rattle.xf_lex.specs.declared.token.Token.{Token}
-use Rattle.xf_lex.specs.Laid.{Piece, laid, AllStay}
-use Rattle.xf_grammar.specs.Laid.{seen_plains}
+use Rattle.xf_lex.specs.Layout.{SpacedToken, layout, AllStay}
+use Rattle.xf_grammar.specs.Layout.{terminals_plain}
 use Rattle.xf_ir.specs.declared.op.Module.{Module}
 use Rattle.xf_read.specs.declared.tree.File.{File}
 use Rattle.xf_read.specs.Laws.{IsText}
@@ -29,7 +29,7 @@ TokensAreRightAsTheySay = (all : List Token) (file : File) → IsText all file �
 
 -- a text that is laid out, of tokens that are written and say what is right, and blanks behind them, spells the module that they say
 abbrev pub TextsMeanWhatTheySay : Type 0
-TextsMeanWhatTheySay = (ws : List Piece) (tail : List ℕ) (ns : SaidNodes) → AllStay false ws tail → IsUtf8 (laid ws tail) → IsWritten (seen_plains (map (λ w. w.token) ws)) ns → said_well ns ≡ true → Spells (laid ws tail) (said_meant ns)
+TextsMeanWhatTheySay = (ws : List SpacedToken) (tail : List ℕ) (ns : SaidNodes) → AllStay false ws tail → IsUtf8 (layout ws tail) → IsWritten (terminals_plain (map (λ w. w.token) ws)) ns → said_well ns ≡ true → Spells (layout ws tail) (said_meant ns)
 
 -- what the printed form of a module says is right, and it is the module again, with other names of operations
 abbrev pub PrintedSaysTheModule : Type 0

@@ -5,7 +5,7 @@ use Rattle.xf_type.specs.declared.payload_type.PayloadType.{PayloadType}
 use Rattle.xf_read_base.specs.Parts.{UseSaid, DefineSaid}
 use Rattle.xf_ir.specs.declared.name.ValueName.{ValueName}
 use Rattle.xf_ir.specs.declared.name.ValueName.TheVariants.{Result, Arg, Free}
-use Rattle.xf_ir.specs.PrintedNames.{Entry, Names, argument_text}
+use Rattle.xf_ir.specs.PrintedNames.{DefinedValues, Names, argument_text}
 
 -- `%4`
 abbrev pub number_name : ℕ → List ℕ
@@ -16,13 +16,13 @@ abbrev pub part_said : List PayloadType → ℕ → Option ℕ
 part_said (t ∷ (u ∷ ts)) num = Some num
 part_said ts num = None
 
-abbrev pub result_use : Entry → ℕ → UseSaid
+abbrev pub result_use : DefinedValues → ℕ → UseSaid
 result_use e num = record { name = number_name e.number; number = part_said e.results num }
 
-abbrev pub argument_use : Entry → ℕ → UseSaid
+abbrev pub argument_use : DefinedValues → ℕ → UseSaid
 argument_use e num = record { name = argument_text (e.first + num); number = None }
 
-abbrev pub use_or : (Entry → UseSaid) → Option Entry → UseSaid
+abbrev pub use_or : (DefinedValues → UseSaid) → Option DefinedValues → UseSaid
 use_or say None = record { name = []; number = None }
 use_or say (Some e) = say e
 

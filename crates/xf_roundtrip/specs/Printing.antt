@@ -27,7 +27,7 @@ use Rattle.xf_ir.specs.RuleBlocks.{block_args}
 use Rattle.xf_ir.specs.Placed.{Everywhere, functions_of}
 use Rattle.xf_read.specs.Written.{SaidNodes, no_nodes_said, node_said, SaidBodies, no_bodies_said, body_said}
 use Rattle.xf_ir.specs.PrintedAttributes.{string_text}
-use Rattle.xf_ir.specs.PrintedNames.{Entry, Names, no_names, with_ops, first_args, number_of, first_of, argument_text, type_of}
+use Rattle.xf_ir.specs.PrintedNames.{DefinedValues, Names, no_names, with_ops, first_args, number_of, first_of, argument_text, type_of}
 use Rattle.xf_ir.specs.PrintedForm.{is_empty_yield}
 
 -- ---- names
@@ -43,14 +43,14 @@ part_digits ts num = None
 abbrev pub no_use : Use
 no_use = record { name = []; digits = None }
 
-abbrev pub use_or_none : (Entry → Use) → Option Entry → Use
+abbrev pub use_or_none : (DefinedValues → Use) → Option DefinedValues → Use
 use_or_none use_of None = no_use
 use_or_none use_of (Some e) = use_of e
 
 -- `%4`, `%4#1`, `%arg2`
 abbrev pub use_of : Names → ValueName → Use
 use_of names (Result o num) = use_or_none (λ e. record { name = number_name e.number; digits = part_digits e.results num }) (names.entry o.0)
-use_of names (Arg o r num) = use_or_none (λ (e : Entry). record { name = argument_text (e.first + num); digits = None }) (names.entry o.0)
+use_of names (Arg o r num) = use_or_none (λ (e : DefinedValues). record { name = argument_text (e.first + num); digits = None }) (names.entry o.0)
 use_of names (Free num) = no_use
 
 abbrev pub use_piece : Names → Option ValueName → Piece

@@ -6,7 +6,7 @@ use Rattle.xf_ir.specs.declared.op.Module.{Module}
 use Rattle.xf_ir.specs.Tree.{Ops, no_ops, op, Regions, no_regions, region, cons, Tree}
 use Rattle.xf_read.specs.Meant.{joined, yield_tree}
 use Rattle.xf_read.specs.Names.{op_name}
-use Rattle.xf_read.specs.Scopes.{Scope, no_names}
+use Rattle.xf_read.specs.Scopes.{Meanings, no_names}
 use Rattle.xf_read.specs.Syntax.{ends_open}
 use Rattle.xf_read.specs.Written.{SaidNodes, no_nodes_said, node_said, SaidBodies, no_bodies_said, body_said, says_yield_last, operations, left_out, operations_inside}
 use Rattle.xf_roundtrip.specs.Saying.{use_value, result_types, argument_types, attrs_said, kind_said, inside, behind}
@@ -16,19 +16,19 @@ abbrev pub yield_said : Said → SaidNodes → ℕ → Ops
 yield_said t ns n = if ends_open t.row t.results && not (says_yield_last ns) then cons (yield_tree n) no_ops else no_ops
 
 abbrev mutual
-  pub ops_said : ℕ → Scope → SaidNodes → Ops
+  pub ops_said : ℕ → Meanings → SaidNodes → Ops
   ops_said n scope no_nodes_said = no_ops
   ops_said n scope (node_said t bs rest) =
       op (op_name n) (kind_said t.row t) (attrs_said t.entries) (map (use_value scope) t.uses) (result_types t) (regions_said (n + 1) t (inside n t scope) bs)
       (ops_said (n + (1 + operations_inside t bs)) (behind n t scope) rest)
 
-  pub regions_said : ℕ → Said → Scope → SaidBodies → Regions
+  pub regions_said : ℕ → Said → Meanings → SaidBodies → Regions
   regions_said n t scope no_bodies_said = no_regions
   regions_said n t scope (body_said ns rest) =
       region (argument_types t) (joined (ops_said n scope ns) (yield_said t ns (n + operations ns))) (regions_said (n + (operations ns + left_out t ns)) t scope rest)
 
 -- operation n with what it holds
-abbrev pub tree_said : ℕ → Scope → Said → SaidBodies → Tree
+abbrev pub tree_said : ℕ → Meanings → Said → SaidBodies → Tree
 tree_said n scope t bs = record {
   name = op_name n;
   kind = kind_said t.row t;

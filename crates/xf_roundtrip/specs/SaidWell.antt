@@ -6,7 +6,7 @@ use Rattle.xf_read_base.specs.Parts.{UseSaid, DefineSaid, EntrySaid, Said}
 use Rattle.xf_ir.specs.Lists.{every}
 use Rattle.xf_read_base.specs.Attributes.{also}
 use Rattle.xf_read.specs.Names.{argument_named}
-use Rattle.xf_read.specs.Scopes.{Scope, has_values, no_names, with_name}
+use Rattle.xf_read.specs.Scopes.{Meanings, has_values, no_names, with_name}
 use Rattle.xf_read.specs.Types.{operands_by, stated_by, fits}
 use Rattle.xf_read.specs.Written.{SaidNodes, no_nodes_said, node_said, SaidBodies, no_bodies_said, body_said, operations, left_out, operations_inside}
 use Rattle.xf_roundtrip.specs.Saying.{use_means, use_type, shape, result_types, argument_types, function_named, inside, behind}
@@ -18,30 +18,30 @@ abbrev pub entries_once : (List ℕ → Bool) → List EntrySaid → Bool
 entries_once names [] = true
 entries_once names (e ∷ es) = not (names e.name) && entries_once (also e.name names) es
 
-abbrev pub is_new : Scope → List ℕ → Bool
+abbrev pub is_new : Meanings → List ℕ → Bool
 is_new scope name = not (is_some (scope name))
 
-abbrev pub symbol_new : Scope → Option (List ℕ) → Bool
+abbrev pub symbol_new : Meanings → Option (List ℕ) → Bool
 symbol_new scope None = true
 symbol_new scope (Some symbol) = is_new scope symbol
 
-abbrev pub defines_new : Scope → List DefineSaid → Bool
+abbrev pub defines_new : Meanings → List DefineSaid → Bool
 defines_new scope [] = true
 defines_new scope (d ∷ ds) = if has_values d.count then is_new scope d.name else true
 
 -- the arguments from argument j on, each with the names of those before
-abbrev pub arguments_new : ℕ → ℕ → List PayloadType → List (List ℕ) → Scope → Bool
+abbrev pub arguments_new : ℕ → ℕ → List PayloadType → List (List ℕ) → Meanings → Bool
 arguments_new n j ts [] scope = true
 arguments_new n j ts (name ∷ names) scope = is_new scope name && arguments_new n (j + 1) ts names (with_name name (argument_named n j (slice_get ts j)) scope)
 
-abbrev pub names_once : ℕ → Said → Scope → Bool
+abbrev pub names_once : ℕ → Said → Meanings → Bool
 names_once n t scope =
     entries_once (λ name. false) t.entries && ((symbol_new scope (function_named t.row t.symbol) && defines_new scope t.defines) && arguments_new n 0 (argument_types t) t.args scope)
 
 -- ---- types and numbers that are stated
 
 -- the operands from operand i on have the types that are stated for them
-abbrev pub uses_fit : Scope → Said → ℕ → List UseSaid → Bool
+abbrev pub uses_fit : Meanings → Said → ℕ → List UseSaid → Bool
 uses_fit scope t i [] = true
 uses_fit scope t i (u ∷ us) = fits (stated_by t.row (shape t) i) (use_type scope u) && uses_fit scope t (i + 1) us
 
@@ -50,23 +50,23 @@ abbrev pub defines_fit : List DefineSaid → List PayloadType → Bool
 defines_fit [] ts = true
 defines_fit (d ∷ ds) ts = d.count == length ts
 
-abbrev pub types_agree : Said → Scope → Bool
+abbrev pub types_agree : Said → Meanings → Bool
 types_agree t scope =
     ((length t.uses == operands_by t.row (shape t)) && uses_fit scope t 0 t.uses) && (defines_fit t.defines (result_types t) && (length t.args == length (argument_types t)))
 
 -- ---- all operations
 
 -- the head of operation n
-abbrev pub head_well : ℕ → Said → Scope → Bool
+abbrev pub head_well : ℕ → Said → Meanings → Bool
 head_well n t scope = every (use_means scope) t.uses && (names_once n t scope && types_agree t scope)
 
 abbrev mutual
-  pub nodes_well : ℕ → Scope → SaidNodes → Bool
+  pub nodes_well : ℕ → Meanings → SaidNodes → Bool
   nodes_well n scope no_nodes_said = true
   nodes_well n scope (node_said t bs rest) =
       (head_well n t scope && bodies_well (n + 1) t (inside n t scope) bs) && nodes_well (n + (1 + operations_inside t bs)) (behind n t scope) rest
 
-  pub bodies_well : ℕ → Said → Scope → SaidBodies → Bool
+  pub bodies_well : ℕ → Said → Meanings → SaidBodies → Bool
   bodies_well n t scope no_bodies_said = true
   bodies_well n t scope (body_said ns rest) = nodes_well n scope ns && bodies_well (n + (operations ns + left_out t ns)) t scope rest
 

@@ -16,7 +16,7 @@ use Rattle.xf_ir.specs.declared.kind.Kind.{Kind}
 use Rattle.xf_ir.specs.declared.kind.Kind.TheVariants as kind
 use Rattle.xf_ir.specs.declared.name.ValueName.{ValueName}
 use Rattle.xf_read.specs.Names.{argument_named, results_named, symbol_named}
-use Rattle.xf_read.specs.Scopes.{Scope, has_values, with_name, has_use, value_in, type_in}
+use Rattle.xf_read.specs.Scopes.{Meanings, has_values, with_name, has_use, value_in, type_in}
 use Rattle.xf_read.specs.Types.{results_by, args_by}
 use Rattle.xf_read_base.specs.Strings.{decoded}
 use Rattle.xf_read_base.specs.Values.{signed, truth_bits, integer_bits, with_attr, width_at, predicate_or}
@@ -29,14 +29,14 @@ index_or None = 0
 index_or (Some i) = i
 
 -- whether a use stands for a value; %n stands for the one value of its name, and %n#0 for the first of one or several
-abbrev pub use_means : Scope → UseSaid → Bool
+abbrev pub use_means : Meanings → UseSaid → Bool
 use_means scope u = has_use (is_some u.number) (index_or u.number) (scope u.name)
 
 -- the value that a use stands for, and its type
-abbrev pub use_value : Scope → UseSaid → ValueName
+abbrev pub use_value : Meanings → UseSaid → ValueName
 use_value scope u = value_in (scope u.name) (index_or u.number)
 
-abbrev pub use_type : Scope → UseSaid → Option PayloadType
+abbrev pub use_type : Meanings → UseSaid → Option PayloadType
 use_type scope u = type_in (scope u.name) (index_or u.number)
 
 -- ---- types
@@ -102,11 +102,11 @@ kind_said row.Yield t = kind.Yield
 -- ---- scopes
 
 -- with the names of the arguments of operation n, from argument j on
-abbrev pub with_arguments : ℕ → ℕ → List PayloadType → List (List ℕ) → Scope → Scope
+abbrev pub with_arguments : ℕ → ℕ → List PayloadType → List (List ℕ) → Meanings → Meanings
 with_arguments n j ts [] scope = scope
 with_arguments n j ts (name ∷ names) scope = with_arguments n (j + 1) ts names (with_name name (argument_named n j (slice_get ts j)) scope)
 
-abbrev pub with_defines : ℕ → List PayloadType → List DefineSaid → Scope → Scope
+abbrev pub with_defines : ℕ → List PayloadType → List DefineSaid → Meanings → Meanings
 with_defines n ts [] scope = scope
 with_defines n ts (d ∷ ds) scope = if has_values d.count then with_name d.name (results_named n d.count ts) scope else scope
 
@@ -115,13 +115,13 @@ abbrev pub function_named : Row → Option (List ℕ) → Option (List ℕ)
 function_named row.Function symbol = symbol
 function_named r symbol = None
 
-abbrev pub with_function : Option (List ℕ) → Scope → Scope
+abbrev pub with_function : Option (List ℕ) → Meanings → Meanings
 with_function None scope = scope
 with_function (Some symbol) scope = with_name symbol symbol_named scope
 
 -- what is visible in the bodies of operation n, and behind it
-abbrev pub inside : ℕ → Said → Scope → Scope
+abbrev pub inside : ℕ → Said → Meanings → Meanings
 inside n t scope = with_arguments n 0 (argument_types t) t.args scope
 
-abbrev pub behind : ℕ → Said → Scope → Scope
+abbrev pub behind : ℕ → Said → Meanings → Meanings
 behind n t scope = with_defines n (result_types t) t.defines (with_function (function_named t.row t.symbol) scope)

@@ -1,10 +1,10 @@
 //! What holds of the printed form of all modules.
-ghost use Rattle.xf_roundtrip.specs.PrintedLaws.{PrintedIsLaid, PrintedIsSpelt};
+ghost use Rattle.xf_roundtrip.specs.PrintedLaws.{PrintedHasLayout, PrintedIsSpelt};
 
 /// The printed form of a valid module of `builtin`, `func`, `arith` on scalars and `scf`, within
 /// the limits of texts, is laid out of tokens that the grammar of payloads writes.
-pub fn printed_form_is_laid()
-    ensures { PrintedIsLaid }
+pub fn printed_form_has_layout()
+    ensures { PrintedHasLayout }
 {}
 
 /// The printed form of a valid module of `builtin`, `func`, `arith` on scalars and `scf`, within

@@ -9,5 +9,5 @@ mod validity;
 pub use law::{
     printed_modules_say_themselves, texts_mean_what_they_say, tokens_mean_what_they_say,
 };
-pub use layout::{printed_form_is_laid, printed_modules_are_spelt};
+pub use layout::{printed_form_has_layout, printed_modules_are_spelt};
 pub use validity::printed_modules_are_valid_again;

@@ -8,8 +8,8 @@ use Rattle.xf_ir.specs.Calls as calls
 use Rattle.xf_ir.specs.Calls.{Signatures}
 use Rattle.xf_ir.specs.declared.signature.Signature.{Signature}
 use Rattle.xf_ir.specs.Signatures.{signature_seen}
-use Rattle.xf_rules.specs.declared.given.Gives.{Gives}
-use Rattle.xf_rules.specs.declared.given.Gives.TheVariants.{Types, Element, Nothing}
+use Rattle.xf_rules.specs.declared.given.Yielded.{Yielded}
+use Rattle.xf_rules.specs.declared.given.Yielded.TheVariants.{Types, Element, Nothing}
 
 -- the signature of a callee, none where no function has the symbol
 abbrev pub callee_seen : Option Signature → Option calls.Signature
@@ -17,7 +17,7 @@ callee_seen None = None
 callee_seen (Some s) = Some (signature_seen s)
 
 -- the types of the values that the terminator of a block gives
-abbrev pub gives_seen : Gives → List PayloadType
+abbrev pub gives_seen : Yielded → List PayloadType
 gives_seen (Types ts) = ts.now
 gives_seen (Element w) = Scalar w ∷ []
 gives_seen Nothing = []

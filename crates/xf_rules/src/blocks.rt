@@ -1,6 +1,6 @@
 //! Regions, the arguments of their blocks, and the ends of blocks.
 ghost use Rattle.std.specs.Prelude.{◌≡◌, ◌&&◌, ◌||◌, not, ◌∷◌, []};
-ghost use Rattle.xf_ir.specs.Kinds.{ends, ends_for, is_endless, is_generic, is_arith, is_return, is_yield, is_linalg_yield};
+ghost use Rattle.xf_ir.specs.Kinds.{is_terminator, ends_for, is_endless, is_generic, is_arith, is_return, is_yield, is_linalg_yield};
 ghost use Rattle.xf_ir.specs.RuleBlocks.{block_args, blocks_fit, block_ends, blocks_end, are_blocks, is_body};
 ghost use Rattle.xf_ir.specs.Types.{same_types};
 ghost use Rattle.xf_ir.specs.View.{ops_of, regions_of};
@@ -175,7 +175,7 @@ pub fn blocks_end(holder: &Kind, regions: &[Block]) -> bool
 
 /// Whether an operation that stands in a block of the holder is no terminator, or is the holder's and the last of its block.
 pub fn stands_at_end(holder: &Kind, kind: &Kind, is_last: bool) -> bool
-    ensures { result ≡ (not (ends kind.now) || (is_last && ends_for holder.now kind.now)) }
+    ensures { result ≡ (not (is_terminator kind.now) || (is_last && ends_for holder.now kind.now)) }
 {
     !kind.ends_block() || (is_last && ends_for(holder, kind))
 }

@@ -4,7 +4,7 @@ use xf_type::{PayloadType, Width};
 
 /// The types of the values that the terminator of a block gives to the operation that holds the block.
 #[derive(Clone, Copy)]
-pub enum Gives<'a> {
+pub enum Yielded<'a> {
     Types(&'a [PayloadType]),
     /// One scalar of that width, as the body of a `linalg.generic` gives.
     Element(Width),

@@ -11,7 +11,7 @@ mod types;
 
 pub use attributes::{attributes_fit, conversion_fits, fits_bits, is_word, is_word_or_none};
 pub use blocks::{blocks_end, fits_body, regions_fit, stands_at_end};
-pub use given::Gives;
+pub use given::Yielded;
 pub use rows::{are_inputs, callee_agrees, gives_row, is_bare, loop_row, scalar_row};
 pub use types::{
     are_scalars, behind_first, element_of, first_type, has_no_operands, have_scalars,

@@ -7,7 +7,7 @@ ghost use Rattle.xf_type.specs.declared.payload_type.PayloadType.TheVariants.{Sc
 ghost use Rattle.xf_rules.specs.Given.{callee_seen, gives_seen};
 ghost use Rattle.xf_rules.specs.OperandTypes.{operand_types, scalars};
 
-use crate::given::Gives;
+use crate::given::Yielded;
 use crate::types::{
     are_scalars, has_no_operands, has_no_results, have_scalars, have_types, is_scalar_operand,
     same_types,
@@ -23,18 +23,22 @@ pub fn is_bare(types: &[Option<&PayloadType>], results: &[PayloadType]) -> bool
 }
 
 /// Whether the operands are what a terminator gives.
-fn has_given(gives: Gives<'_>, types: &[Option<&PayloadType>]) -> bool
+fn has_given(gives: Yielded<'_>, types: &[Option<&PayloadType>]) -> bool
     ensures { result ≡ have_types (operand_types types.now) (gives_seen gives.entry) }
 {
     match gives {
-        Gives::Types(wanted) => have_types(types, wanted),
-        Gives::Element(width) => have_scalars(types, &[width]),
-        Gives::Nothing => has_no_operands(types),
+        Yielded::Types(wanted) => have_types(types, wanted),
+        Yielded::Element(width) => have_scalars(types, &[width]),
+        Yielded::Nothing => has_no_operands(types),
     }
 }
 
 /// Whether the operands are what a terminator gives, and there are no results.
-pub fn gives_row(gives: Gives<'_>, types: &[Option<&PayloadType>], results: &[PayloadType]) -> bool
+pub fn gives_row(
+    gives: Yielded<'_>,
+    types: &[Option<&PayloadType>],
+    results: &[PayloadType],
+) -> bool
     ensures { result ≡ takes_gives (gives_seen gives.entry) [] (operand_types types.now) results.now }
 {
     has_given(gives, types) && has_no_results(results)

@@ -11,7 +11,7 @@ use crate::tensor_rows::{
 };
 use xf_ir::{Kind, Signature};
 use xf_rules::{
-    Gives, are_inputs, gives_row, has_no_operands, have_scalars, is_bare, is_tensor_of, loop_row,
+    Yielded, are_inputs, gives_row, has_no_operands, have_scalars, is_bare, is_tensor_of, loop_row,
     scalar_row,
 };
 use xf_type::{PayloadType, Shape, Width};
@@ -29,7 +29,7 @@ fn dense_row(shape: &Shape, types: &[Option<&PayloadType>], results: &[PayloadTy
 /// Takes time in the number of operands and results and the length of their types.
 pub fn types_fit(
     kind: &Kind,
-    gives: Gives<'_>,
+    gives: Yielded<'_>,
     callee: Option<Signature<'_>>,
     types: &[Option<&PayloadType>],
     results: &[PayloadType],

@@ -9,7 +9,7 @@ use Rattle.xf_ir.specs.declared.kind.Kind.{Kind}
 use Rattle.xf_ir.specs.declared.kind.Kind.TheVariants as kind
 use Rattle.xf_ir.specs.Tree.{Ops, no_ops, op, Regions, no_regions, region}
 use Rattle.xf_ir.specs.Lists.{Each}
-use Rattle.xf_ir.specs.Places.{Place, results_of, args_of, Seen, done, inside, place_of, sees, AllSeen, IsFresh, OpsScoped, RegionsScoped, FunctionsScoped}
+use Rattle.xf_ir.specs.Places.{Numbering, results_of, args_of, Seen, done, inside, numbering_of, sees, AllSeen, IsFresh, OpsScoped, RegionsScoped, FunctionsScoped}
 use Rattle.xf_ir.specs.Valid.{functions_of}
 use Rattle.xf_ir.specs.Uses.{ops_operands, regions_operands}
 use Rattle.xf_sem.specs.declared.value.Value.{Value}
@@ -34,12 +34,12 @@ new_or_old None b h = inr h
 new_or_old (Some i) b h = inl (i, refl)
 
 -- what is defined here was not visible before
-pub not_seen : (ss : List Seen) (p : Place) (v : ValueName) (i : ℕ) → IsFresh ss p → p v ≡ Some i → sees ss v ≡ false
+pub not_seen : (ss : List Seen) (p : Numbering) (v : ValueName) (i : ℕ) → IsFresh ss p → p v ≡ Some i → sees ss v ≡ false
 not_seen ss p v i f e = false_from_ne_true (sees ss v) (λ t. let n = f.apart v t in cc)
 
 -- ---- values that operations use from outside
 
-abbrev pub Grown : (ValueName → Type 0) → Place → ValueName → Type 0
+abbrev pub Grown : (ValueName → Type 0) → Numbering → ValueName → Type 0
 Grown P p v = ((i : ℕ) × (p v ≡ Some i)) ⊎ P v
 
 -- operands are defined inside, or meet P
@@ -56,8 +56,8 @@ each_used : (P Q : ValueName → Type 0) (ss : List Seen) (vs : List ValueName) 
 each_used P Q ss [] f a q = tt
 each_used P Q ss (v ∷ vs) f a q = (f v a.0 q.0, each_used P Q ss vs f a.1 q.1)
 
-used_more : (P Q : ValueName → Type 0) (ss : List Seen) (d : Seen) → ((v : ValueName) → sees ss v ≡ true → Q v → P v) → (v : ValueName) → sees (d ∷ ss) v ≡ true → Q v → Grown P (place_of d) v
-used_more P Q ss d f v h q = elim (new_or_old (place_of d v) (sees ss v) h) [ inl n ↦ inl n | inr o ↦ inr (f v o q) ]
+used_more : (P Q : ValueName → Type 0) (ss : List Seen) (d : Seen) → ((v : ValueName) → sees ss v ≡ true → Q v → P v) → (v : ValueName) → sees (d ∷ ss) v ≡ true → Q v → Grown P (numbering_of d) v
+used_more P Q ss d f v h q = elim (new_or_old (numbering_of d v) (sees ss v) h) [ inl n ↦ inl n | inr o ↦ inr (f v o q) ]
 
 -- what scoped operations use from outside is visible, and is among their operands
 mutual
@@ -99,14 +99,14 @@ pub record Agree (P : ValueName → Type 0) (ss : List Seen) (s : ValueName → 
   pub shown : (v : ValueName) → P v → sees ss (s v) ≡ true
   pub same : (v : ValueName) → P v → e v ≡ e' (s v)
 
-pub agree_extend : (P : ValueName → Type 0) (ss : List Seen) (s : ValueName → ValueName) (p : Place) (d : Seen) (e e' : Env) (vs : List Value)
-    → Follows s p (place_of d) → IsFresh ss (place_of d) → Agree P ss s e e' → Agree (Grown P p) (d ∷ ss) s (extend p vs e) (extend (place_of d) vs e')
+pub agree_extend : (P : ValueName → Type 0) (ss : List Seen) (s : ValueName → ValueName) (p : Numbering) (d : Seen) (e e' : Env) (vs : List Value)
+    → Follows s p (numbering_of d) → IsFresh ss (numbering_of d) → Agree P ss s e e' → Agree (Grown P p) (d ∷ ss) s (extend p vs e) (extend (numbering_of d) vs e')
 agree_extend P ss s p d e e' vs f g a = record {
   shown = λ v. elim [
-    | inl n ↦ some_or (place_of d (s v)) (sees ss (s v)) n.0 (f v n.0 n.1)
-    | inr o ↦ or_right (is_some (place_of d (s v))) (sees ss (s v)) (a.shown v o)
+    | inl n ↦ some_or (numbering_of d (s v)) (sees ss (s v)) n.0 (f v n.0 n.1)
+    | inr o ↦ or_right (is_some (numbering_of d (s v))) (sees ss (s v)) (a.shown v o)
   ];
-  same = λ v h. same_here (p v) (place_of d (s v)) (e v) (e' (s v)) (P v) vs (f v) (λ o. (a.same v o, g.apart (s v) (a.shown v o))) h;
+  same = λ v h. same_here (p v) (numbering_of d (s v)) (e v) (e' (s v)) (P v) vs (f v) (λ o. (a.same v o, g.apart (s v) (a.shown v o))) h;
 }
   where
     same_here : (o o' : Option ℕ) (x y : Value) (Q : Type 0) (ws : List Value) → ((i : ℕ) → o ≡ Some i → o' ≡ Some i) → (Q → (x ≡ y) × (o' ≡ None)) → ((i : ℕ) × (o ≡ Some i)) ⊎ Q → item_or o ws x ≡ item_or o' ws y
@@ -156,7 +156,7 @@ mutual
     ),
   )
     where
-      stays : (p : Place) → IsFresh ss p → Follows s p p
+      stays : (p : Numbering) → IsFresh ss p → Follows s p p
       stays p g v i e = ap p (f v (not_seen ss p v i g e)) ∙ e
 
   pub moved_copy_regions : (rs : Regions) (ss : List Seen) (s : ValueName → ValueName) (n : OpName) (i : ℕ) → RegionsScoped ss n i rs → ((v : ValueName) → sees ss v ≡ false → s v ≡ v) → RegionsCopy s n n i rs (regions_moved s rs)

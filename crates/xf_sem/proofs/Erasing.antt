@@ -7,13 +7,13 @@ use Rattle.xf_ir.specs.declared.kind.Kind.{Kind}
 use Rattle.xf_ir.specs.Tree.{Ops, no_ops, op, Regions, no_regions, region, Tree}
 use Rattle.xf_ir.specs.Places.{results_of}
 use Rattle.xf_ir.specs.Valid.{IsFunction, FunctionsAlone, BlocksAlone, functions_of, block_of}
-use Rattle.xf_ir.specs.Kinds.{is_container, is_module, is_function, ends}
+use Rattle.xf_ir.specs.Kinds.{is_container, is_module, is_function, is_terminator}
 use Rattle.xf_ir.specs.Edits.{tail}
 use Rattle.xf_ir.proofs.Found as found
 use Rattle.xf_ir_laws.proofs.Scopes.{scoped}
 use Rattle.xf_ir_laws.proofs.ErasingLaws.{valid_kept}
 use Rattle.xf_sem.specs.Meaning.{extend, does, bodies_of}
-use Rattle.xf_sem.specs.Surroundings.{Site, visible, outside, behind, within, OpsWhere, RegionsWhere, FunctionsWhere, NoFunction, LeadsHere}
+use Rattle.xf_sem.specs.Surroundings.{Context, visible, outside, behind, within, OpsWhere, RegionsWhere, FunctionsWhere, NoFunction, LeadsHere}
 use Rattle.xf_sem.specs.Laws.{ErasingKeeps}
 use Rattle.xf_sem.proofs.Leads.{leads_none, leads_from_if, leads_from_then, leads_from_charge}
 use Rattle.xf_sem.proofs.Copying.{frame}
@@ -22,32 +22,32 @@ use Rattle.xf_sem.proofs.Surroundings.{unmoved, surroundings_keep}
 -- ---- erasing leads
 
 -- the first operation ends no block
-abbrev pub Goes : Site → Ops → Type 0
+abbrev pub Goes : Context → Ops → Type 0
 Goes s no_ops = Unit {0}
-Goes s (op n k ds os ts rs rest) = ends k ≡ false
+Goes s (op n k ds os ts rs rest) = is_terminator k ≡ false
 
-erase_leads : (s : Site) (ops : Ops) → Goes s ops → LeadsHere tail s ops
+erase_leads : (s : Context) (ops : Ops) → Goes s ops → LeadsHere tail s ops
 erase_leads s no_ops g = record { by = λ c c' holder e h h' q l given. leads_none holder _ }
 erase_leads s (op n k ds os ts rs rest) g = record {
   by = λ c c' holder e h h' q l given.
-      leads_from_charge _ _ _ (leads_from_if (ends k) _ _ _ g (leads_from_then (does c n k ts (bodies_of c n 0 rs e) (map e os)) _ _
+      leads_from_charge _ _ _ (leads_from_if (is_terminator k) _ _ _ g (leads_from_then (does c n k ts (bodies_of c n 0 rs e) (map e os)) _ _
       (λ ws p. frame rest (visible s) c c' holder (extend (results_of n (length ts)) ws e) e h' l (λ v t. unmoved (visible s) (results_of n (length ts)) ws e v h.1.0 t))));
 }
 
 -- ---- what is erased is no function and ends no block
 
 abbrev pub Inner : Tree → Type 0
-Inner t = (is_container t.kind ≡ false) × (ends t.kind ≡ false)
+Inner t = (is_container t.kind ≡ false) × (is_terminator t.kind ≡ false)
 
 mutual
-  leads_where : (name : OpName) (ops : Ops) (s : Site) → found.OpsWhere name Inner ops → OpsWhere name (LeadsHere tail) s ops
+  leads_where : (name : OpName) (ops : Ops) (s : Context) → found.OpsWhere name Inner ops → OpsWhere name (LeadsHere tail) s ops
   leads_where name no_ops s h = tt
   leads_where name (op n k ds os ts rs rest) s h = (
     (λ e. erase_leads s (op n k ds os ts rs rest) (h.0 e).1),
     (leads_where_regions name rs s n 0 h.1.0, leads_where name rest (behind s (record { name = n; kind = k; attrs = ds; operands = os; results = ts; regions = rs })) h.1.1),
   )
 
-  leads_where_regions : (name : OpName) (rs : Regions) (s : Site) (n : OpName) (i : ℕ) → found.RegionsWhere name Inner rs → RegionsWhere name (LeadsHere tail) s n i rs
+  leads_where_regions : (name : OpName) (rs : Regions) (s : Context) (n : OpName) (i : ℕ) → found.RegionsWhere name Inner rs → RegionsWhere name (LeadsHere tail) s n i rs
   leads_where_regions name no_regions s n i h = tt
   leads_where_regions name (region args ops rest) s n i h = (leads_where name ops (within s n i args) h.0, leads_where_regions name rest s n (suc i) h.1)
 

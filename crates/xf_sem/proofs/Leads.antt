@@ -6,7 +6,7 @@ use Rattle.xf_ir.specs.declared.name.OpName.{OpName}
 use Rattle.xf_ir.specs.declared.kind.Kind.{Kind}
 use Rattle.xf_ir.specs.declared.kind.Kind.TheVariants as kind
 use Rattle.xf_ir.specs.Lists.{same_bytes}
-use Rattle.xf_ir.specs.Kinds.{ends}
+use Rattle.xf_ir.specs.Kinds.{is_terminator}
 use Rattle.xf_sem.specs.declared.value.Value.{Value}
 use Rattle.xf_sem.specs.Values.{fit_types}
 use Rattle.xf_sem.specs.Meaning.{Answer, gives, fails, Run, finish, undefined, charge, next, and_then, Body, Bodies, first_body, Calls, Action, results, is_undefined, enters, calls, acts, performed, where_fit, elements, does, step, called}
@@ -110,7 +110,7 @@ does_lead k ts n n' c c' bs bs' vs l h =
 pub step_leads : (k k' : Kind) (ts ts' : List PayloadType) (n n' : OpName) (c c' : Calls) (bs bs' : Bodies) (vs vs' : List Value) (go go' : Body)
     → k ≡ k' → ts ≡ ts' → CallsLead c c' → BodiesLead bs bs' → vs ≡ vs' → ((ws : List Value) → (does c n k ts bs vs).answer ≡ gives ws → Leads (go ws) (go' ws)) → Leads (step c n k ts bs vs go) (step c' n' k' ts' bs' vs' go')
 step_leads k k' ts ts' n n' c c' bs bs' vs vs' go go' p t l h q r =
-    rw (← p, ← t, ← q) (leads_charge _ _ _ _ (leads_if (ends k) _ _ _ _ (leads_same _) (leads_then _ _ _ _ (does_lead k ts n n' c c' bs bs' vs l h) r)))
+    rw (← p, ← t, ← q) (leads_charge _ _ _ _ (leads_if (is_terminator k) _ _ _ _ (leads_same _) (leads_then _ _ _ _ (does_lead k ts n n' c c' bs bs' vs l h) r)))
 
 -- the function that is called
 pub called_lead : (k : Kind) (f : List ℕ) (b b' later later' : Body) (vs : List Value) → Leads (b vs) (b' vs) → Leads (later vs) (later' vs) → Leads (called k f b later vs) (called k f b' later' vs)

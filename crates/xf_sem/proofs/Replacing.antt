@@ -7,11 +7,11 @@ use Rattle.xf_ir.specs.declared.name.ValueName.{ValueName}
 use Rattle.xf_ir.specs.Tree.{Ops, no_ops, op, Regions, no_regions, region}
 use Rattle.xf_ir.specs.Lists.{Each}
 use Rattle.xf_ir.specs.Places.{results_of, Seen, done, sees, OpsScoped}
-use Rattle.xf_ir.specs.Kinds.{ends}
+use Rattle.xf_ir.specs.Kinds.{is_terminator}
 use Rattle.xf_ir.specs.Uses.{ops_operands}
 use Rattle.xf_sem.specs.declared.value.Value.{Value}
 use Rattle.xf_sem.specs.Meaning.{Env, item, item_or, extend, gives, Calls, does, ops_run, bodies_of}
-use Rattle.xf_sem.specs.Surroundings.{Leads, Site, visible, outside, behind, within, OpsWhere, RegionsWhere, FunctionsWhere, LeadsHere}
+use Rattle.xf_sem.specs.Surroundings.{Leads, Context, visible, outside, behind, within, OpsWhere, RegionsWhere, FunctionsWhere, LeadsHere}
 use Rattle.xf_ir.specs.Replaced.{ops_moved, append, item_of, in_place_of, replaced_by}
 use Rattle.xf_sem.specs.Replacing.{EndNoBlock, visible_after, env_after, ReplacesHere, ReplacingKeeps}
 use Rattle.xf_sem.proofs.Leads.{leads_same, leads_on, leads_none, leads_from_if, leads_from_then, leads_from_charge, went, leads_into_next, leads_into_if}
@@ -38,7 +38,7 @@ straight no_ops more c holder e e' h p = let q : e ≡ e' = cc in rw q (leads_sa
 straight (op n k ds os ts rs rest) more c holder e e' h p =
     let a = does c n k ts (bodies_of c n 0 rs e) (map e os) in
     let w = went a.units a.answer (λ vs. env_after c rest (extend (results_of n (length ts)) vs e)) e' p in
-    leads_into_if _ (ends k) _ _ h.0 (leads_into_next _ a.units a.answer (λ vs. ops_run c holder (append rest more) (extend (results_of n (length ts)) vs e)) w.0 w.1.0
+    leads_into_if _ (is_terminator k) _ _ h.0 (leads_into_next _ a.units a.answer (λ vs. ops_run c holder (append rest more) (extend (results_of n (length ts)) vs e)) w.0 w.1.0
     (straight rest more c holder (extend (results_of n (length ts)) w.0 e) e' h.1 w.1.1))
 
 -- visible values stay
@@ -70,7 +70,7 @@ each_both P Q (v ∷ vs) h k = ((h.0, k.0), each_both P Q vs h.1 k.1)
 
 -- ---- the replacement
 
-replace_leads : (new : Ops) (by : List ValueName) (s : Site) (ops : Ops) → ReplacesHere new by s ops → LeadsHere (replaced_by new by) s ops
+replace_leads : (new : Ops) (by : List ValueName) (s : Context) (ops : Ops) → ReplacesHere new by s ops → LeadsHere (replaced_by new by) s ops
 replace_leads new by s no_ops r = record { by = λ c c' holder e h h' q l g. leads_none holder _ }
 replace_leads new by s (op n k ds os ts rs rest) r = record {
   by = λ c c' holder e h h' q l g.
@@ -78,7 +78,7 @@ replace_leads new by s (op n k ds os ts rs rest) r = record {
       let p = results_of n (length ts) in
       let to = in_place_of p by in
       let more = ops_moved to rest in
-      leads_from_charge _ _ _ (leads_from_if (ends k) _ _ _ r.goes (leads_from_then (does c n k ts (bodies_of c n 0 rs e) (map e os)) _ _
+      leads_from_charge _ _ _ (leads_from_if (is_terminator k) _ _ _ r.goes (leads_from_then (does c n k ts (bodies_of c n 0 rs e) (map e os)) _ _
       (λ ws given.
       let w = r.same c c' e ws h (scoped_front new more ss h') q l g given in
       let Shown : ValueName → Type 0 = (λ v. (i : ℕ) → p v ≡ Some i → sees (visible_after new ss) (to v) ≡ true) in
@@ -98,16 +98,16 @@ replace_leads new by s (op n k ds os ts rs rest) r = record {
 -- ---- what holds at a site, changed
 
 mutual
-  ops_where : (name : OpName) (P Q : Site → Ops → Type 0) (ops : Ops) (s : Site) → ((s : Site) (ops : Ops) → P s ops → Q s ops) → OpsWhere name P s ops → OpsWhere name Q s ops
+  ops_where : (name : OpName) (P Q : Context → Ops → Type 0) (ops : Ops) (s : Context) → ((s : Context) (ops : Ops) → P s ops → Q s ops) → OpsWhere name P s ops → OpsWhere name Q s ops
   ops_where name P Q no_ops s f h = tt
   ops_where name P Q (op n k ds os ts rs rest) s f h =
       ((λ t. f s (op n k ds os ts rs rest) (h.0 t)), (regions_where name P Q rs s n 0 f h.1.0, ops_where name P Q rest (behind s (record { name = n; kind = k; attrs = ds; operands = os; results = ts; regions = rs })) f h.1.1))
 
-  regions_where : (name : OpName) (P Q : Site → Ops → Type 0) (rs : Regions) (s : Site) (n : OpName) (i : ℕ) → ((s : Site) (ops : Ops) → P s ops → Q s ops) → RegionsWhere name P s n i rs → RegionsWhere name Q s n i rs
+  regions_where : (name : OpName) (P Q : Context → Ops → Type 0) (rs : Regions) (s : Context) (n : OpName) (i : ℕ) → ((s : Context) (ops : Ops) → P s ops → Q s ops) → RegionsWhere name P s n i rs → RegionsWhere name Q s n i rs
   regions_where name P Q no_regions s n i f h = tt
   regions_where name P Q (region args ops rest) s n i f h = (ops_where name P Q ops (within s n i args) f h.0, regions_where name P Q rest s n (suc i) f h.1)
 
-pub functions_where : (name : OpName) (P Q : Site → Ops → Type 0) (fs : Ops) → ((s : Site) (ops : Ops) → P s ops → Q s ops) → FunctionsWhere name P fs → FunctionsWhere name Q fs
+pub functions_where : (name : OpName) (P Q : Context → Ops → Type 0) (fs : Ops) → ((s : Context) (ops : Ops) → P s ops → Q s ops) → FunctionsWhere name P fs → FunctionsWhere name Q fs
 functions_where name P Q no_ops f h = tt
 functions_where name P Q (op n k ds os ts rs rest) f h = (regions_where name P Q rs outside n 0 f h.0, functions_where name P Q rest f h.1)
 

@@ -11,7 +11,7 @@ use Rattle.xf_ir.specs.declared.kind.Attr.{Attr}
 use Rattle.xf_ir.specs.declared.op.Module.{Module}
 use Rattle.xf_ir.specs.Tree.{Ops, no_ops, op, Regions, no_regions, region, Tree}
 use Rattle.xf_ir.specs.Lists.{Each}
-use Rattle.xf_ir.specs.Places.{Place, results_of, args_of, Seen, done, inside, place_of, sees, AllSeen, IsFresh, OpsScoped, RegionsScoped, FunctionsScoped}
+use Rattle.xf_ir.specs.Places.{Numbering, results_of, args_of, Seen, done, inside, numbering_of, sees, AllSeen, IsFresh, OpsScoped, RegionsScoped, FunctionsScoped}
 use Rattle.xf_ir.specs.Valid.{Typed, type_or, type_at, functions_of}
 use Rattle.xf_ir.specs.Edits.{ops_at, regions_at}
 use Rattle.xf_sem.specs.declared.value.Value.{Value}
@@ -19,7 +19,7 @@ use Rattle.xf_sem.specs.Values.{IsValue, FitsType, FitTypes}
 use Rattle.xf_sem.specs.Meaning.{Env, item_or, extend, nowhere, gives, no_body, Calls, does, ops_run, bodies_of, returned, calls_to, call_depth}
 use Rattle.xf_ir.specs.Calls.{first_args}
 use Rattle.xf_sem.specs.Keeps.{Declared, declared_before, declared_in}
-use Rattle.xf_sem.specs.Surroundings.{Leads, CallsLead, Site, visible, outside, behind, within, IsVisible, HasRun, IsGiven, OpsWhere, RegionsWhere, FunctionsWhere, NoFunction, LeadsHere, changed_at, SurroundingsKeep}
+use Rattle.xf_sem.specs.Surroundings.{Leads, CallsLead, Context, visible, outside, behind, within, IsVisible, HasRun, IsGiven, OpsWhere, RegionsWhere, FunctionsWhere, NoFunction, LeadsHere, changed_at, SurroundingsKeep}
 use Rattle.xf_ir.proofs.Lists.{at_cases}
 use Rattle.xf_ir_laws.proofs.Erased.{block_at}
 use Rattle.xf_sem.proofs.Fits.{fit_types_says, item_fits}
@@ -31,25 +31,25 @@ made n k ds os ts rs = record { name = n; kind = k; attrs = ds; operands = os; r
 
 -- ---- visible values stay
 
-pub unmoved : (ss : List Seen) (p : Place) (vs : List Value) (e : Env) (v : ValueName) → IsFresh ss p → sees ss v ≡ true → extend p vs e v ≡ e v
+pub unmoved : (ss : List Seen) (p : Numbering) (vs : List Value) (e : Env) (v : ValueName) → IsFresh ss p → sees ss v ≡ true → extend p vs e v ≡ e v
 unmoved ss p vs e v f h = rw (f.apart v h) refl
 
-pub all_unmoved : (ss : List Seen) (p : Place) (ws : List Value) (e : Env) (vs : List ValueName) → IsFresh ss p → AllSeen ss vs → map (extend p ws e) vs ≡ map e vs
+pub all_unmoved : (ss : List Seen) (p : Numbering) (ws : List Value) (e : Env) (vs : List ValueName) → IsFresh ss p → AllSeen ss vs → map (extend p ws e) vs ≡ map e vs
 all_unmoved ss p ws e [] f h = refl
 all_unmoved ss p ws e (v ∷ vs) f h = let a = unmoved ss p ws e v f h.0 in let b = all_unmoved ss p ws e vs f h.1 in cc
 
 all_seen_more : (d : Seen) (ss : List Seen) (vs : List ValueName) → AllSeen ss vs → AllSeen (d ∷ ss) vs
 all_seen_more d ss [] h = tt
-all_seen_more d ss (v ∷ vs) h = (or_right (is_some (place_of d v)) (sees ss v) h.0, all_seen_more d ss vs h.1)
+all_seen_more d ss (v ∷ vs) h = (or_right (is_some (numbering_of d v)) (sees ss v) h.0, all_seen_more d ss vs h.1)
 
 visible_more : (d : Seen) (ss : List Seen) (ts : List Tree) → Each (IsVisible ss) ts → Each (IsVisible (d ∷ ss)) ts
 visible_more d ss [] h = tt
 visible_more d ss (t ∷ ts) h =
-    (record { operands = all_seen_more d ss t.operands h.0.operands; results = λ v i q. or_right (is_some (place_of d v)) (sees ss v) (h.0.results v i q) }, visible_more d ss ts h.1)
+    (record { operands = all_seen_more d ss t.operands h.0.operands; results = λ v i q. or_right (is_some (numbering_of d v)) (sees ss v) (h.0.results v i q) }, visible_more d ss ts h.1)
 
 -- ---- environments that an execution gives
 
-has_run_more : (ss : List Seen) (p : Place) (ws : List Value) (c : Calls) (e : Env) (ts : List Tree) → IsFresh ss p → Each (IsVisible ss) ts → Each (HasRun c e) ts → Each (HasRun c (extend p ws e)) ts
+has_run_more : (ss : List Seen) (p : Numbering) (ws : List Value) (c : Calls) (e : Env) (ts : List Tree) → IsFresh ss p → Each (IsVisible ss) ts → Each (HasRun c e) ts → Each (HasRun c (extend p ws e)) ts
 has_run_more ss p ws c e [] f s h = tt
 has_run_more ss p ws c e (t ∷ ts) f s h = (
   record {
@@ -67,23 +67,23 @@ typed_or (Some i) ts later ws x t f h e = item_fits ws ts i t f e
 
 fits_more : (d : Seen) (ts : List PayloadType) (tys : Typed) (ws : List Value) (e : Env)
     → FitTypes ws ts → ((v : ValueName) (t : PayloadType) → type_at tys v ≡ Some t → IsValue (e v) × FitsType (e v) t)
-    → (v : ValueName) (t : PayloadType) → type_at ((d, ts) ∷ tys) v ≡ Some t → IsValue (extend (place_of d) ws e v) × FitsType (extend (place_of d) ws e v) t
-fits_more d ts tys ws e f h v t = typed_or (place_of d v) ts (type_at tys v) ws (e v) t f (h v)
+    → (v : ValueName) (t : PayloadType) → type_at ((d, ts) ∷ tys) v ≡ Some t → IsValue (extend (numbering_of d) ws e v) × FitsType (extend (numbering_of d) ws e v) t
+fits_more d ts tys ws e f h v t = typed_or (numbering_of d v) ts (type_at tys v) ws (e v) t f (h v)
 
-given_within : (c : Calls) (s : Site) (e : Env) (n : OpName) (i : ℕ) (args : List PayloadType) (vs : List Value)
+given_within : (c : Calls) (s : Context) (e : Env) (n : OpName) (i : ℕ) (args : List PayloadType) (vs : List Value)
     → IsFresh (visible s) (args_of n i (length args)) → Each (IsVisible (visible s)) s.earlier → FitTypes vs args → IsGiven c s e → IsGiven c (within s n i args) (extend (args_of n i (length args)) vs e)
 given_within c s e n i args vs f q t g = record {
   fits = fits_more (inside n i (length args)) args s.types vs e t g.fits;
   earlier = has_run_more (visible s) (args_of n i (length args)) vs c e s.earlier f q g.earlier;
 }
 
-visible_behind : (s : Site) (n : OpName) (k : Kind) (ds : List Attr) (os : List ValueName) (ts : List PayloadType) (rs : Regions)
+visible_behind : (s : Context) (n : OpName) (k : Kind) (ds : List Attr) (os : List ValueName) (ts : List PayloadType) (rs : Regions)
     → AllSeen (visible s) os → Each (IsVisible (visible s)) s.earlier → Each (IsVisible (visible (behind s (made n k ds os ts rs)))) (behind s (made n k ds os ts rs)).earlier
 visible_behind s n k ds os ts no_regions a q =
     (record { operands = all_seen_more (done n (length ts)) (visible s) os a; results = λ v i e. some_or (results_of n (length ts) v) (sees (visible s) v) i e }, visible_more (done n (length ts)) (visible s) s.earlier q)
 visible_behind s n k ds os ts (region args ops rest) a q = visible_more (done n (length ts)) (visible s) s.earlier q
 
-earlier_behind : (c : Calls) (s : Site) (e : Env) (n : OpName) (k : Kind) (ds : List Attr) (os : List ValueName) (ts : List PayloadType) (rs : Regions) (ws : List Value)
+earlier_behind : (c : Calls) (s : Context) (e : Env) (n : OpName) (k : Kind) (ds : List Attr) (os : List ValueName) (ts : List PayloadType) (rs : Regions) (ws : List Value)
     → AllSeen (visible s) os → IsFresh (visible s) (results_of n (length ts)) → Each (IsVisible (visible s)) s.earlier → (does c n k ts (bodies_of c n 0 rs e) (map e os)).answer ≡ gives ws → Each (HasRun c e) s.earlier
     → Each (HasRun c (extend (results_of n (length ts)) ws e)) (behind s (made n k ds os ts rs)).earlier
 earlier_behind c s e n k ds os ts no_regions ws a f q p g = (
@@ -96,7 +96,7 @@ earlier_behind c s e n k ds os ts no_regions ws a f q p g = (
 )
 earlier_behind c s e n k ds os ts (region args ops rest) ws a f q p g = has_run_more (visible s) (results_of n (length ts)) ws c e s.earlier f q g
 
-given_behind : (c : Calls) (s : Site) (e : Env) (n : OpName) (k : Kind) (ds : List Attr) (os : List ValueName) (ts : List PayloadType) (rs : Regions) (ws : List Value)
+given_behind : (c : Calls) (s : Context) (e : Env) (n : OpName) (k : Kind) (ds : List Attr) (os : List ValueName) (ts : List PayloadType) (rs : Regions) (ws : List Value)
     → AllSeen (visible s) os → IsFresh (visible s) (results_of n (length ts)) → Each (IsVisible (visible s)) s.earlier → (does c n k ts (bodies_of c n 0 rs e) (map e os)).answer ≡ gives ws → IsGiven c s e
     → IsGiven c (behind s (made n k ds os ts rs)) (extend (results_of n (length ts)) ws e)
 given_behind c s e n k ds os ts rs ws a f q p g = record {
@@ -111,7 +111,7 @@ given_outside c = record { fits = λ v t h. cc; earlier = tt }
 
 module _ (name : OpName) (change : Ops → Ops) where
   mutual
-    at_kept : (ops : Ops) (s : Site) (c c' : Calls) (holder : OpName) (e : Env)
+    at_kept : (ops : Ops) (s : Context) (c c' : Calls) (holder : OpName) (e : Env)
         → OpsWhere name (LeadsHere change) s ops → OpsScoped (visible s) ops → OpsScoped (visible s) (ops_at name change ops) → Each (IsVisible (visible s)) s.earlier → CallsLead c c' → IsGiven c s e
         → Leads (ops_run c holder ops e) (ops_run c' holder (ops_at name change ops) e)
     at_kept no_ops s c c' holder e w h h' q l g = leads_none holder _
@@ -124,7 +124,7 @@ module _ (name : OpName) (change : Ops → Ops) where
         (visible_behind s n k ds os ts rs h.0 q) l (given_behind c s e n k ds os ts rs ws h.0 h.1.0 q p g)))
         h'
 
-    at_kept_regions : (rs : Regions) (s : Site) (c c' : Calls) (e : Env) (n : OpName) (i : ℕ)
+    at_kept_regions : (rs : Regions) (s : Context) (c c' : Calls) (e : Env) (n : OpName) (i : ℕ)
         → RegionsWhere name (LeadsHere change) s n i rs → RegionsScoped (visible s) n i rs → RegionsScoped (visible s) n i (regions_at name change rs) → Each (IsVisible (visible s)) s.earlier → CallsLead c c' → IsGiven c s e
         → BodiesLead (bodies_of c n i rs e) (bodies_of c' n i (regions_at name change rs) e)
     at_kept_regions no_regions s c c' e n i w h h' q l g = λ j vs. leads_none n _

@@ -4,12 +4,12 @@ use Rattle.xf_ir.specs.declared.name.OpName.{OpName}
 use Rattle.xf_ir.specs.declared.name.ValueName.{ValueName}
 use Rattle.xf_ir.specs.declared.op.Module.{Module}
 use Rattle.xf_ir.specs.Tree.{Ops, no_ops, op, Regions, no_regions, region}
-use Rattle.xf_ir.specs.Places.{Place, results_of, args_of, FunctionsScoped}
+use Rattle.xf_ir.specs.Places.{Numbering, results_of, args_of, FunctionsScoped}
 use Rattle.xf_ir.specs.Valid.{functions_of}
 use Rattle.xf_sem.specs.Keeps.{KeepsMeaning}
 
 -- s leads from what one place defines to what the other does
-abbrev pub Follows : (ValueName → ValueName) → Place → Place → Type 0
+abbrev pub Follows : (ValueName → ValueName) → Numbering → Numbering → Type 0
 Follows s p p' = (v : ValueName) (i : ℕ) → p v ≡ Some i → p' (s v) ≡ Some i
 
 abbrev mutual

@@ -13,9 +13,9 @@ use Rattle.xf_ir.specs.declared.kind.Kind.TheVariants as kind
 use Rattle.xf_ir.specs.declared.op.Module.{Module}
 use Rattle.xf_ir.specs.Tree.{Ops, no_ops, op, Regions, no_regions, region}
 use Rattle.xf_ir.specs.Lists.{same_bytes}
-use Rattle.xf_ir.specs.Places.{Place, results_of, args_of}
+use Rattle.xf_ir.specs.Places.{Numbering, results_of, args_of}
 use Rattle.xf_ir.specs.Valid.{functions_of}
-use Rattle.xf_ir.specs.Kinds.{ends}
+use Rattle.xf_ir.specs.Kinds.{is_terminator}
 use Rattle.xf_sem.specs.declared.value.Value.{Value}
 use Rattle.xf_sem.specs.declared.value.Value.TheVariants.{Scalar, Tensor}
 use Rattle.xf_sem.specs.Values.{is_same_width, fit_types}
@@ -41,7 +41,7 @@ item_or None vs old = old
 item_or (Some i) vs old = item vs i
 
 -- where the values that a place defines are these
-abbrev pub extend : Place → List Value → Env → Env
+abbrev pub extend : Numbering → List Value → Env → Env
 extend p vs env v = item_or (p v) vs (env v)
 
 -- ---- runs
@@ -149,7 +149,7 @@ does c n k ts bodies vs = and_then (performed c n bodies (acts k ts vs)) (λ ws.
 
 -- an operation, for a unit, and then the rest of its block
 abbrev pub step : Calls → OpName → Kind → List PayloadType → Bodies → List Value → Body → Run (List Value)
-step c n k ts bodies vs go = charge 1 (if ends k then finish vs else and_then (does c n k ts bodies vs) go)
+step c n k ts bodies vs go = charge 1 (if is_terminator k then finish vs else and_then (does c n k ts bodies vs) go)
 
 -- ---- blocks
 

@@ -10,18 +10,18 @@ use Rattle.xf_ir.specs.Tree.{Ops, no_ops, op, Regions}
 use Rattle.xf_ir.specs.Lists.{Each}
 use Rattle.xf_ir.specs.Places.{results_of, Seen, done, sees, OpsScoped}
 use Rattle.xf_ir.specs.Valid.{functions_of}
-use Rattle.xf_ir.specs.Kinds.{ends}
+use Rattle.xf_ir.specs.Kinds.{is_terminator}
 use Rattle.xf_ir.specs.Uses.{ops_operands}
 use Rattle.xf_ir.specs.Replaced.{in_place_of, replaced_by}
 use Rattle.xf_sem.specs.declared.value.Value.{Value}
 use Rattle.xf_sem.specs.Meaning.{Env, item, extend, gives, Run, finish, charge, and_then, Calls, does, bodies_of}
 use Rattle.xf_sem.specs.Keeps.{KeepsMeaning}
-use Rattle.xf_sem.specs.Surroundings.{CallsLead, Site, visible, IsVisible, IsGiven, FunctionsWhere, changed_at, MayChange}
+use Rattle.xf_sem.specs.Surroundings.{CallsLead, Context, visible, IsVisible, IsGiven, FunctionsWhere, changed_at, MayChange}
 
 -- no operation ends a block
 abbrev pub EndNoBlock : Ops → Type 0
 EndNoBlock no_ops = Unit {0}
-EndNoBlock (op n k ds os ts rs rest) = (ends k ≡ false) × EndNoBlock rest
+EndNoBlock (op n k ds os ts rs rest) = (is_terminator k ≡ false) × EndNoBlock rest
 
 -- what is visible behind operations
 abbrev pub visible_after : Ops → List Seen → List Seen
@@ -44,8 +44,8 @@ AreHeld by n count vs e rest = Each (λ v. (i : ℕ) → results_of n count v �
 
 -- new operations that may stand in the place of one: wherever it is defined, in an environment that an execution gives there, they are
 -- too, and the values in the place of its used results hold them
-pub record Replaces (new : Ops) (by : List ValueName) (s : Site) (n : OpName) (k : Kind) (ds : List Attr) (os : List ValueName) (ts : List PayloadType) (rs : Regions) (rest : Ops) : Type 0 where
-  pub goes : ends k ≡ false
+pub record Replaces (new : Ops) (by : List ValueName) (s : Context) (n : OpName) (k : Kind) (ds : List Attr) (os : List ValueName) (ts : List PayloadType) (rs : Regions) (rest : Ops) : Type 0 where
+  pub goes : is_terminator k ≡ false
   pub plain : EndNoBlock new
   pub shown : Each (IsVisible (visible s)) s.earlier → AreVisible by n (length ts) (visible_after new (visible s)) rest
   pub same : (c c' : Calls) (e : Env) (vs : List Value)
@@ -53,7 +53,7 @@ pub record Replaces (new : Ops) (by : List ValueName) (s : Site) (n : OpName) (k
       → (does c n k ts (bodies_of c n 0 rs e) (map e os)).answer ≡ gives vs
       → (e' : Env) × (((env_after c' new e).answer ≡ gives e') × AreHeld by n (length ts) vs e' rest)
 
-abbrev pub ReplacesHere : Ops → List ValueName → Site → Ops → Type 0
+abbrev pub ReplacesHere : Ops → List ValueName → Context → Ops → Type 0
 ReplacesHere new by s no_ops = Unit {0}
 ReplacesHere new by s (op n k ds os ts rs rest) = Replaces new by s n k ds os ts rs rest
 

@@ -26,7 +26,7 @@ CallsLead c c' = (caller caller' : OpName) (f : List ℕ) (vs : List Value) → 
 -- ---- what surrounds an operation
 
 -- the values that are visible, with their types, and the operations without regions that stand before, in its block or in an enclosing one
-pub record Site : Type 0 where
+pub record Context : Type 0 where
   pub types : Typed
   pub earlier : List Tree
 
@@ -34,11 +34,11 @@ abbrev pub places : Typed → List Seen
 places [] = []
 places (x ∷ xs) = x.0 ∷ places xs
 
-abbrev pub visible : Site → List Seen
+abbrev pub visible : Context → List Seen
 visible s = places s.types
 
 -- outside all functions
-abbrev pub outside : Site
+abbrev pub outside : Context
 outside = record { types = []; earlier = [] }
 
 abbrev pub with_earlier : Regions → Tree → List Tree → List Tree
@@ -46,11 +46,11 @@ with_earlier no_regions t ts = t ∷ ts
 with_earlier (region args ops rest) t ts = ts
 
 -- behind an operation
-abbrev pub behind : Site → Tree → Site
+abbrev pub behind : Context → Tree → Context
 behind s t = record { types = (done t.name (length t.results), t.results) ∷ s.types; earlier = with_earlier t.regions t s.earlier }
 
 -- in the block of a region
-abbrev pub within : Site → OpName → ℕ → List PayloadType → Site
+abbrev pub within : Context → OpName → ℕ → List PayloadType → Context
 within s n i args = record { types = (inside n i (length args), args) ∷ s.types; earlier = s.earlier }
 
 -- operands and results of the earlier operations are visible
@@ -65,7 +65,7 @@ pub record HasRun (c : Calls) (e : Env) (t : Tree) : Type 0 where
   pub held : (v : ValueName) (i : ℕ) → results_of t.name (length t.results) v ≡ Some i → e v ≡ item values i
 
 -- what each environment that an execution gives at a site meets: visible values fit their types, and the earlier operations have run
-pub record IsGiven (c : Calls) (s : Site) (e : Env) : Type 0 where
+pub record IsGiven (c : Calls) (s : Context) (e : Env) : Type 0 where
   pub fits : (v : ValueName) (t : PayloadType) → type_at s.types v ≡ Some t → IsValue (e v) × FitsType (e v) t
   pub earlier : Each (HasRun c e) s.earlier
 
@@ -73,17 +73,17 @@ pub record IsGiven (c : Calls) (s : Site) (e : Env) : Type 0 where
 
 -- the operation of this name, with the rest of its block, meets P at its site
 abbrev mutual
-  pub OpsWhere : OpName → (Site → Ops → Type 0) → Site → Ops → Type 0
+  pub OpsWhere : OpName → (Context → Ops → Type 0) → Context → Ops → Type 0
   OpsWhere name P s no_ops = Unit {0}
   OpsWhere name P s (op n k ds os ts rs rest) =
       ((n.0 == name.0) ≡ true → P s (op n k ds os ts rs rest))
       × (RegionsWhere name P s n 0 rs × OpsWhere name P (behind s (record { name = n; kind = k; attrs = ds; operands = os; results = ts; regions = rs })) rest)
 
-  pub RegionsWhere : OpName → (Site → Ops → Type 0) → Site → OpName → ℕ → Regions → Type 0
+  pub RegionsWhere : OpName → (Context → Ops → Type 0) → Context → OpName → ℕ → Regions → Type 0
   RegionsWhere name P s n i no_regions = Unit {0}
   RegionsWhere name P s n i (region args ops rest) = OpsWhere name P (within s n i args) ops × RegionsWhere name P s n (suc i) rest
 
-abbrev pub FunctionsWhere : OpName → (Site → Ops → Type 0) → Ops → Type 0
+abbrev pub FunctionsWhere : OpName → (Context → Ops → Type 0) → Ops → Type 0
 FunctionsWhere name P no_ops = Unit {0}
 FunctionsWhere name P (op n k ds os ts rs rest) = RegionsWhere name P outside n 0 rs × FunctionsWhere name P rest
 
@@ -93,7 +93,7 @@ NoFunction name no_ops = Unit {0}
 NoFunction name (op n k ds os ts rs rest) = ((n.0 == name.0) ≡ false) × NoFunction name rest
 
 -- at this site operations may become others, under every environment that an execution gives there, and whatever is called
-pub record LeadsHere (change : Ops → Ops) (s : Site) (ops : Ops) : Type 0 where
+pub record LeadsHere (change : Ops → Ops) (s : Context) (ops : Ops) : Type 0 where
   pub by : (c c' : Calls) (holder : OpName) (e : Env)
       → OpsScoped (visible s) ops → OpsScoped (visible s) (change ops) → Each (IsVisible (visible s)) s.earlier → CallsLead c c' → IsGiven c s e
       → Leads (ops_run c holder ops e) (ops_run c' holder (change ops) e)

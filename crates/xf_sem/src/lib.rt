@@ -9,4 +9,3 @@ pub use laws::{
     renaming_keeps, replacing_keeps, surroundings_keep,
 };
 pub use value::{ElemList, SizeList, Value};
-

@@ -5,7 +5,7 @@ use Rattle.std.specs.Str.{bytes_eq}
 use Rattle.std.proofs.lemmas.Slice.Eq.{bytes_eq-Decides}
 use Rattle.xf_lex.specs.declared.token.TokenKind.{TokenKind}
 use Rattle.xf_lex.specs.declared.token.TokenKind.TheVariants as kind
-use Rattle.xf_lex.specs.Laid.{Plain}
+use Rattle.xf_lex.specs.Layout.{Plain}
 use Rattle.xf_text.specs.Tokens.{Name, token}
 use Rattle.xf_text.specs.Reading.{◌>>=◌, same_kind, same_token, behind, behind_all, bytes_front, at_end}
 

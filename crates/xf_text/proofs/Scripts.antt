@@ -6,12 +6,12 @@ use Rattle.std.specs.Str.{bytes_eq}
 use Rattle.std.specs.Prelude.{map}
 use Rattle.std.proofs.lemmas.Slice.Eq.{bytes_eq-Decides}
 use Rattle.xf_lex.specs.declared.token.TokenKind.TheVariants as kind
-use Rattle.xf_lex.specs.Laid.{Plain}
+use Rattle.xf_lex.specs.Layout.{Plain}
 use Rattle.xf_text.specs.Script.{any_op, yield_tokens, script_tokens, IsScript}
 use Rattle.xf_text.specs.Reading.{◌>>=◌, Gives, behind, behind_all, begins, bytes_front, at_end, sequence_front, step_front, yield_front, script_front, script_read}
 use Rattle.xf_text.specs.Tokens.{Name, token, word, value, mark, colon}
 use Rattle.xf_lex.specs.declared.token.Token.{Token}
-use Rattle.xf_lex.specs.Laid.{plain}
+use Rattle.xf_lex.specs.Layout.{plain}
 use Rattle.xf_lex.specs.Lexes.{Lexes}
 use Rattle.xf_lex.proofs.Lexing.{one_reading}
 use Rattle.xf_text.proofs.Found.{some_is, bind_some, either, bytes_same, behind_found, all_found, bytes_found, at_end_is}

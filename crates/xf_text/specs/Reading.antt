@@ -6,7 +6,7 @@ use Rattle.std.specs.Str.{bytes_eq}
 use Rattle.xf_lex.specs.contracts.token.TokenKindPartialEq.TheImpl as kind_eq
 use Rattle.xf_lex.specs.declared.token.TokenKind.{TokenKind}
 use Rattle.xf_lex.specs.declared.token.TokenKind.TheVariants as kind
-use Rattle.xf_lex.specs.Laid.{Plain}
+use Rattle.xf_lex.specs.Layout.{Plain}
 use Rattle.xf_text.specs.Tokens.{Name, token, word, mark, colon}
 use Rattle.xf_text.specs.Script.{any_op}
 

@@ -2,7 +2,7 @@
 use Rattle.std.specs.Prelude.{◌≡◌, ℕ, List, [], ◌∷◌, ◌++◌, map, Bool, true, false, codes}
 use Rattle.xf_lex.specs.declared.token.Token.{Token}
 use Rattle.xf_lex.specs.declared.token.TokenKind.TheVariants as kind
-use Rattle.xf_lex.specs.Laid.{Plain, plain}
+use Rattle.xf_lex.specs.Layout.{Plain, plain}
 use Rattle.xf_lex.specs.Lexes.{Lexes}
 use Rattle.xf_text.specs.Tokens.{Name, token, word, value, mark, colon}
 

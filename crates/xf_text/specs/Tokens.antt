@@ -2,7 +2,7 @@
 use Rattle.std.specs.Prelude.{ℕ, List, [], ◌∷◌}
 use Rattle.xf_lex.specs.declared.token.TokenKind.{TokenKind}
 use Rattle.xf_lex.specs.declared.token.TokenKind.TheVariants as kind
-use Rattle.xf_lex.specs.Laid.{Plain}
+use Rattle.xf_lex.specs.Layout.{Plain}
 
 -- the bytes of a token, as of `%a`
 abbrev pub Name : Type 0

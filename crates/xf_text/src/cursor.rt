@@ -1,6 +1,6 @@
 //! Tokens, read from the front on.
 ghost use Rattle.std.specs.Prelude.{◌≡◌, [], ◌↔◌, map, IsTrue};
-ghost use Rattle.xf_lex.specs.Laid.{plain};
+ghost use Rattle.xf_lex.specs.Layout.{plain};
 ghost use Rattle.xf_text.specs.Tokens.{token, word, mark};
 ghost use Rattle.xf_text.specs.Reading.{Gives, behind, begins, bytes_front};
 
@@ -15,7 +15,7 @@ pub struct Cursor<'a> {
 
 impl<'a> Model for Cursor<'a> {
     ghost use Rattle.std.specs.Prelude.{List, map};
-    ghost use Rattle.xf_lex.specs.Laid.{Plain, plain};
+    ghost use Rattle.xf_lex.specs.Layout.{Plain, plain};
 
     ghost Value = { List Plain };
 

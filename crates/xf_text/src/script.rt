@@ -1,6 +1,6 @@
 //! The schedule of a run.
 ghost use Rattle.std.specs.Prelude.{◌≡◌, map, true, false, IfOk};
-ghost use Rattle.xf_lex.specs.Laid.{plain};
+ghost use Rattle.xf_lex.specs.Layout.{plain};
 ghost use Rattle.xf_text.specs.Script.{any_op, IsScript};
 ghost use Rattle.xf_text.specs.Reading.{Gives, behind, sequence_front, step_front, yield_front, script_front, script_read};
 

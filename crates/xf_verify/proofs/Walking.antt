@@ -9,7 +9,7 @@ use Rattle.xf_ir.specs.Violations.{Violation, Kept, first_false, broken_or}
 use Rattle.xf_verify.specs.declared.fault.VerifyFault.{VerifyFault}
 use Rattle.xf_verify.specs.declared.fault.VerifyFault.TheVariants as fault
 use Rattle.xf_verify.specs.declared.facts.Facts.{Facts}
-use Rattle.xf_verify.specs.Verdict.{fault_of}
+use Rattle.xf_verify.specs.Answers.{fault_of}
 use Rattle.xf_verify.specs.Judged.{Names, Answers, first_behind, names_behind, rules_behind}
 
 -- ---- the first violation of operations, and then of others

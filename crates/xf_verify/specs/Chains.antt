@@ -9,7 +9,7 @@ use Rattle.xf_ir.specs.Tree.{Tree}
 use Rattle.xf_ir.specs.Lists.{every}
 use Rattle.xf_ir.specs.Walk.{first_of}
 use Rattle.xf_ir.specs.Calls.{has_symbol, Signatures, signature, regions_callees}
-use Rattle.xf_verify.specs.declared.calls.Calls.{Calls}
+use Rattle.xf_verify.specs.declared.calls.CallGraph.{CallGraph}
 
 -- ---- the numbers of functions
 
@@ -68,8 +68,8 @@ ends_after (suc k) calls = map (every (ends_at (ends_after k calls))) calls
 
 -- ---- what a call asks for
 
-abbrev pub signatures_in : Calls → Signatures
+abbrev pub signatures_in : CallGraph → Signatures
 signatures_in c s = signature (pick c.functions.now (numbers_in c.numbers s))
 
-abbrev pub ends_in : Calls → List ℕ → Bool
+abbrev pub ends_in : CallGraph → List ℕ → Bool
 ends_in c s = ends_there c.ends.items (numbers_in c.numbers s)

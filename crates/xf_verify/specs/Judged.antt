@@ -10,7 +10,7 @@ use Rattle.xf_ir.specs.Tree.{Ops, no_ops, op, Regions, no_regions, region, Tree}
 use Rattle.xf_ir.specs.View.{ops_of}
 use Rattle.xf_ir.specs.Lists.{every}
 use Rattle.xf_ir.specs.Types.{known}
-use Rattle.xf_ir.specs.Places.{Place, results_of, args_of}
+use Rattle.xf_ir.specs.Places.{Numbering, results_of, args_of}
 use Rattle.xf_ir.specs.Placed.{type_or, Holder, holder_of, Placed}
 use Rattle.xf_ir.specs.Calls.{callee_ends, has_its_callee}
 use Rattle.xf_ir.specs.RuleBlocks.{has_its_regions, ends_its_blocks}
@@ -20,7 +20,7 @@ use Rattle.xf_ir.specs.RuleLinalg.{has_its_maps, has_its_iterators, has_its_redu
 use Rattle.xf_ir.specs.RuleSlices.{has_its_slices}
 use Rattle.xf_ir.specs.declared.rule.Rule.TheVariants as rule
 use Rattle.xf_ir.specs.Violations.{Violation, Kept, first_false, broken_or}
-pub use Rattle.xf_verify.specs.Verdict.{Answers}
+pub use Rattle.xf_verify.specs.Answers.{Answers}
 use Rattle.xf_verify.specs.declared.facts.Facts.{Facts}
 use Rattle.xf_verify.specs.declared.stand.Holder.{Holder as HolderSeen}
 use Rattle.xf_verify.specs.declared.stand.Stand.{Stand}
@@ -37,7 +37,7 @@ abbrev pub Sees : Type 0
 Sees = ValueName → Option PayloadType
 
 -- where a place defines values of these types too
-abbrev pub sees_with : Place → List PayloadType → Sees → Sees
+abbrev pub sees_with : Numbering → List PayloadType → Sees → Sees
 sees_with p ts see v = type_or (p v) ts (see v)
 
 abbrev pub stands : Holder → Sees → Tree → Ops → Placed

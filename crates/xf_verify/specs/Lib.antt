@@ -1,5 +1,5 @@
 pub mod Visible
 pub mod Symbols
 pub mod Chains
-pub mod Verdict
+pub mod Answers
 pub mod Judged

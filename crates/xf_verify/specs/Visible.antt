@@ -9,7 +9,7 @@ use Rattle.xf_ir.specs.Tree.{Tree}
 use Rattle.xf_ir.specs.Lists.{some}
 use Rattle.xf_verify.specs.declared.scope.Definition.{Definition}
 use Rattle.xf_verify.specs.declared.scope.Definition.TheVariants.{Results, Arguments}
-use Rattle.xf_verify.specs.declared.scope.Scope.{Scope}
+use Rattle.xf_verify.specs.declared.scope.VisibleValues.{VisibleValues}
 
 -- the values of each operation that are visible, by its number
 abbrev pub Definitions : Type 0
@@ -18,7 +18,7 @@ Definitions = ℕ → Option Definition
 abbrev pub no_definitions : Definitions
 no_definitions n = None
 
-abbrev pub definitions_in : Scope → Definitions
+abbrev pub definitions_in : VisibleValues → Definitions
 definitions_in s n = get nat_cmp s.definitions n
 
 abbrev pub with_definition : ℕ → Option Definition → Definitions → Definitions
@@ -45,5 +45,5 @@ type_among ds (Result o i) = result_type (ds o.0) i
 type_among ds (Arg o r i) = argument_type (ds o.0) r i
 type_among ds (Free i) = None
 
-abbrev pub types_in : Scope → ValueName → Option PayloadType
+abbrev pub types_in : VisibleValues → ValueName → Option PayloadType
 types_in s = type_among (definitions_in s)

@@ -24,7 +24,7 @@ const LONGEST_CHAIN: usize = 31;
 
 /// The functions of a module, and whether the calls from each are short enough for another to call it.
 #[derive(Drop)]
-pub struct Calls<'a> {
+pub struct CallGraph<'a> {
     functions: &'a [Op],
     numbers: NumberBySymbol<'a>,
     ends: Vec<bool>,
@@ -151,11 +151,11 @@ fn ends_of(alloc: Global, calls: &[CalleeList]) -> Result<Vec<bool>, NoMemory>
     Ok(ends)
 }
 
-impl<'a> Calls<'a> {
+impl<'a> CallGraph<'a> {
     /// The calls of a module. Refuses for want of memory alone.
     ///
     /// Takes time in the number of operations, with a look-up for each call, and 31 passes over the calls.
-    pub fn new(alloc: Global, m: &'a Module) -> Result<Calls<'a>, NoMemory>
+    pub fn new(alloc: Global, m: &'a Module) -> Result<CallGraph<'a>, NoMemory>
         ensures signatures { IfOk result (λ calls. signatures_in calls ≡ signatures m.now) }
         ensures ends { IfOk result (λ calls. ends_in calls ≡ chains_end (functions_of m.now) 31) }
     {
@@ -163,7 +163,7 @@ impl<'a> Calls<'a> {
         let numbers = numbers_of(alloc, functions)?;
         let calls = calls_of(alloc, &numbers, functions)?;
         let ends = ends_of(alloc, &calls)?;
-        Ok(Calls {
+        Ok(CallGraph {
             functions,
             numbers,
             ends,

@@ -13,4 +13,3 @@ mod walk;
 
 pub use fault::VerifyFault;
 pub use verifier::verify;
-

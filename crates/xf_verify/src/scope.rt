@@ -20,16 +20,16 @@ pub enum Definition<'a> {
 
 /// The operations whose values are visible, each with these values.
 #[derive(Drop)]
-pub struct Scope<'a> {
+pub struct VisibleValues<'a> {
     definitions: BTreeMap<u64, Definition<'a>>,
 }
 
-impl<'a> Scope<'a> {
+impl<'a> VisibleValues<'a> {
     /// No values.
-    pub fn new(alloc: Global) -> Scope<'a>
+    pub fn new(alloc: Global) -> VisibleValues<'a>
         ensures { definitions_in result ≡ no_definitions }
     {
-        Scope {
+        VisibleValues {
             definitions: BTreeMap::new(alloc),
         }
     }

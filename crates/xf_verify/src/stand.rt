@@ -8,7 +8,7 @@ ghost use Rattle.xf_rules.specs.Given.{gives_seen};
 ghost use Rattle.xf_verify.specs.Judged.{holder_seen};
 
 use xf_ir::{Kind, Op};
-use xf_rules::Gives;
+use xf_rules::Yielded;
 use xf_type::{PayloadType, Width};
 
 /// What holds the operations of a block: an operation of a kind, which is given these values at the
@@ -16,7 +16,7 @@ use xf_type::{PayloadType, Width};
 #[derive(Clone, Copy)]
 pub struct Holder<'a> {
     pub kind: &'a Kind,
-    pub gives: Gives<'a>,
+    pub gives: Yielded<'a>,
 }
 
 /// An operation where it stands: what holds its block, the types of its operands, and the operations
@@ -40,28 +40,28 @@ fn element_of(t: &PayloadType) -> Width
 }
 
 /// What a body of linalg gives: one element of the out.
-fn element_given<'a>(types: &[Option<&PayloadType>]) -> Gives<'a>
+fn element_given<'a>(types: &[Option<&PayloadType>]) -> Yielded<'a>
     ensures { gives_seen result ≡ body_gives (last_type (operand_types types.now)) }
 {
     match types.last() {
         Some(out) => match *out {
-            Some(out) => Gives::Element(element_of(out)),
-            None => Gives::Nothing,
+            Some(out) => Yielded::Element(element_of(out)),
+            None => Yielded::Nothing,
         },
-        None => Gives::Nothing,
+        None => Yielded::Nothing,
     }
 }
 
 /// What the blocks of an operation give at their ends.
-fn gives_of<'a>(op: &'a Op, types: &[Option<&PayloadType>]) -> Gives<'a>
+fn gives_of<'a>(op: &'a Op, types: &[Option<&PayloadType>]) -> Yielded<'a>
     ensures { gives_seen result ≡ gives_of op.now.kind (operand_types types.now) op.now.results }
 {
     match &op.kind {
-        Kind::Func { results, .. } => Gives::Types(results.as_slice()),
-        Kind::For { .. } => Gives::Types(op.results.as_slice()),
-        Kind::If => Gives::Types(op.results.as_slice()),
+        Kind::Func { results, .. } => Yielded::Types(results.as_slice()),
+        Kind::For { .. } => Yielded::Types(op.results.as_slice()),
+        Kind::If => Yielded::Types(op.results.as_slice()),
         Kind::Generic { .. } => element_given(types),
-        _ => Gives::Nothing,
+        _ => Yielded::Nothing,
     }
 }
 

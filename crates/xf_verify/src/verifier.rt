@@ -5,19 +5,19 @@ ghost use Rattle.xf_ir.specs.Placed.{type_at, top};
 ghost use Rattle.xf_ir.specs.Valid.{IsValid};
 ghost use Rattle.xf_ir.specs.Violations.{first_violation};
 ghost use Rattle.xf_verify.specs.Judged.{first_behind, all_stand};
-ghost use Rattle.xf_verify.specs.Verdict.{Answers};
+ghost use Rattle.xf_verify.specs.Answers.{Answers};
 
-use crate::calls::Calls;
+use crate::calls::CallGraph;
 use crate::facts::Facts;
 use crate::fault::VerifyFault;
 use crate::functions::holds_functions;
-use crate::scope::Scope;
+use crate::scope::VisibleNames;
 use crate::stand::Holder;
 use crate::walk::{Walk, blocks, enter};
 use std::alloc::Global;
 use xf_ir::{Kind, Module, NameSet, Op, Rule};
 use xf_ir_laws::valid_has_no_violation;
-use xf_rules::Gives;
+use xf_rules::Yielded;
 
 /// Judges the root by all rules but V2, and then what it holds. What holds the root is as if a module did.
 fn walk_from_root<'a>(
@@ -31,11 +31,11 @@ fn walk_from_root<'a>(
 {
     let mut walk = Walk {
         names: NameSet::new(alloc),
-        scope: Scope::new(alloc),
+        scope: VisibleNames::new(alloc),
     };
     let holder = Holder {
         kind: nothing,
-        gives: Gives::Nothing,
+        gives: Yielded::Nothing,
     };
     let inner = enter(alloc, facts, &mut walk, holder, root, &[])?;
     blocks(alloc, facts, &mut walk, inner, root)
@@ -68,7 +68,7 @@ pub fn verify(alloc: Global, m: &Module) -> Result<(), VerifyFault>
     }
     let facts = Facts {
         next: m.next,
-        calls: Calls::new(alloc, m)?,
+        calls: CallGraph::new(alloc, m)?,
     };
     let nothing = Kind::Module { symbol: None };
     walk_from_root(alloc, &facts, &nothing, root)

@@ -1,6 +1,6 @@
 use Rattle.std.proofs.Common.{◌≡◌, length, take, drop, sym, ap, ◌∙◌, inl, inr, arith}
 use Rattle.xf_lex.specs.declared.token.Token.{Token}
-use Rattle.xf_lex.specs.Fronts.{token_at}
+use Rattle.xf_lex.specs.Lexemes.{token_at}
 use Rattle.xf_lex.specs.Lexes.{Position, start, text_at, front_of}
 use Rattle.xf_lex.proofs.Lexing.{turn, ill_formed}
 use Rattle.xf_lex.proofs.lex.tokens.Goals as goal

@@ -1,5 +1,5 @@
 use Rattle.std.proofs.Common.{◌≡◌, ◌+◌, drop, false}
-use Rattle.xf_lex.specs.Fronts.{escaped_in}
+use Rattle.xf_lex.specs.Lexemes.{escaped_in}
 use Rattle.xf_lex.proofs.quoted.escaped.Given as goal
 
 -- the escapes so far are good, and the rest is still to be counted

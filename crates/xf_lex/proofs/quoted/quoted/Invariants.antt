@@ -1,5 +1,5 @@
 use Rattle.std.proofs.Common.{◌≡◌, ◌+◌, drop, false}
-use Rattle.xf_lex.specs.Fronts.{quoted_in}
+use Rattle.xf_lex.specs.Lexemes.{quoted_in}
 use Rattle.xf_lex.proofs.quoted.quoted.Given as goal
 
 -- the bytes so far are inside, and the rest is still to be counted

@@ -1,13 +1,13 @@
 use Rattle.std.proofs.Common.{false, ap, ◌∙◌}
 use Rattle.std.specs.Prelude.{is_some}
-use Rattle.xf_read_base.specs.declared.parts.Entry.{Entry}
+use Rattle.xf_read_base.specs.declared.parts.AttrEntry.{AttrEntry}
 use Rattle.xf_read_base.specs.declared.parts.EntryValue.TheVariants.{Unit as NoValue}
 use Rattle.xf_read_base.specs.Attributes.{entries_twice}
 use Rattle.xf_read_base.specs.Values.{attrs_of}
 use Rattle.xf_read_base.proofs.Sorting.{attrs_more, twice_more}
 use Rattle.xf_read_base.proofs.entries.attributes.Goals as goal
 
-abbrev no_entry : Entry
+abbrev no_entry : AttrEntry
 no_entry = record { name = 0; value = NoValue }
 
 pub loop-entry-preserved : goal.loop-entry-preserved

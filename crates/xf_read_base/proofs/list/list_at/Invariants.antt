@@ -1,7 +1,7 @@
 use Rattle.std.proofs.Common.{◌≡◌, ◌≤◌, ◌+◌, ◌-◌, ℕ, length}
 use Rattle.xf_grammar.specs.Reading.{more}
 use Rattle.xf_grammar.specs.Grammar.{read}
-use Rattle.xf_read_base.specs.declared.due.Due.TheVariants as due
+use Rattle.xf_read_base.specs.declared.expected.Expected.TheVariants as due
 use Rattle.xf_read_base.specs.Rules.{item_rule, list_rule}
 use Rattle.xf_read_base.proofs.list.list_at.Given as goal
 
