@@ -4,7 +4,7 @@ use Rattle.std.specs.Prelude.{map}
 use Rattle.xf_lex.specs.declared.token.Token.{Token}
 use Rattle.xf_lex.proofs.LayoutLemmas.{layout_is_read}
 use Rattle.xf_grammar.specs.Layout.{terminals_plain}
-use Rattle.xf_grammar.proofs.Layout.{laid_stand}
+use Rattle.xf_grammar.proofs.LayoutLemmas.{laid_stand}
 use Rattle.xf_read_base.specs.declared.parts.Parts.{Parts}
 use Rattle.xf_read_base.specs.Parts.{said}
 use Rattle.xf_read.specs.declared.tree.File.{File}

@@ -14,7 +14,7 @@ returns-in-Err-Failed-clause-text g c = λ p.
     wrote_prefix (print p) _ _ _ _
     (printed_form c.in-Ok.module, (record { payload = c.in-Ok.module; holds = c.in-Ok.ensures.ok; is = refl }, c.in-Err-Failed.ensures.text))
 
-pub returns-in-Err-NoMemory-print-clause-text : goal.returns-in-Err-NoMemory-print-clause-text
-returns-in-Err-NoMemory-print-clause-text g c = λ p.
+pub returns-clause-text : goal.returns-clause-text
+returns-clause-text g c = λ p.
     wrote_some (print p) _ _ _ _
     (printed_form c.in-Ok.module, (record { payload = c.in-Ok.module; holds = c.in-Ok.ensures.ok; is = refl }, c.in-Err-NoMemory-print.ensures.text))

@@ -13,7 +13,7 @@ returns-in-Err-Failed-clause-text g c = λ p.
     wrote_prefix (verify p) _ _ _ _
     (codes "ok\n", (record { payload = c.in-Ok.module; holds = c.in-Ok.ensures.ok; is = refl }, c.in-Err-Failed.ensures.text))
 
-pub returns-in-Err-NoMemory-write-clause-text : goal.returns-in-Err-NoMemory-write-clause-text
-returns-in-Err-NoMemory-write-clause-text g c = λ p.
+pub returns-clause-text : goal.returns-clause-text
+returns-clause-text g c = λ p.
     wrote_some (verify p) _ _ _ _
     (codes "ok\n", (record { payload = c.in-Ok.module; holds = c.in-Ok.ensures.ok; is = refl }, c.in-Err-NoMemory-write.ensures.text))
