@@ -11,7 +11,7 @@ use crate::calls::CallGraph;
 use crate::facts::Facts;
 use crate::fault::VerifyFault;
 use crate::functions::holds_functions;
-use crate::scope::VisibleNames;
+use crate::scope::VisibleValues;
 use crate::stand::Holder;
 use crate::walk::{Walk, blocks, enter};
 use std::alloc::Global;
@@ -31,7 +31,7 @@ fn walk_from_root<'a>(
 {
     let mut walk = Walk {
         names: NameSet::new(alloc),
-        scope: VisibleNames::new(alloc),
+        scope: VisibleValues::new(alloc),
     };
     let holder = Holder {
         kind: nothing,

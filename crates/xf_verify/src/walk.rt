@@ -9,7 +9,7 @@ ghost use Rattle.xf_verify.specs.Visible.{definitions_in, types_in};
 use crate::facts::Facts;
 use crate::fault::VerifyFault;
 use crate::local::broken_rule;
-use crate::scope::{Definition, VisibleNames};
+use crate::scope::{Definition, VisibleValues};
 use crate::stand::{Holder, Stand, holder_of};
 use std::alloc::Global;
 use xf_ir::{NameSet, Op, Rule};
@@ -18,7 +18,7 @@ use xf_ir::{NameSet, Op, Rule};
 #[derive(Drop)]
 pub struct Walk<'a> {
     pub names: NameSet,
-    pub scope: VisibleNames<'a>,
+    pub scope: VisibleValues<'a>,
 }
 
 /// The operations behind the one of that number.
