@@ -103,7 +103,7 @@ judged_line NotBuilt p = tt
 judged_line TooMany p = refl
 
 syntax_line : (all : List Token) (at : ℕ) (c : Cause) → HasLine (syntax_fault all at c)
-syntax_line all at (cause.Due d) = judged_line _ _
+syntax_line all at (cause.Expected d) = judged_line _ _
 syntax_line all at cause.NestLimit = refl
 syntax_line all at cause.TooManyOps = refl
 
