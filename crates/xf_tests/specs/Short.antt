@@ -36,12 +36,20 @@ abbrev pub are_short_blocks : Regions → Bool
 are_short_blocks no_regions = true
 are_short_blocks (region args ops rest) = is_short_block args ops && are_short_blocks rest
 
+abbrev pub has_short_attrs : Tree → Bool
+has_short_attrs t = is_few (length t.attrs) && every is_short_attr t.attrs
+
+abbrev pub has_few_values : Tree → Bool
+has_few_values t = is_few (length t.operands) && is_few (length t.results)
+
+abbrev pub has_short_regions : Tree → Bool
+has_short_regions t = is_few (regions_length t.regions) && are_short_blocks t.regions
+
+abbrev pub has_short_kind : Kind → Bool
+has_short_kind k = has_short_symbol k && is_few (length (returned_types k))
+
 abbrev pub has_short_lists : Tree → Bool
-has_short_lists t =
-    (is_few (length t.attrs) && every is_short_attr t.attrs)
-    && ((is_few (length t.operands) && is_few (length t.results))
-    && ((is_few (regions_length t.regions) && are_short_blocks t.regions)
-    && (has_short_symbol t.kind && is_few (length (returned_types t.kind)))))
+has_short_lists t = has_short_attrs t && (has_few_values t && (has_short_regions t && has_short_kind t.kind))
 
 abbrev mutual
   pub are_short : Ops → Bool

@@ -1,11 +1,11 @@
 //! Tests for what calls need of a tree: that its lists are short, and that its operations are few.
 ghost use Rattle.std.specs.Prelude.{◌≡◌, ◌^◌, length, IsTrue, IfSome};
-ghost use Rattle.xf_ir.specs.Bounds.{TreeIsShort};
+ghost use Rattle.xf_ir.specs.Bounds.{TreeIsShort, regions_length};
 ghost use Rattle.xf_ir.specs.Count.{tree_count};
 ghost use Rattle.xf_ir.specs.Kinds.{returned_types};
 ghost use Rattle.xf_ir.specs.Lists.{every};
 ghost use Rattle.xf_ir.specs.View.{regions_of};
-ghost use Rattle.xf_tests.specs.Short.{is_few, is_short_text, is_short_attr, has_short_symbol, is_short_block, are_short_blocks, has_short_lists, hold_short};
+ghost use Rattle.xf_tests.specs.Short.{is_few, is_short_text, is_short_attr, has_short_symbol, is_short_block, are_short_blocks, has_short_attrs, has_few_values, has_short_regions, has_short_kind, has_short_lists, hold_short};
 
 use xf_ir::{Attr, Block, Kind, Op, count};
 use xf_type::AttrValue;
@@ -83,15 +83,60 @@ fn are_short_blocks(blocks: &[Block]) -> bool
     true
 }
 
-/// Whether an operation's own lists are short.
+/// Whether an operation has few attributes, with short names and strings.
+fn has_short_attrs(op: &Op) -> bool
+    ensures { result ≡ has_short_attrs op.now }
+{
+    op.attrs.len() < TOO_LONG && are_short_attrs(op.attrs.as_slice())
+}
+
+/// Whether an operation has few operands and results.
+fn has_few_values(op: &Op) -> bool
+    ensures { result ≡ has_few_values op.now }
+{
+    op.operands.as_slice().len() < TOO_LONG && op.results.len() < TOO_LONG
+}
+
+/// Whether an operation has few regions.
 #[tactic(auto, using(crate::proofs::ShortTrees::as_many_regions))]
+fn has_few_regions(op: &Op) -> bool
+    ensures { result ≡ is_few (regions_length op.now.regions) }
+{
+    op.regions.len() < TOO_LONG
+}
+
+/// Whether the block of each region has few arguments and operations.
+fn has_short_blocks(op: &Op) -> bool
+    ensures { result ≡ are_short_blocks op.now.regions }
+{
+    are_short_blocks(&op.regions)
+}
+
+/// Whether an operation has few regions, and few arguments and operations in the block of each.
+fn has_short_regions(op: &Op) -> bool
+    ensures { result ≡ has_short_regions op.now }
+{
+    let few = has_few_regions(op);
+    let short = has_short_blocks(op);
+    few && short
+}
+
+/// Whether the symbol of an operation's kind and the types that it returns are few.
+fn has_short_kind(kind: &Kind) -> bool
+    ensures { result ≡ has_short_kind kind.now }
+{
+    has_short_symbol(kind) && returns_few(kind)
+}
+
+/// Whether an operation's own lists are short.
 fn has_short_lists(op: &Op) -> bool
     ensures { result ≡ has_short_lists op.now }
 {
-    (op.attrs.len() < TOO_LONG && are_short_attrs(op.attrs.as_slice()))
-        && ((op.operands.as_slice().len() < TOO_LONG && op.results.len() < TOO_LONG)
-            && ((op.regions.len() < TOO_LONG && are_short_blocks(&op.regions))
-                && (has_short_symbol(&op.kind) && returns_few(&op.kind))))
+    let attrs = has_short_attrs(op);
+    let values = has_few_values(op);
+    let regions = has_short_regions(op);
+    let kind = has_short_kind(&op.kind);
+    attrs && (values && (regions && kind))
 }
 
 /// Whether the lists of all operations that an operation holds are short.
