@@ -1,18 +1,12 @@
--- Readings that look no further than they say, and how they are put together.
-use Rattle.std.proofs.Common.{◌≡◌, ℕ, zero, suc, ◌+◌, ◌-◌, ◌<◌, ◌≤◌, ◌==◌, Bool, true, false, cond, nat_lt, List, [], ◌∷◌, length, Ok, Err, refl, sym, ap, subst, ◌∙◌, arith, inl, inr, ◌⊎◌}
+-- Readings that look no further than they say: how they are put together, and each grammar, by its forms.
+use Rattle.std.proofs.Common.{◌≡◌, ℕ, zero, suc, ◌+◌, ◌≤◌, ◌==◌, Bool, true, false, cond, List, Option, Some, None, Ok, Err, refl, sym, ap, subst, ◌∙◌, arith, inl, inr}
 use Rattle.std.proofs.lemmas.Bool.{eqb-true}
-use Rattle.xf_lex.specs.declared.token.TokenKind.{TokenKind}
 use Rattle.xf_lex.specs.declared.token.Token.{Token}
-use Rattle.xf_grammar.specs.Tokens.{Terminal, terminal_at, is_kind, looks, comma}
-use Rattle.xf_grammar.specs.Reading.{Out, ◌>>=◌, one_too_many, Reader, more, one_or_more}
+use Rattle.xf_grammar.specs.Tokens.{Terminal, the_end, terminal, terminal_at, is_kind, comma}
+use Rattle.xf_grammar.specs.Reading.{Out, ◌>>=◌, one_too_many}
 use Rattle.xf_grammar.specs.Lookahead.{Agree, reach, BoundedLookahead}
-
-pub true_or_false : (b : Bool) → (b ≡ true) ⊎ (b ≡ false)
-true_or_false true = inl refl
-true_or_false false = inr refl
-
-fewer : (n m : ℕ) (all us : List Token) → m ≤ n → Agree n all us → Agree m all us
-fewer n m all us le a i lt = a i (omega arith)
+use Rattle.xf_grammar.specs.Grammar.{Grammar, skip, refuse, take, peek, need, act, both, listed, scan, Step, ends, fails, goes, Language, pushed, acted, acted_if, closed, stepped, looked, scan_at, more, read}
+use Rattle.xf_grammar.proofs.Basics.{true_or_false}
 
 -- ---- one answer, a test, one reading after another
 
@@ -31,19 +25,14 @@ by_seen all at r p =
     let s = p (terminal_at all at) in
     record { forward = s.forward; same = λ us a. ap (λ x. r x us) (a at (omega (arith, s.forward))) ∙ s.same us a }
 
--- a test of what stands at the first token, and both ways on
-asked : {A D : Type 0} (b : Bool) (q : Terminal → Bool) (all : List Token) (at : ℕ) (y n : List Token → Out A D) → BoundedLookahead all at y → BoundedLookahead all at n → q (terminal_at all at) ≡ b → BoundedLookahead all at (λ ts. cond (q (terminal_at ts at)) (y ts) (n ts))
-asked true q all at y n on off e = record {
-  forward = rw e on.forward;
-  same = λ us a. let a' : Agree (suc (reach (y all))) all us = rw e at a in rw (ap q (a' at (omega (arith, on.forward))), e) (on.same us a');
-}
-asked false q all at y n on off e = record {
-  forward = rw e off.forward;
-  same = λ us a. let a' : Agree (suc (reach (n all))) all us = rw e at a in rw (ap q (a' at (omega (arith, off.forward))), e) (off.same us a');
-}
+-- one of two ways, by a test that no text changes
+pub ways : {A D : Type 0} (b : Bool) (all : List Token) (at : ℕ) (r s : List Token → Out A D) → BoundedLookahead all at r → BoundedLookahead all at s → BoundedLookahead all at (λ ts. cond b (r ts) (s ts))
+ways true all at r s p q = p
+ways false all at r s p q = q
 
+-- a test of what stands at the first token, and both ways on
 pub ask : {A D : Type 0} (q : Terminal → Bool) (all : List Token) (at : ℕ) (y n : List Token → Out A D) → BoundedLookahead all at y → BoundedLookahead all at n → BoundedLookahead all at (λ ts. cond (q (terminal_at ts at)) (y ts) (n ts))
-ask q all at y n on off = asked (q (terminal_at all at)) q all at y n on off refl
+ask q all at y n on off = by_seen all at (λ x ts. cond (q x) (y ts) (n ts)) (λ x. ways (q x) all at y n on off)
 
 bound : {A B D : Type 0} (o : Out A D) (all : List Token) (at : ℕ) (r : List Token → Out A D) (f : List Token → A × ℕ → Out B D) → BoundedLookahead all at r → ((x : A × ℕ) → BoundedLookahead all x.1 (λ ts. f ts x)) → r all ≡ o → BoundedLookahead all at (λ ts. r ts >>= f ts)
 bound (Ok x) all at r f p q e =
@@ -108,135 +97,57 @@ too_many_steady all at full r s = elim (true_or_false (first_fault at (r all))) 
   }
 ]
 
--- ---- lists
+-- ---- the forms
 
--- a reading of an item that looks no further than it says, wherever it begins, and goes on
-pub record SteadyItem {A D : Type 0} (item : Reader A D) : Type 0 where
-  pub steady : (all : List Token) (h : A) (at : ℕ) → BoundedLookahead all at (λ ts. item ts h at)
+acted_steady : {A T K D X M : Type 0} (L : Language A T K D X M) (k : K) (all : List Token) (h : A) (at next : ℕ) → at ≤ next → BoundedLookahead all at (λ ts. acted L k h at next)
+acted_steady L k all h at next le = ways (L.room k h) all at (λ ts. Ok (L.add k h, next)) (λ ts. Err (at, L.full k)) (done all at (L.add k h) next le) (stops all at at (L.full k) (omega arith))
 
-pub past : (all : List Token) (at : ℕ) (k : TokenKind) → length all ≤ at → looks all at k ≡ false
-past [] zero k le = refl
-past [] (suc n) k le = refl
-past (t ∷ ts) zero k le = absurd (omega arith)
-past (t ∷ ts) (suc n) k le = past ts n k (omega arith)
+acted_if_steady : {A T K D X M : Type 0} (L : Language A T K D X M) (k : Option K) (all : List Token) (h : A) (at next : ℕ) → at ≤ next → BoundedLookahead all at (λ ts. acted_if L k h at next)
+acted_if_steady L None all h at next le = done all at h next le
+acted_if_steady L (Some k) all h at next le = acted_steady L k all h at next le
 
--- behind an item: it looks no further than it says, whatever bound on the number of turns is enough
-record Goes {A D : Type 0} (all us : List Token) (at : ℕ) (o p : Out A D) : Type 0 where
-  forward : at ≤ reach o
-  same : Agree (suc (reach o)) all us → p ≡ o
+closed_steady : {A D : Type 0} (o : Option D) (all : List Token) (h : A) (at : ℕ) → BoundedLookahead all at (λ ts. closed o h at)
+closed_steady None all h at = done all at h at (omega arith)
+closed_steady (Some d) all h at = stops all at at d (omega arith)
 
-same_look : (all us : List Token) (at n : ℕ) (k : TokenKind) → at < n → Agree n all us → looks us at k ≡ looks all at k
-same_look all us at n k lt a = ap (is_kind k) (a at lt)
+stepped_steady : {A T K D X M : Type 0} (L : Language A T K D X M) (go : List Token → M → A → ℕ → Out A D) (all : List Token) → ((m : M) (h : A) (at : ℕ) → BoundedLookahead all at (λ ts. go ts m h at))
+    → (s : Step K D M) (x : Terminal) (h : A) (at : ℕ) → BoundedLookahead all at (λ ts. stepped L (go ts) s x h at)
+stepped_steady L go all p ends x h at = done all at h at (omega arith)
+stepped_steady L go all p (fails d) x h at = stops all at at d (omega arith)
+stepped_steady L go all p (goes gap keep m k) x h at =
+    chain all at _ (λ ts y. go ts m y.0 y.1) (acted_if_steady L k all (pushed L keep at x h) at (at + 1) (omega arith)) (λ y. p m y.0 y.1)
 
-ended : {A D : Type 0} (f n : ℕ) (full : D) (all : List Token) (item : Reader A D) (h : A) (at : ℕ) → looks all at comma ≡ false → more f n full all item h at ≡ Ok (h, at)
-ended zero n full all item h at e = refl
-ended (suc f) n full all item h at e = rw e refl
+looked_steady : {A T K D X M : Type 0} (L : Language A T K D X M) (go : List Token → M → A → ℕ → Out A D) (all : List Token) → ((m : M) (h : A) (at : ℕ) → BoundedLookahead all at (λ ts. go ts m h at))
+    → (m : M) (x : Terminal) (h : A) (at : ℕ) → BoundedLookahead all at (λ ts. looked L (go ts) m x h at)
+looked_steady L go all p m the_end h at = closed_steady (L.close m) all h at
+looked_steady L go all p m (terminal k bs) h at = stepped_steady L go all p (L.step m (terminal k bs)) (terminal k bs) h at
 
-end_goes : {A D : Type 0} (f g n : ℕ) (full : D) (all us : List Token) (item : Reader A D) (h : A) (at : ℕ) → looks all at comma ≡ false → Goes all us at (more f n full all item h at) (more g n full us item h at)
-end_goes f g n full all us item h at e = let s = ended f n full all item h at e in record {
-  forward = rw s (omega arith);
-  same = λ a. let a' : Agree (suc at) all us = rw s at a in rw s (ended g n full us item h at (same_look all us at (suc at) comma (omega arith) a' ∙ e));
-}
+scan_steady : {A T K D X M : Type 0} (L : Language A T K D X M) (f : ℕ) (all : List Token) (m : M) (h : A) (at : ℕ) → BoundedLookahead all at (λ ts. scan_at L f ts m h at)
+scan_steady L zero all m h at = closed_steady (L.close m) all h at
+scan_steady L (suc f) all m h at =
+    by_seen all at (λ x ts. looked L (scan_at L f ts) m x h at) (λ x. looked_steady L (λ ts. scan_at L f ts) all (λ n k i. scan_steady L f all n k i) m x h at)
 
--- one more item, and what is behind it
-turn_goes : {A D : Type 0} (o : Out A D) (f g n : ℕ) (full : D) (all us : List Token) (item : Reader A D) (h : A) (at : ℕ) → SteadyItem item → length all ≤ suc f + at → length us ≤ suc g + at → looks all at comma ≡ true → nat_lt 0 n ≡ true
-    → ((h : A) (i : ℕ) → length all ≤ f + i → length us ≤ g + i → Goes all us i (more f (n - 1) full all item h i) (more g (n - 1) full us item h i))
-    → item all h (at + 1) ≡ o → Goes all us at (more (suc f) n full all item h at) (more (suc g) n full us item h at)
-turn_goes (Ok x) f g n full all us item h at st lf lg e lt rest p =
-    let it = st.steady all h (at + 1) in
-    let le : at + 1 ≤ x.1 = subst (λ o. at + 1 ≤ reach o) p it.forward in
-    let r = rest x.0 x.1 (omega arith) (omega arith) in
-    let s : more (suc f) n full all item h at ≡ more f (n - 1) full all item x.0 x.1 = rw (e, lt, p) refl in
-    record {
-      forward = rw s (omega (arith, r.forward));
-      same = λ a.
-          let a' : Agree (suc (reach (more f (n - 1) full all item x.0 x.1))) all us = rw s at a in
-          let here = same_look all us at _ comma (omega (arith, r.forward)) a' in
-          let inside : Agree (suc (reach (item all h (at + 1)))) all us = rw p (fewer _ _ all us (omega (arith, r.forward)) a') in
-          rw (s, here, e, lt, it.same us inside, p) (r.same a');
-    }
-turn_goes (Err i) f g n full all us item h at st lf lg e lt rest p =
-    let it = st.steady all h (at + 1) in
-    let le : at + 1 ≤ i.0 = subst (λ o. at + 1 ≤ reach o) p it.forward in
-    let s : more (suc f) n full all item h at ≡ Err i = rw (e, lt, p) refl in
-    record {
-      forward = rw s (omega arith);
-      same = λ a.
-          let a' : Agree (suc i.0) all us = rw s at a in
-          let here = same_look all us at _ comma (omega arith) a' in
-          let inside : Agree (suc (reach (item all h (at + 1)))) all us = rw p a' in
-          rw (s, here, e, lt, it.same us inside, p) refl;
-    }
+pub more_steady : {A D : Type 0} (f : ℕ) (all : List Token) (item : List Token → A → ℕ → Out A D) → ((h : A) (at : ℕ) → BoundedLookahead all at (λ ts. item ts h at)) → (h : A) (at : ℕ) → BoundedLookahead all at (λ ts. more f ts (item ts) h at)
+more_steady zero all item p h at = done all at h at (omega arith)
+more_steady (suc f) all item p h at =
+    ask (is_kind comma) all at _ _
+    (later all at (at + 1) _ (omega arith) (chain all (at + 1) (λ ts. item ts h (at + 1)) (λ ts x. more f ts (item ts) x.0 x.1) (p h (at + 1)) (λ x. more_steady f all item p x.0 x.1)))
+    (done all at h at (omega arith))
 
--- one item too many
-full_goes : {A D : Type 0} (f g n : ℕ) (full : D) (all us : List Token) (item : Reader A D) (h : A) (at : ℕ) → SteadyItem item → looks all at comma ≡ true → nat_lt 0 n ≡ false → Goes all us at (more (suc f) n full all item h at) (more (suc g) n full us item h at)
-full_goes f g n full all us item h at st e lt =
-    let it = too_many_steady all (at + 1) full (λ ts. item ts h (at + 1)) (λ ts. st.steady ts h (at + 1)) in
-    let s : more (suc f) n full all item h at ≡ one_too_many (at + 1) full (item all h (at + 1)) = rw (e, lt) refl in
-    record {
-      forward = rw s (omega (arith, it.forward));
-      same = λ a.
-          let a' : Agree (suc (reach (one_too_many (at + 1) full (item all h (at + 1))))) all us = rw s at a in
-          let here = same_look all us at _ comma (omega (arith, it.forward)) a' in
-          rw (s, here, e, lt) (it.same us a');
-    }
+pub steady : {A T K D X M : Type 0} (L : Language A T K D X M) (f : ℕ) (g : Grammar K D X M) (all : List Token) (h : A) (at : ℕ) → BoundedLookahead all at (λ ts. read L f g ts h at)
+steady L f skip all h at = done all at h at (omega arith)
+steady L f (refuse d) all h at = stops all at at d (omega arith)
+steady L f (take gap keep x on off) all h at =
+    by_seen all at (λ c ts. cond (L.passes x c h) (read L f on ts (pushed L keep at c h) (at + 1)) (read L f off ts h at))
+    (λ c. ways (L.passes x c h) all at _ _ (later all at (at + 1) _ (omega arith) (steady L f on all (pushed L keep at c h) (at + 1))) (steady L f off all h at))
+steady L f (peek x on off) all h at = ask (λ c. L.passes x c h) all at _ _ (steady L f on all h at) (steady L f off all h at)
+steady L f (need k on) all h at = ways (L.room k h) all at _ _ (steady L f on all h at) (stops all at at (L.full k) (omega arith))
+steady L f (act k) all h at = acted_steady L k all h at at (omega arith)
+steady L f (both g k) all h at = chain all at _ (λ ts x. read L f k ts x.0 x.1) (steady L f g all h at) (λ x. steady L f k all x.0 x.1)
+steady L f (listed g) all h at =
+    chain all at _ (λ ts x. more f ts (read L f g ts) x.0 x.1) (steady L f g all h at) (λ x. more_steady f all (λ ts. read L f g ts) (λ k i. steady L f g all k i) x.0 x.1)
+steady L f (scan m) all h at = scan_steady L f all m h at
 
-behind : {A D : Type 0} (o : Out A D) (f n : ℕ) (full : D) (all : List Token) (item : Reader A D) (at : ℕ) → ((h : A) (i : ℕ) → i ≤ reach (more f n full all item h i)) → at + 1 ≤ reach o → at ≤ reach (o >>= λ x. more f n full all item x.0 x.1)
-behind (Ok x) f n full all item at rest le = omega (arith, rest x.0 x.1)
-behind (Err i) f n full all item at rest le = omega arith
-
-more_forward : {A D : Type 0} (f n : ℕ) (full : D) (all : List Token) (item : Reader A D) (h : A) (at : ℕ) → SteadyItem item → at ≤ reach (more f n full all item h at)
-more_forward zero n full all item h at st = omega arith
-more_forward (suc f) n full all item h at st = elim (true_or_false (looks all at comma)) [
-  | inl e ↦ elim (true_or_false (nat_lt 0 n)) [
-    | inl lt ↦ rw (e, lt) (behind (item all h (at + 1)) f (n - 1) full all item at (λ h i. more_forward f (n - 1) full all item h i st) (st.steady all h (at + 1)).forward)
-    | inr lt ↦ let it = too_many_steady all (at + 1) full (λ ts. item ts h (at + 1)) (λ ts. st.steady ts h (at + 1)) in rw (e, lt) (omega (arith, it.forward))
-  ]
-  | inr e ↦ rw e (omega arith)
-]
-
-comma_both : {A D : Type 0} (all us : List Token) (at : ℕ) (o p : Out A D) → length us ≤ at → looks all at comma ≡ true → at ≤ reach o → Goes all us at o p
-comma_both all us at o p le e fw = record {
-  forward = fw;
-  same = λ a. let here = same_look all us at _ comma (omega arith) a in absurd (let no = past us at comma le in cc);
-}
-
-more_goes : {A D : Type 0} (f g n : ℕ) (full : D) (all us : List Token) (item : Reader A D) (h : A) (at : ℕ) → SteadyItem item → length all ≤ f + at → length us ≤ g + at → Goes all us at (more f n full all item h at) (more g n full us item h at)
-more_goes zero g n full all us item h at st lf lg = end_goes zero g n full all us item h at (past all at comma (omega arith))
-more_goes (suc f) zero n full all us item h at st lf lg = elim (true_or_false (looks all at comma)) [
-  | inl e ↦ comma_both all us at _ _ (omega arith) e (more_forward (suc f) n full all item h at st)
-  | inr e ↦ end_goes (suc f) zero n full all us item h at e
-]
-more_goes (suc f) (suc g) n full all us item h at st lf lg = elim (true_or_false (looks all at comma)) [
-  | inl e ↦ elim (true_or_false (nat_lt 0 n)) [
-    | inl lt ↦ turn_goes (item all h (at + 1)) f g n full all us item h at st lf lg e lt (λ h' i l1 l2. more_goes f g (n - 1) full all us item h' i st l1 l2) refl
-    | inr lt ↦ full_goes f g n full all us item h at st e lt
-  ]
-  | inr e ↦ end_goes (suc f) (suc g) n full all us item h at e
-]
-
-listed : {A D : Type 0} (o : Out A D) (n : ℕ) (full : D) (all : List Token) (item : Reader A D) (h : A) (at : ℕ) → SteadyItem item → item all h at ≡ o → BoundedLookahead all at (λ ts. one_or_more n full ts item h at)
-listed (Ok x) n full all item h at st p =
-    let it = st.steady all h at in
-    let le : at ≤ x.1 = subst (λ o. at ≤ reach o) p it.forward in
-    let s : one_or_more n full all item h at ≡ more (length all) n full all item x.0 x.1 = rw p refl in
-    record {
-      forward = rw s (omega (arith, more_forward (length all) n full all item x.0 x.1 st));
-      same = λ us a.
-          let a' : Agree (suc (reach (more (length all) n full all item x.0 x.1))) all us = rw s at a in
-          let inside : Agree (suc (reach (item all h at))) all us = rw p (fewer _ _ all us (omega (arith, more_forward (length all) n full all item x.0 x.1 st)) a') in
-          rw (it.same us inside, p) ((more_goes (length all) (length us) n full all us item x.0 x.1 st (omega arith) (omega arith)).same a');
-    }
-listed (Err i) n full all item h at st p =
-    let it = st.steady all h at in
-    let s : one_or_more n full all item h at ≡ Err i = rw p refl in
-    record {
-      forward = rw s (subst (λ o. at ≤ reach o) p it.forward);
-      same = λ us a.
-          let a' : Agree (suc i.0) all us = rw s at a in
-          let inside : Agree (suc (reach (item all h at))) all us = rw p a' in
-          rw (it.same us inside, p) refl;
-    }
-
-pub list_steady : {A D : Type 0} (n : ℕ) (full : D) (all : List Token) (item : Reader A D) (h : A) (at : ℕ) → SteadyItem item → BoundedLookahead all at (λ ts. one_or_more n full ts item h at)
-list_steady n full all item h at st = listed (item all h at) n full all item h at st refl
+-- a reading that succeeds goes on, or stays
+pub goes_on : {A T K D X M : Type 0} (L : Language A T K D X M) (f : ℕ) (g : Grammar K D X M) (all : List Token) (h : A) (at next : ℕ) (h' : A) → read L f g all h at ≡ Ok (h', next) → at ≤ next
+goes_on L f g all h at next h' q = subst (λ o. at ≤ reach o) q (steady L f g all h at).forward

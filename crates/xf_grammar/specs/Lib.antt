@@ -1,5 +1,9 @@
+pub mod Apart
 pub mod Grammar
+pub mod Heads
+pub mod Holding
 pub mod Layout
 pub mod Lookahead
 pub mod Reading
 pub mod Tokens
+pub mod Tree

@@ -1,5 +1,5 @@
 -- Trees without the bodies of linalg.generic: what is found in them is found in the whole, and so is what is found in a scope.
-use Rattle.std.proofs.Common.{◌≡◌, ◌∷◌, ◌++◌, true, false, eqb, Option, None, Some, inl, inr, refl, sym, ap, ◌∙◌}
+use Rattle.std.proofs.Common.{◌≡◌, ◌∷◌, ◌++◌, true, eqb, Option, None, Some, inl, inr, refl, sym}
 use Rattle.std.proofs.lemmas.Bool.{cases_Bool}
 use Rattle.xf_ir.specs.declared.name.OpName.{OpName}
 use Rattle.xf_ir.specs.declared.op.Module.{Module}

@@ -1,11 +1,13 @@
 -- Discardable attributes by name, in the order of the bytes of their names (MLIR language reference: attributes).
-use Rattle.std.specs.Prelude.{◌≡◌, ℕ, ◌+◌, List, [], ◌∷◌, Option, Some, None, Bool, true, false, ◌==◌, ◌&&◌, ◌||◌, nat_lt, if◌then◌else◌}
+use Rattle.std.specs.Prelude.{◌≡◌, ℕ, ◌+◌, List, [], ◌∷◌, Option, Some, None, Bool, true}
+use Rattle.std.specs.Prelude.{false, ◌==◌, ◌&&◌, ◌||◌, nat_lt, if◌then◌else◌}
 use Rattle.xf_type.specs.declared.attribute.AttrValue.{AttrValue}
 use Rattle.xf_ir.specs.declared.kind.Attr.{Attr}
 use Rattle.xf_ir.specs.Tree.{Tree}
 use Rattle.xf_ir.specs.Lists.{Each, same_bytes}
 
--- whether bytes come before others: at the first place where they differ the smaller byte does, and a front of others does
+-- whether bytes come before others: at the first place where they differ the smaller byte does, and a front of others
+-- does
 abbrev pub bytes_before : List ℕ → List ℕ → Bool
 bytes_before [] [] = false
 bytes_before [] (y ∷ ys) = true

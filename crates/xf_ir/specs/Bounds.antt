@@ -41,8 +41,8 @@ abbrev pub blocks_of : Regions → List Ops
 blocks_of no_regions = []
 blocks_of (region args ops rest) = ops ∷ blocks_of rest
 
--- the attributes with their names and strings, operands, results and regions of an operation, the arguments and the operations
--- of each block, its symbol, and the types that a function returns
+-- the attributes with their names and strings, operands, results and regions of an operation, the arguments and the
+-- operations of each block, its symbol, and the types that a function returns
 pub record HasShortLists (t : Tree) : Type 0 where
   pub attributes : length t.attrs < 2 ^ 32
   pub names : Each IsShortAttr t.attrs
@@ -60,7 +60,8 @@ abbrev mutual
   pub OpsShort : Ops → Type 0
   OpsShort no_ops = Unit {0}
   OpsShort (op n k ds os ts rs rest) =
-      HasShortLists (record { name = n; kind = k; attrs = ds; operands = os; results = ts; regions = rs }) × (RegionsShort rs × OpsShort rest)
+      HasShortLists (record { name = n; kind = k; attrs = ds; operands = os; results = ts; regions = rs })
+      × (RegionsShort rs × OpsShort rest)
 
   pub RegionsShort : Regions → Type 0
   RegionsShort no_regions = Unit {0}

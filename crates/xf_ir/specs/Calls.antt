@@ -1,5 +1,6 @@
 -- Calls: what a symbol names, and how deep calls go.
-use Rattle.std.specs.Prelude.{ℕ, zero, suc, List, [], ◌∷◌, ◌++◌, Option, Some, None, Bool, true, false, is_none, if◌then◌else◌}
+use Rattle.std.specs.Prelude.{ℕ, zero, suc, List, [], ◌++◌, Option, Some, None}
+use Rattle.std.specs.Prelude.{Bool, true, false, is_none, if◌then◌else◌}
 use Rattle.xf_type.specs.declared.payload_type.PayloadType.{PayloadType}
 use Rattle.xf_ir.specs.declared.kind.Kind.{Kind}
 use Rattle.xf_ir.specs.declared.kind.Kind.TheVariants as kind
@@ -7,7 +8,7 @@ use Rattle.xf_ir.specs.declared.op.Module.{Module}
 use Rattle.xf_ir.specs.Tree.{Ops, no_ops, op, Regions, no_regions, region, Tree}
 use Rattle.xf_ir.specs.Kinds.{symbol_of, callee_of, returned_types}
 use Rattle.xf_ir.specs.Lists.{every, is_text, option_passes, item_before}
-use Rattle.xf_ir.specs.Types.{same_types}
+use Rattle.xf_type.specs.Equal.{same_types}
 use Rattle.xf_ir.specs.Placed.{Placed, functions_of}
 
 -- ---- what a symbol names
@@ -18,7 +19,10 @@ has_symbol s k = is_text s (symbol_of k)
 -- the function of a symbol
 abbrev pub function_of : List ℕ → Ops → Option Tree
 function_of s no_ops = None
-function_of s (op n k ds os ts rs rest) = if has_symbol s k then Some (record { name = n; kind = k; attrs = ds; operands = os; results = ts; regions = rs }) else function_of s rest
+function_of s (op n k ds os ts rs rest) =
+    if has_symbol s k
+    then Some (record { name = n; kind = k; attrs = ds; operands = os; results = ts; regions = rs })
+    else function_of s rest
 
 -- the types of a function's arguments and of what it returns (MLIR: FunctionType)
 pub record Signature : Type 0 where
@@ -73,8 +77,8 @@ abbrev pub callees_of : Option Tree → List (List ℕ)
 callees_of None = []
 callees_of (Some t) = regions_callees t.regions
 
--- whether each chain of calls that begins at the function of a symbol passes at most so many functions, repeats counted; a chain
--- that comes to a cycle passes any number
+-- whether each chain of calls that begins at the function of a symbol passes at most so many functions, repeats
+-- counted; a chain that comes to a cycle passes any number
 abbrev pub chains_end : Ops → ℕ → List ℕ → Bool
 chains_end fs zero s = is_none (function_of s fs)
 chains_end fs (suc k) s = every (chains_end fs k) (callees_of (function_of s fs))
@@ -83,8 +87,8 @@ chains_end fs (suc k) s = every (chains_end fs k) (callees_of (function_of s fs)
 abbrev pub callee_ends : (List ℕ → Bool) → Kind → Bool
 callee_ends ends k = option_passes ends (callee_of k)
 
--- a chain of calls passes at most 32 functions: the caller, and 31 from the callee on. So no call lies on a cycle or leads to one,
--- since from there a chain passes any number, and a call of a function that is not there ends its chain.
+-- a chain of calls passes at most 32 functions: the caller, and 31 from the callee on. So no call lies on a cycle or
+-- leads to one, since from there a chain passes any number, and a call of a function that is not there ends its chain.
 abbrev pub chain_ends : Ops → Kind → Bool
 chain_ends fs k = callee_ends (chains_end fs 31) k
 

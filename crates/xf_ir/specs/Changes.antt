@@ -1,5 +1,6 @@
 -- Changed uses and attributes.
-use Rattle.std.specs.Prelude.{◌≡◌, ℕ, ◌+◌, List, [], ◌∷◌, Option, Some, None, Bool, false, ◌==◌, ◌&&◌, ◌||◌, if◌then◌else◌, slice_get}
+use Rattle.std.specs.Prelude.{◌≡◌, ℕ, ◌+◌, List, [], ◌∷◌, Option, Some, None, Bool}
+use Rattle.std.specs.Prelude.{false, ◌==◌, ◌&&◌, ◌||◌, if◌then◌else◌, slice_get}
 use Rattle.xf_ir.specs.declared.name.OpName.{OpName}
 use Rattle.xf_ir.specs.declared.name.ValueName.{ValueName}
 use Rattle.xf_ir.specs.declared.kind.Attr.{Attr}
@@ -27,14 +28,16 @@ operands_changed cs n i (v ∷ vs) = value_changed cs n i v ∷ operands_changed
 abbrev mutual
   pub ops_changed : List Change → Ops → Ops
   ops_changed cs no_ops = no_ops
-  ops_changed cs (op n k ds os ts rs rest) = op n k ds (operands_changed cs n 0 os) ts (regions_changed cs rs) (ops_changed cs rest)
+  ops_changed cs (op n k ds os ts rs rest) =
+      op n k ds (operands_changed cs n 0 os) ts (regions_changed cs rs) (ops_changed cs rest)
 
   pub regions_changed : List Change → Regions → Regions
   regions_changed cs no_regions = no_regions
   regions_changed cs (region args ops rest) = region args (ops_changed cs ops) (regions_changed cs rest)
 
 abbrev pub tree_changed : List Change → Tree → Tree
-tree_changed cs t = record t { operands = operands_changed cs t.name 0 t.operands; regions = regions_changed cs t.regions }
+tree_changed cs t =
+    record t { operands = operands_changed cs t.name 0 t.operands; regions = regions_changed cs t.regions }
 
 abbrev pub body_changed : List Change → Body → Body
 body_changed cs b = record b { ops = ops_changed cs b.ops }
@@ -73,10 +76,15 @@ abbrev mutual
 
   pub regions_attributed : OpName → (List Attr → List Attr) → Regions → Regions
   regions_attributed name f no_regions = no_regions
-  regions_attributed name f (region args ops rest) = region args (ops_attributed name f ops) (regions_attributed name f rest)
+  regions_attributed name f (region args ops rest) =
+      region args (ops_attributed name f ops) (regions_attributed name f rest)
 
 abbrev pub tree_attributed : OpName → (List Attr → List Attr) → Tree → Tree
-tree_attributed name f t = record t { attrs = if t.name.0 == name.0 then f t.attrs else t.attrs; regions = regions_attributed name f t.regions }
+tree_attributed name f t =
+    record t {
+      attrs = if t.name.0 == name.0 then f t.attrs else t.attrs;
+      regions = regions_attributed name f t.regions;
+    }
 
 abbrev pub body_attributed : OpName → (List Attr → List Attr) → Body → Body
 body_attributed name f b = record b { ops = ops_attributed name f b.ops }

@@ -1,5 +1,6 @@
 -- The choices of a rewriting step: what may be changed next in a scope.
-use Rattle.std.specs.Prelude.{◌≡◌, ℕ, ◌+◌, List, [], ◌∷◌, length, Option, Some, None, Bool, false, true, ◌||◌, ◌==◌, if◌then◌else◌}
+use Rattle.std.specs.Prelude.{◌≡◌, ℕ, ◌+◌, List, [], ◌∷◌, length, Option, Some, None}
+use Rattle.std.specs.Prelude.{Bool, false, true, ◌||◌, ◌==◌, if◌then◌else◌}
 use Rattle.xf_ir.specs.declared.name.OpName.{OpName}
 use Rattle.xf_ir.specs.declared.kind.Kind.{Kind}
 use Rattle.xf_ir.specs.declared.kind.Kind.TheVariants as kind
@@ -19,7 +20,8 @@ use Rattle.xf_ir.specs.Edits.{edited}
 abbrev mutual
   pub ops_bare : Ops → Ops
   ops_bare no_ops = no_ops
-  ops_bare (op n k ds os ts rs rest) = op n k ds os ts (if is_generic k then no_regions else regions_bare rs) (ops_bare rest)
+  ops_bare (op n k ds os ts rs rest) =
+      op n k ds os ts (if is_generic k then no_regions else regions_bare rs) (ops_bare rest)
 
   pub regions_bare : Regions → Regions
   regions_bare no_regions = no_regions
@@ -87,7 +89,8 @@ IsNormal choices m target = Each (λ choice. (name : OpName) → Applies choice 
 -- the first of some choices that has a number
 abbrev pub choice_numbered : ℕ → List Choice → Option Choice
 choice_numbered number [] = None
-choice_numbered number (choice ∷ choices) = if numbered choice == number then Some choice else choice_numbered number choices
+choice_numbered number (choice ∷ choices) =
+    if numbered choice == number then Some choice else choice_numbered number choices
 
 -- what a step that erases dead code chooses from
 abbrev pub dead_code : List Choice
@@ -100,7 +103,9 @@ stands_before a b (n ∷ ns) = if same_name n b then false else (same_name n a |
 
 -- none that stands before it in the scope may be erased
 abbrev pub IsFirstDead : Module → OpName → OpName → Type 0
-IsFirstDead m target name = (other : OpName) → stands_before other name (regions_names (scope_at m target)) ≡ true → MayErase m target other → ⊥
+IsFirstDead m target name =
+    (other : OpName) → stands_before other name (regions_names (scope_at m target)) ≡ true →
+    MayErase m target other → ⊥
 
 -- ---- the weight of a scope, which each choice but the moving of an operation lowers
 

@@ -1,5 +1,6 @@
 -- Edits of a module, as changes of its tree.
-use Rattle.std.specs.Prelude.{◌≡◌, ℕ, ◌+◌, ◌-◌, ◌^◌, List, [], ◌∷◌, ◌++◌, length, map, slice_get, Option, None, Some, Bool, true, false, min, nat_lt, ◌==◌, if◌then◌else◌}
+use Rattle.std.specs.Prelude.{◌≡◌, ℕ, ◌+◌, ◌-◌, ◌^◌, List, [], ◌∷◌, ◌++◌, length, map, slice_get, Option}
+use Rattle.std.specs.Prelude.{None, Some, Bool, true, false, min, nat_lt, ◌==◌, if◌then◌else◌}
 use Rattle.xf_ir.specs.declared.name.OpName.{OpName}
 use Rattle.xf_ir.specs.declared.edit.Edit.{Edit}
 use Rattle.xf_ir.specs.declared.edit.Edit.TheVariants.{Insert, Erase, ReplaceUses, Replace, Restore, Move, SetAttr}
@@ -149,7 +150,8 @@ pub record FitsReplace (m : Module) (name : OpName) (by : List ValueName) (chang
   pub uses : SeesItsUses (edited m (Replace name by changes))
 
 -- the tree has new names, its spot is one of the module, and its values and the changes fit
-pub record FitsRestore (m : Module) (tree : Tree) (at : Spot) (by : List ValueName) (changes : List Change) : Type 0 where
+pub record FitsRestore (m : Module) (tree : Tree) (at : Spot) (by : List ValueName) (changes : List Change)
+    : Type 0 where
   pub fresh : Each (λ n. is_among n (tree_names m.root) ≡ false) (tree_names tree)
   pub spot : IsSpot at m.root
   pub values : FitsValues m.root tree by

@@ -27,6 +27,20 @@ is_function k = is_some (symbol_of k)
 abbrev pub is_container : Kind → Bool
 is_container k = is_module k || is_function k
 
+-- whether an operation has a region
+abbrev pub has_body : Kind → Bool
+has_body (kind.Module symbol) = true
+has_body (kind.Func symbol private results) = true
+has_body (kind.For width) = true
+has_body kind.If = true
+has_body (kind.Generic maps iterators) = true
+has_body _ = false
+
+-- whether it has a second region, that of else, which it may lack where it has no results
+abbrev pub has_else : Kind → Bool
+has_else kind.If = true
+has_else _ = false
+
 -- whether an operation ends a block
 abbrev pub is_terminator : Kind → Bool
 is_terminator kind.Return = true

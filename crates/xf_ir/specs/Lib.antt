@@ -22,13 +22,6 @@ pub mod Valid
 pub mod Rules
 pub mod Violations
 pub mod Spelling
-pub mod PrintedWords
-pub mod PrintedNumbers
-pub mod PrintedAttributes
-pub mod PrintedDense
-pub mod PrintedNames
-pub mod PrintedRows
-pub mod PrintedForm
 pub mod Spots
 pub mod Bounds
 pub mod Limits

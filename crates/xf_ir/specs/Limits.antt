@@ -1,16 +1,9 @@
 -- How much a payload may have: the regions that are open at a place, and the operations.
 use Rattle.std.specs.Prelude.{ℕ, ◌+◌, ◌<◌, ◌≤◌}
+pub use Rattle.xf_type.specs.Limits.{most_open, most_operations}
 use Rattle.xf_ir.specs.declared.op.Module.{Module}
 use Rattle.xf_ir.specs.Count.{tree_count}
 use Rattle.xf_ir.specs.Tree.{Ops, no_ops, op, Regions, no_regions, region}
-
--- how many regions may be open
-abbrev pub most_open : ℕ
-most_open = 32
-
--- how many operations there may be, with the module and the yields that a text leaves out
-abbrev pub most_operations : ℕ
-most_operations = 1000000
 
 -- inside so many open regions, no more than the limit are open anywhere
 abbrev mutual

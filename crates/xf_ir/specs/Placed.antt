@@ -1,5 +1,6 @@
 -- The operations of a module where they stand, in preorder: what each rule looks at.
-use Rattle.std.specs.Prelude.{◌≡◌, ℕ, suc, List, [], ◌∷◌, ◌++◌, length, map, slice_get, Option, Some, None, Bool, true}
+use Rattle.std.specs.Prelude.{◌≡◌, ℕ, suc, List, [], ◌∷◌, ◌++◌, length, map}
+use Rattle.std.specs.Prelude.{slice_get, Option, Some, None, Bool, true}
 use Rattle.xf_type.specs.declared.payload_type.PayloadType.{PayloadType}
 use Rattle.xf_type.specs.declared.payload_type.PayloadType.TheVariants.{Scalar}
 use Rattle.xf_ir.specs.declared.name.OpName.{OpName}
@@ -38,7 +39,8 @@ abbrev pub body_gives : Option PayloadType → List PayloadType
 body_gives None = []
 body_gives (Some t) = Scalar (element_of t) ∷ []
 
--- a function is given the values that it returns, a loop and a condition their results, a body of linalg one element of the out
+-- a function is given the values that it returns, a loop and a condition their results, a body of linalg one element of
+-- the out
 abbrev pub gives_of : Kind → List (Option PayloadType) → List PayloadType → List PayloadType
 gives_of (kind.Func symbol private results) os ts = results
 gives_of (kind.For width) os ts = ts
@@ -49,7 +51,8 @@ gives_of _ os ts = []
 abbrev pub holder_of : Kind → List (Option PayloadType) → List PayloadType → Holder
 holder_of k os ts = record { kind = k; gives = gives_of k os ts }
 
--- an operation with what holds its block, the types of its operands where it stands, and what stands behind it in the block
+-- an operation with what holds its block, the types of its operands where it stands, and what stands behind it in the
+-- block
 pub record Placed : Type 0 where
   pub holder : Holder
   pub types : List (Option PayloadType)
@@ -65,11 +68,13 @@ abbrev mutual
   ops_placed h env no_ops = []
   ops_placed h env (op n k ds os ts rs rest) =
       place h env (record { name = n; kind = k; attrs = ds; operands = os; results = ts; regions = rs }) rest
-      ∷ (regions_placed (holder_of k (map (type_at env) os) ts) env n 0 rs ++ ops_placed h ((done n (length ts), ts) ∷ env) rest)
+      ∷ (regions_placed (holder_of k (map (type_at env) os) ts) env n 0 rs
+      ++ ops_placed h ((done n (length ts), ts) ∷ env) rest)
 
   pub regions_placed : Holder → Typed → OpName → ℕ → Regions → List Placed
   regions_placed h env n i no_regions = []
-  regions_placed h env n i (region args ops rest) = ops_placed h ((inside n i (length args), args) ∷ env) ops ++ regions_placed h env n (suc i) rest
+  regions_placed h env n i (region args ops rest) =
+      ops_placed h ((inside n i (length args), args) ∷ env) ops ++ regions_placed h env n (suc i) rest
 
 -- functions, each of which sees its own values alone
 abbrev pub functions_placed : Holder → Ops → List Placed

@@ -1,5 +1,6 @@
 -- Which values a place defines, and where they are visible (MLIR language reference: value scoping).
-use Rattle.std.specs.Prelude.{◌≡◌, ℕ, suc, List, [], ◌∷◌, length, Option, Some, None, Bool, true, false, ◌==◌, ◌&&◌, ◌||◌, if◌then◌else◌, nat_lt, is_some}
+use Rattle.std.specs.Prelude.{◌≡◌, ℕ, suc, List, [], ◌∷◌, length, Option, Some, None, Bool, true}
+use Rattle.std.specs.Prelude.{false, ◌==◌, ◌&&◌, ◌||◌, if◌then◌else◌, nat_lt, is_some}
 use Rattle.xf_ir.specs.declared.name.OpName.{OpName}
 use Rattle.xf_ir.specs.declared.name.ValueName.{ValueName}
 use Rattle.xf_ir.specs.declared.name.ValueName.TheVariants.{Result, Arg, Free}
@@ -24,7 +25,8 @@ args_of n i count (Result o num) = None
 args_of n i count (Arg o r num) = if (o.0 == n.0) && (r == i) then below num count else None
 args_of n i count (Free num) = None
 
--- what is visible at a place: operations that stand before it in its block or in an enclosing one, and the arguments of enclosing blocks
+-- what is visible at a place: operations that stand before it in its block or in an enclosing one, and the arguments of
+-- enclosing blocks
 pub data Seen : Type 0 where
   done : (name : OpName) (count : ℕ) → Seen
   inside : (name : OpName) (region count : ℕ) → Seen
@@ -52,11 +54,14 @@ abbrev mutual
   pub OpsScoped : List Seen → Ops → Type 0
   OpsScoped ss no_ops = Unit {0}
   OpsScoped ss (op n k ds os ts rs rest) =
-      AllSeen ss os × (IsFresh ss (results_of n (length ts)) × (RegionsScoped ss n 0 rs × OpsScoped (done n (length ts) ∷ ss) rest))
+      AllSeen ss os
+      × (IsFresh ss (results_of n (length ts)) × (RegionsScoped ss n 0 rs × OpsScoped (done n (length ts) ∷ ss) rest))
 
   pub RegionsScoped : List Seen → OpName → ℕ → Regions → Type 0
   RegionsScoped ss n i no_regions = Unit {0}
-  RegionsScoped ss n i (region args ops rest) = IsFresh ss (args_of n i (length args)) × (OpsScoped (inside n i (length args) ∷ ss) ops × RegionsScoped ss n (suc i) rest)
+  RegionsScoped ss n i (region args ops rest) =
+      IsFresh ss (args_of n i (length args))
+      × (OpsScoped (inside n i (length args) ∷ ss) ops × RegionsScoped ss n (suc i) rest)
 
 -- each function sees its own values alone
 abbrev pub FunctionsScoped : Ops → Type 0

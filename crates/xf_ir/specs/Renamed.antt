@@ -16,14 +16,23 @@ value_renamed f (Free num) = Free num
 abbrev mutual
   pub ops_renamed : (OpName → OpName) → Ops → Ops
   ops_renamed f no_ops = no_ops
-  ops_renamed f (op n k ds os ts rs rest) = op (f n) k ds (map (value_renamed f) os) ts (regions_renamed f rs) (ops_renamed f rest)
+  ops_renamed f (op n k ds os ts rs rest) =
+      op (f n) k ds (map (value_renamed f) os) ts (regions_renamed f rs) (ops_renamed f rest)
 
   pub regions_renamed : (OpName → OpName) → Regions → Regions
   regions_renamed f no_regions = no_regions
   regions_renamed f (region args ops rest) = region args (ops_renamed f ops) (regions_renamed f rest)
 
 abbrev pub tree_renamed : (OpName → OpName) → Tree → Tree
-tree_renamed f t = record { name = f t.name; kind = t.kind; attrs = t.attrs; operands = map (value_renamed f) t.operands; results = t.results; regions = regions_renamed f t.regions }
+tree_renamed f t =
+    record {
+      name = f t.name;
+      kind = t.kind;
+      attrs = t.attrs;
+      operands = map (value_renamed f) t.operands;
+      results = t.results;
+      regions = regions_renamed f t.regions;
+    }
 
 -- the second is the first with other names, and different names stay different
 pub record IsRenamed (m m' : Module) : Type 0 where

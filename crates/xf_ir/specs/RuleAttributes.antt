@@ -1,5 +1,6 @@
 -- Attributes, and the ranges of types.
-use Rattle.std.specs.Prelude.{ℕ, ◌*◌, ◌^◌, List, [], ◌∷◌, length, Option, Some, None, Bool, true, false, not, ◌==◌, ◌&&◌, ◌||◌, nat_lt, nat_le, if◌then◌else◌}
+use Rattle.std.specs.Prelude.{ℕ, ◌*◌, ◌^◌, List, [], ◌∷◌, length, Option, Some, None, Bool, true}
+use Rattle.std.specs.Prelude.{not, ◌==◌, ◌&&◌, ◌||◌, nat_lt, nat_le, if◌then◌else◌}
 use Rattle.xf_type.specs.declared.payload_type.PayloadType.{PayloadType}
 use Rattle.xf_type.specs.declared.payload_type.Shape.{Shape}
 use Rattle.xf_type.specs.declared.payload_type.Dim.{Dim}
@@ -18,12 +19,13 @@ use Rattle.xf_ir.specs.Kinds.{returned_types}
 use Rattle.xf_ir.specs.Lists.{every, is_empty}
 use Rattle.xf_ir.specs.Words.{is_word}
 use Rattle.xf_ir.specs.Attributes.{bytes_before}
-use Rattle.xf_ir.specs.Types.{same_width, is_dynamic, dims_of, rank_of}
+use Rattle.xf_type.specs.Equal.{same_width}
+use Rattle.xf_ir.specs.Types.{is_dynamic, dims_of, rank_of}
 use Rattle.xf_ir.specs.RuleBlocks.{block_args}
 use Rattle.xf_ir.specs.Placed.{Placed}
 
--- ---- V7: symbols and names of discardable attributes are words, the latter different within one operation; numbers are below
--- ---- 2 ^ bits; the attributes of the kind fit
+-- ---- V7: symbols and names of discardable attributes are words, the latter different within one operation; numbers
+-- ---- are below 2 ^ bits; the attributes of the kind fit
 
 abbrev pub fits_bits : Width → ℕ → Bool
 fits_bits w n = nat_lt n (2 ^ bits_of w)
@@ -36,7 +38,9 @@ value_fits (Text bytes) = true
 -- discardable attributes: each name is a word and comes before those of all later ones, and each value fits
 abbrev pub attributes_fit : List Attr → Bool
 attributes_fit [] = true
-attributes_fit (d ∷ ds) = (is_word d.name && value_fits d.value) && (every (λ (e : Attr). bytes_before d.name e.name) ds && attributes_fit ds)
+attributes_fit (d ∷ ds) =
+    (is_word d.name && value_fits d.value)
+    && (every (λ (e : Attr). bytes_before d.name e.name) ds && attributes_fit ds)
 
 -- the number of elements of a tensor whose dimensions are fixed
 abbrev pub element_count : List Dim → ℕ
@@ -50,7 +54,8 @@ all_equal (x ∷ xs) = every (λ y. y == x) xs
 
 -- the numbers of so many elements: none for none, the one number of all, or one for each where they are not all equal
 abbrev pub numbers_of : ℕ → List ℕ → Bool
-numbers_of count ns = if count == 0 then is_empty ns else ((length ns == 1) || ((length ns == count) && not (all_equal ns)))
+numbers_of count ns =
+    if count == 0 then is_empty ns else ((length ns == 1) || ((length ns == count) && not (all_equal ns)))
 
 -- a dense constant has a fixed shape of at most 1,048,576 elements
 abbrev pub dense_fits : Shape → List ℕ → Bool
@@ -104,4 +109,6 @@ type_fits t = nat_le (rank_of t) 8 && every dim_fits (dims_of t)
 
 -- the types of its results, of its block arguments and, for a function, of what it returns
 abbrev pub has_types_in_range : Placed → Bool
-has_types_in_range p = every type_fits p.tree.results && (every type_fits (returned_types p.tree.kind) && every (every type_fits) (block_args p.tree.regions))
+has_types_in_range p =
+    every type_fits p.tree.results
+    && (every type_fits (returned_types p.tree.kind) && every (every type_fits) (block_args p.tree.regions))

@@ -1,5 +1,6 @@
 -- V10 to V14: structured operations, by their maps, iterators and bodies (MLIR: the linalg dialect).
-use Rattle.std.specs.Prelude.{ℕ, zero, suc, ◌+◌, ◌-◌, List, [], ◌∷◌, ◌++◌, length, Option, Some, None, Bool, true, false, not, ◌==◌, ◌&&◌, ◌||◌, nat_lt, if◌then◌else◌}
+use Rattle.std.specs.Prelude.{ℕ, zero, suc, ◌+◌, ◌-◌, List, [], ◌∷◌, ◌++◌, length, Option, Some, None}
+use Rattle.std.specs.Prelude.{Bool, true, false, not, ◌==◌, ◌&&◌, ◌||◌, nat_lt, if◌then◌else◌}
 use Rattle.xf_type.specs.declared.payload_type.PayloadType.{PayloadType}
 use Rattle.xf_type.specs.declared.payload_type.Dim.{Dim}
 use Rattle.xf_type.specs.declared.payload_type.Dim.TheVariants.{Fixed, Dynamic}
@@ -36,7 +37,8 @@ counted from (suc k) = from ∷ counted (from + 1) k
 -- the maps of the operands; a fill's out has all dimensions in order
 abbrev pub named_maps : NamedKind → ℕ → List AffineMap
 named_maps Matmul rank = to_dims 3 (0 ∷ (2 ∷ [])) ∷ (to_dims 3 (2 ∷ (1 ∷ [])) ∷ (to_dims 3 (0 ∷ (1 ∷ [])) ∷ []))
-named_maps BatchMatmul rank = to_dims 4 (0 ∷ (1 ∷ (3 ∷ []))) ∷ (to_dims 4 (0 ∷ (3 ∷ (2 ∷ []))) ∷ (to_dims 4 (0 ∷ (1 ∷ (2 ∷ []))) ∷ []))
+named_maps BatchMatmul rank =
+    to_dims 4 (0 ∷ (1 ∷ (3 ∷ []))) ∷ (to_dims 4 (0 ∷ (3 ∷ (2 ∷ []))) ∷ (to_dims 4 (0 ∷ (1 ∷ (2 ∷ []))) ∷ []))
 named_maps Matvec rank = to_dims 2 (0 ∷ (1 ∷ [])) ∷ (to_dims 2 (1 ∷ []) ∷ (to_dims 2 (0 ∷ []) ∷ []))
 named_maps Dot rank = to_dims 1 (0 ∷ []) ∷ (to_dims 1 (0 ∷ []) ∷ (to_dims 1 [] ∷ []))
 named_maps Fill rank = to_dims rank [] ∷ (to_dims rank (counted 0 rank) ∷ [])
@@ -71,8 +73,8 @@ iterators_of (kind.Named which) os = named_iterators which (rank_or_none (last_t
 iterators_of (kind.Generic maps iterators) os = iterators
 iterators_of _ os = []
 
--- ---- V10: maps are projected permutations over as many dimensions as iterators, with as many results as the operand's rank (0
--- ---- for a scalar), and each dimension is in some map
+-- ---- V10: maps are projected permutations over as many dimensions as iterators, with as many results as the operand's
+-- ---- rank (0 for a scalar), and each dimension is in some map
 
 abbrev pub is_number_among : ℕ → List ℕ → Bool
 is_number_among d ds = some (λ e. e == d) ds
@@ -104,7 +106,9 @@ abbrev pub maps_fit : List AffineMap → ℕ → List (Option PayloadType) → B
 maps_fit maps count os = every (is_projection count) maps && (have_ranks maps os && are_covered maps count)
 
 abbrev pub has_its_maps : Placed → Bool
-has_its_maps p = not (is_structured p.tree.kind) || maps_fit (maps_of p.tree.kind p.types) (length (iterators_of p.tree.kind p.types)) p.types
+has_its_maps p =
+    not (is_structured p.tree.kind)
+    || maps_fit (maps_of p.tree.kind p.types) (length (iterators_of p.tree.kind p.types)) p.types
 
 -- ---- V11: a dimension is parallel exactly where the out map has it, else reduction
 
@@ -129,8 +133,8 @@ iterators_fit out d (i ∷ is) = same_truth (is_parallel i) (is_number_among d o
 abbrev pub has_its_iterators : Placed → Bool
 has_its_iterators p = iterators_fit (last_results (maps_of p.tree.kind p.types)) 0 (iterators_of p.tree.kind p.types)
 
--- ---- V12: with a reduction the body yields c(out, e) in either operand order, the out argument used nowhere else and e not
--- ---- depending on it
+-- ---- V12: with a reduction the body yields c(out, e) in either operand order, the out argument used nowhere else and
+-- ---- e not depending on it
 
 abbrev pub is_combiner : Kind → Bool
 is_combiner (kind.Binary bin.Addi width) = true
@@ -182,7 +186,8 @@ is_apart out body e = not (depends out (all_dependents out body body []) e)
 
 -- the out argument and another value that does not depend on it, in either order
 abbrev pub joins_out : ValueName → Ops → List ValueName → Bool
-joins_out out body (a ∷ (b ∷ [])) = (same_value a out && is_apart out body b) || (same_value b out && is_apart out body a)
+joins_out out body (a ∷ (b ∷ [])) =
+    (same_value a out && is_apart out body b) || (same_value b out && is_apart out body a)
 joins_out out body _ = false
 
 abbrev pub combines : ValueName → Ops → Option Tree → Bool
@@ -200,7 +205,8 @@ abbrev pub out_argument : Tree → ValueName
 out_argument t = Arg t.name 0 (length t.operands - 1)
 
 abbrev pub reduces : Kind → Tree → Bool
-reduces (kind.Generic maps iterators) t = not (has_reduction iterators) || is_reduction (out_argument t) (block_of t.regions)
+reduces (kind.Generic maps iterators) t =
+    not (has_reduction iterators) || is_reduction (out_argument t) (block_of t.regions)
 reduces _ t = true
 
 abbrev pub has_its_reduction : Placed → Bool

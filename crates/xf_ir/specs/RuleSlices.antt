@@ -1,6 +1,8 @@
--- V16: slices keep rank and element type and have fixed offsets and sizes of at least 0; the smaller type has a fixed dimension
--- exactly where the size is fixed, and equal to it (MLIR: tensor.extract_slice, tensor.insert_slice). Strides are 1.
-use Rattle.std.specs.Prelude.{ℕ, List, [], ◌∷◌, length, Option, Some, None, Bool, true, false, ◌==◌, ◌&&◌, ℤ, pos, negsuc}
+-- V16: slices keep rank and element type and have fixed offsets and sizes of at least 0; the smaller type has a fixed
+-- dimension exactly where the size is fixed, and equal to it (MLIR: tensor.extract_slice, tensor.insert_slice). Strides
+-- are 1.
+use Rattle.std.specs.Prelude.{ℕ, List, [], ◌∷◌, length, Option, Some, None, Bool}
+use Rattle.std.specs.Prelude.{true, false, ◌==◌, ◌&&◌, ℤ, pos, negsuc}
 use Rattle.xf_type.specs.declared.payload_type.PayloadType.{PayloadType}
 use Rattle.xf_type.specs.declared.payload_type.Shape.{Shape}
 use Rattle.xf_type.specs.declared.payload_type.Dim.{Dim}
@@ -10,7 +12,8 @@ use Rattle.xf_ir.specs.declared.kind.Kind.TheVariants as kind
 use Rattle.xf_ir.specs.declared.kind.SliceIndex.{SliceIndex}
 use Rattle.xf_ir.specs.declared.kind.SliceIndex.TheVariants as index
 use Rattle.xf_ir.specs.Lists.{every, behind_first}
-use Rattle.xf_ir.specs.Types.{same_width, first_type, is_tensor_with}
+use Rattle.xf_type.specs.Equal.{same_width}
+use Rattle.xf_ir.specs.Types.{first_type, is_tensor_with}
 use Rattle.xf_ir.specs.Placed.{Placed}
 
 abbrev pub is_positive : ℤ → Bool
@@ -54,7 +57,8 @@ first_result (t ∷ ts) = Some t
 
 abbrev pub slices : Kind → List (Option PayloadType) → List PayloadType → Bool
 slices (kind.ExtractSlice offsets sizes) os ts = slice_between offsets sizes (first_result ts) (first_type os)
-slices (kind.InsertSlice offsets sizes) os ts = slice_between offsets sizes (first_type os) (first_type (behind_first os))
+slices (kind.InsertSlice offsets sizes) os ts =
+    slice_between offsets sizes (first_type os) (first_type (behind_first os))
 slices _ os ts = true
 
 abbrev pub has_its_slices : Placed → Bool

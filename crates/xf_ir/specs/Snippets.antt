@@ -14,7 +14,10 @@ pub record Fragment : Type 0 where
   pub results : List ValueName
 
 abbrev pub fragment_code : Coded Fragment
-fragment_code = code_by (Ops × List ValueName) (coded× (record { code = ops_code; inj = ops_inj }) (coded_list value_type.the_row.coded)) (λ f. (f.ops, f.results)) (λ p. record { ops = p.0; results = p.1 }) (λ _. refl)
+fragment_code =
+    code_by (Ops × List ValueName)
+    (coded× (record { code = ops_code; inj = ops_inj }) (coded_list value_type.the_row.coded))
+    (λ f. (f.ops, f.results)) (λ p. record { ops = p.0; results = p.1 }) (λ _. refl)
 
 abbrev pub fragment_of : Inside → Fragment
 fragment_of s = record { ops = ops_of s.ops.items; results = s.results }

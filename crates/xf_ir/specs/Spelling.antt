@@ -1,35 +1,10 @@
 -- How kinds are spelt: the names of MLIR's operations.
 use Rattle.std.specs.Prelude.{ℕ, List, codes}
-use Rattle.xf_type.specs.declared.kind.BinKind.{BinKind}
-use Rattle.xf_type.specs.declared.kind.BinKind.TheVariants.{Addi, Subi, Muli, Andi, Ori, Xori, Shli, Shrui, Shrsi, Minsi, Maxsi, Minui, Maxui}
-use Rattle.xf_type.specs.declared.kind.ConvKind.{ConvKind}
-use Rattle.xf_type.specs.declared.kind.ConvKind.TheVariants.{Extsi, Extui, Trunci, IndexCast, IndexCastui}
+use Rattle.xf_type.specs.Spelling.{binary_spelling, conversion_spelling}
 use Rattle.xf_ir.specs.declared.kind.Kind.{Kind}
 use Rattle.xf_ir.specs.declared.kind.Kind.TheVariants as kind
 use Rattle.xf_ir.specs.declared.kind.NamedKind.{NamedKind}
 use Rattle.xf_ir.specs.declared.kind.NamedKind.TheVariants.{Matmul, BatchMatmul, Matvec, Dot, Fill}
-
-abbrev pub binary_spelling : BinKind → List ℕ
-binary_spelling Addi = codes "arith.addi"
-binary_spelling Subi = codes "arith.subi"
-binary_spelling Muli = codes "arith.muli"
-binary_spelling Andi = codes "arith.andi"
-binary_spelling Ori = codes "arith.ori"
-binary_spelling Xori = codes "arith.xori"
-binary_spelling Shli = codes "arith.shli"
-binary_spelling Shrui = codes "arith.shrui"
-binary_spelling Shrsi = codes "arith.shrsi"
-binary_spelling Minsi = codes "arith.minsi"
-binary_spelling Maxsi = codes "arith.maxsi"
-binary_spelling Minui = codes "arith.minui"
-binary_spelling Maxui = codes "arith.maxui"
-
-abbrev pub conversion_spelling : ConvKind → List ℕ
-conversion_spelling Extsi = codes "arith.extsi"
-conversion_spelling Extui = codes "arith.extui"
-conversion_spelling Trunci = codes "arith.trunci"
-conversion_spelling IndexCast = codes "arith.index_cast"
-conversion_spelling IndexCastui = codes "arith.index_castui"
 
 abbrev pub named_spelling : NamedKind → List ℕ
 named_spelling Matmul = codes "linalg.matmul"

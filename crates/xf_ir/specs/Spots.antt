@@ -11,11 +11,19 @@ abbrev mutual
   pub ops_locate : OpName → OpName → ℕ → ℕ → Ops → Option Located
   ops_locate name p r i no_ops = None
   ops_locate name p r i (op n k ds os ts rs rest) =
-      first_of (if n.0 == name.0 then Some (record { spot = record { parent = p; region = r; at = i }; tree = record { name = n; kind = k; attrs = ds; operands = os; results = ts; regions = rs } }) else regions_locate name n 0 rs) (ops_locate name p r (i + 1) rest)
+      first_of
+      (if n.0 == name.0
+      then Some (record {
+        spot = record { parent = p; region = r; at = i };
+        tree = record { name = n; kind = k; attrs = ds; operands = os; results = ts; regions = rs };
+      })
+      else regions_locate name n 0 rs)
+      (ops_locate name p r (i + 1) rest)
 
   pub regions_locate : OpName → OpName → ℕ → Regions → Option Located
   regions_locate name p r no_regions = None
-  regions_locate name p r (region args ops rest) = first_of (ops_locate name p r 0 ops) (regions_locate name p (r + 1) rest)
+  regions_locate name p r (region args ops rest) =
+      first_of (ops_locate name p r 0 ops) (regions_locate name p (r + 1) rest)
 
 -- the first operation of a name that a tree holds, with its spot
 abbrev pub tree_locate : OpName → Tree → Option Located
@@ -51,14 +59,21 @@ abbrev mutual
   pub ops_put : Spot → Tree → Ops → Ops
   ops_put s t no_ops = no_ops
   ops_put s t (op n k ds os ts rs rest) =
-      op n k ds os ts (if n.0 == s.parent.0 then regions_insert s.region s.at t rs else regions_put s t rs) (ops_put s t rest)
+      op n k ds os ts
+      (if n.0 == s.parent.0 then regions_insert s.region s.at t rs else regions_put s t rs)
+      (ops_put s t rest)
 
   pub regions_put : Spot → Tree → Regions → Regions
   regions_put s t no_regions = no_regions
   regions_put s t (region args ops rest) = region args (ops_put s t ops) (regions_put s t rest)
 
 abbrev pub tree_put : Spot → Tree → Tree → Tree
-tree_put s t root = record root { regions = if root.name.0 == s.parent.0 then regions_insert s.region s.at t root.regions else regions_put s t root.regions }
+tree_put s t root =
+    record root {
+      regions =
+          if root.name.0 == s.parent.0 then regions_insert s.region s.at t root.regions
+          else regions_put s t root.regions;
+    }
 
 abbrev pub body_put : Spot → Tree → Body → Body
 body_put s t b = record b { ops = ops_put s t b.ops }

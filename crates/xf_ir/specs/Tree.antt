@@ -18,7 +18,8 @@ mutual
   -- the operations of a block, in order
   pub data Ops : Type 0 where
     no_ops : Ops
-    op : (name : OpName) (kind : Kind) (attrs : List Attr) (operands : List ValueName) (results : List PayloadType) (regions : Regions) (rest : Ops) → Ops
+    op : (name : OpName) (kind : Kind) (attrs : List Attr) (operands : List ValueName) (results : List PayloadType)
+        (regions : Regions) (rest : Ops) → Ops
 
   -- the regions of an operation, each of one block, in order
   pub data Regions : Type 0 where
@@ -48,7 +49,11 @@ abbrev pub OpFields : Type 0
 OpFields = OpName × (Kind × (List Attr × (List ValueName × List PayloadType)))
 
 abbrev pub fields_code : Coded OpFields
-fields_code = coded× name_type.the_row.coded (coded× kind_type.the_row.coded (coded× (coded_list attr_type.the_row.coded) (coded× (coded_list value_type.the_row.coded) (coded_list payload_type.the_row.coded))))
+fields_code =
+    coded× name_type.the_row.coded
+    (coded× kind_type.the_row.coded
+    (coded× (coded_list attr_type.the_row.coded)
+    (coded× (coded_list value_type.the_row.coded) (coded_list payload_type.the_row.coded))))
 
 abbrev pub types_code : Coded (List PayloadType)
 types_code = coded_list payload_type.the_row.coded
@@ -56,13 +61,15 @@ types_code = coded_list payload_type.the_row.coded
 abbrev mutual
   pub ops_code : Ops → Gv
   ops_code no_ops = gnil
-  ops_code (op n k ds os ts rs rest) = gcons (fields_code.code (n, (k, (ds, (os, ts))))) (gcons (regions_code rs) (ops_code rest))
+  ops_code (op n k ds os ts rs rest) =
+      gcons (fields_code.code (n, (k, (ds, (os, ts))))) (gcons (regions_code rs) (ops_code rest))
 
   pub regions_code : Regions → Gv
   regions_code no_regions = gnil
   regions_code (region args ops rest) = gcons (types_code.code args) (gcons (ops_code ops) (regions_code rest))
 
-same_op : (h h' : OpFields) (rs rs' : Regions) (rest rest' : Ops) → h ≡ h' → rs ≡ rs' → rest ≡ rest' → op h.0 h.1.0 h.1.1.0 h.1.1.1.0 h.1.1.1.1 rs rest ≡ op h'.0 h'.1.0 h'.1.1.0 h'.1.1.1.0 h'.1.1.1.1 rs' rest'
+same_op : (h h' : OpFields) (rs rs' : Regions) (rest rest' : Ops) → h ≡ h' → rs ≡ rs' → rest ≡ rest'
+    → op h.0 h.1.0 h.1.1.0 h.1.1.1.0 h.1.1.1.1 rs rest ≡ op h'.0 h'.1.0 h'.1.1.0 h'.1.1.1.0 h'.1.1.1.1 rs' rest'
 same_op h h' rs rs' rest rest' p q r = cc
 
 mutual
@@ -86,7 +93,20 @@ mutual
       cc
 
 abbrev pub tree_code : Coded Tree
-tree_code = code_by (OpFields × Regions) (coded× fields_code (record { code = regions_code; inj = regions_inj })) (λ t. ((t.name, (t.kind, (t.attrs, (t.operands, t.results)))), t.regions)) (λ p. record { name = p.0.0; kind = p.0.1.0; attrs = p.0.1.1.0; operands = p.0.1.1.1.0; results = p.0.1.1.1.1; regions = p.1 }) (λ _. refl)
+tree_code =
+    code_by (OpFields × Regions) (coded× fields_code (record { code = regions_code; inj = regions_inj }))
+    (λ t. ((t.name, (t.kind, (t.attrs, (t.operands, t.results)))), t.regions))
+    (λ p. record {
+      name = p.0.0;
+      kind = p.0.1.0;
+      attrs = p.0.1.1.0;
+      operands = p.0.1.1.1.0;
+      results = p.0.1.1.1.1;
+      regions = p.1;
+    })
+    (λ _. refl)
 
 abbrev pub body_code : Coded Body
-body_code = code_by (List PayloadType × Ops) (coded× types_code (record { code = ops_code; inj = ops_inj })) (λ b. (b.args, b.ops)) (λ p. record { args = p.0; ops = p.1 }) (λ _. refl)
+body_code =
+    code_by (List PayloadType × Ops) (coded× types_code (record { code = ops_code; inj = ops_inj }))
+    (λ b. (b.args, b.ops)) (λ p. record { args = p.0; ops = p.1 }) (λ _. refl)

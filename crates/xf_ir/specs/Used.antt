@@ -27,7 +27,11 @@ abbrev mutual
   pub ops_first : (Tree → Bool) → Ops → Option OpName
   ops_first p no_ops = None
   ops_first p (op n k ds os ts rs rest) =
-      first_of (if p (record { name = n; kind = k; attrs = ds; operands = os; results = ts; regions = rs }) then Some n else regions_first p rs) (ops_first p rest)
+      first_of
+      (if p (record { name = n; kind = k; attrs = ds; operands = os; results = ts; regions = rs })
+      then Some n
+      else regions_first p rs)
+      (ops_first p rest)
 
   pub regions_first : (Tree → Bool) → Regions → Option OpName
   regions_first p no_regions = None

@@ -15,7 +15,15 @@ ops_of [] = no_ops
 ops_of (t ∷ ts) = cons t (ops_of ts)
 
 abbrev pub tree_of : Inside → Tree
-tree_of a = record { name = a.name; kind = a.kind; attrs = a.attrs; operands = a.operands; results = a.results; regions = regions_of a.regions.items }
+tree_of a =
+    record {
+      name = a.name;
+      kind = a.kind;
+      attrs = a.attrs;
+      operands = a.operands;
+      results = a.results;
+      regions = regions_of a.regions.items;
+    }
 
 abbrev pub body_of : BlockInside → Body
 body_of b = record { args = b.args; ops = ops_of b.ops.items }

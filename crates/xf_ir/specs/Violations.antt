@@ -97,7 +97,8 @@ broken_or (Some r) name later = Some (record { rule = r; op = name })
 
 abbrev pub first_broken : Module → List OpName → List Placed → Option Violation
 first_broken m before [] = None
-first_broken m before (p ∷ ps) = broken_or (first_false (rules_kept m before p)) p.tree.name (first_broken m (p.tree.name ∷ before) ps)
+first_broken m before (p ∷ ps) =
+    broken_or (first_false (rules_kept m before p)) p.tree.name (first_broken m (p.tree.name ∷ before) ps)
 
 -- the first operation in preorder that breaks a rule, with the first rule that it breaks
 abbrev pub first_violation : Module → Option Violation

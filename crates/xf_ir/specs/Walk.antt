@@ -38,7 +38,11 @@ abbrev mutual
   pub ops_find : OpName → Ops → Option Tree
   ops_find name no_ops = None
   ops_find name (op n k ds os ts rs rest) =
-      first_of (if n.0 == name.0 then Some (record { name = n; kind = k; attrs = ds; operands = os; results = ts; regions = rs }) else regions_find name rs) (ops_find name rest)
+      first_of
+      (if n.0 == name.0
+      then Some (record { name = n; kind = k; attrs = ds; operands = os; results = ts; regions = rs })
+      else regions_find name rs)
+      (ops_find name rest)
 
   pub regions_find : OpName → Regions → Option Tree
   regions_find name no_regions = None

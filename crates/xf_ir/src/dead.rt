@@ -67,7 +67,8 @@ fn find_outside_bodies(op: &Op, name: OpName) -> Option<&Op>
     None
 }
 
-/// The first operation inside another that may go where these are used, in preorder, without those in bodies of `linalg.generic`.
+/// The first operation inside another that may go where these are used, in preorder, without those in bodies of
+/// `linalg.generic`.
 fn first_inside(op: &Op, used: &NameSet) -> Option<OpName>
     ensures { result ≡ regions_first (goes_unused used.now) (bare op.now).regions }
 {

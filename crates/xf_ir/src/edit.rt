@@ -66,39 +66,86 @@ impl Edit {
     pub fn copy(&self, alloc: Global) -> Result<Edit, NoMemory>
         ensures { IfOk result (λ copy. copy ≡ self.now) }
     {
-        Ok(match self {
-            Edit::Insert { tree, at } => Edit::Insert {
-                tree: tree.copy(alloc)?,
-                at: *at,
-            },
-            Edit::Erase { op } => Edit::Erase { op: *op },
-            Edit::ReplaceUses { changes } => Edit::ReplaceUses {
-                changes: ListOf::from_slice(alloc, changes.as_slice())?,
-            },
-            Edit::Replace { op, by, changes } => Edit::Replace {
-                op: *op,
-                by: ValueList::from_slice(alloc, by.as_slice())?,
-                changes: ListOf::from_slice(alloc, changes.as_slice())?,
-            },
+        match self {
+            Edit::Insert { tree, at } => copy_insert(alloc, tree, *at),
+            Edit::Erase { op } => Ok(Edit::Erase { op: *op }),
+            Edit::ReplaceUses { changes } => copy_uses(alloc, changes),
+            Edit::Replace { op, by, changes } => copy_replace(alloc, *op, by, changes),
             Edit::Restore {
                 tree,
                 at,
                 by,
                 changes,
-            } => Edit::Restore {
-                tree: tree.copy(alloc)?,
-                at: *at,
-                by: ValueList::from_slice(alloc, by.as_slice())?,
-                changes: ListOf::from_slice(alloc, changes.as_slice())?,
-            },
-            Edit::Move { op, to } => Edit::Move { op: *op, to: *to },
-            Edit::SetAttr { op, key, value } => Edit::SetAttr {
-                op: *op,
-                key: key.duplicate(alloc)?,
-                value: copy_value(alloc, value)?,
-            },
-        })
+            } => copy_restore(alloc, tree, *at, by, changes),
+            Edit::Move { op, to } => Ok(Edit::Move { op: *op, to: *to }),
+            Edit::SetAttr { op, key, value } => copy_set_attr(alloc, *op, key, value),
+        }
     }
+}
+
+/// A copy of an insertion.
+fn copy_insert(alloc: Global, tree: &Op, at: Spot) -> Result<Edit, NoMemory>
+    ensures { IfOk result (λ copy. copy ≡ Edit.Insert tree.now at) }
+{
+    let tree = tree.copy(alloc)?;
+    Ok(Edit::Insert { tree, at })
+}
+
+/// A copy of changes of uses.
+fn copy_uses(alloc: Global, changes: &ChangeList) -> Result<Edit, NoMemory>
+    ensures { IfOk result (λ copy. copy ≡ Edit.ReplaceUses changes.now) }
+{
+    let changes = ListOf::from_slice(alloc, changes.as_slice())?;
+    Ok(Edit::ReplaceUses { changes })
+}
+
+/// A copy of a replacement.
+fn copy_replace(
+    alloc: Global,
+    op: OpName,
+    by: &ValueList,
+    changes: &ChangeList,
+) -> Result<Edit, NoMemory>
+    ensures { IfOk result (λ copy. copy ≡ Edit.Replace op by.now changes.now) }
+{
+    let by = ValueList::from_slice(alloc, by.as_slice())?;
+    let changes = ListOf::from_slice(alloc, changes.as_slice())?;
+    Ok(Edit::Replace { op, by, changes })
+}
+
+/// A copy of the inverse of a replacement.
+fn copy_restore(
+    alloc: Global,
+    tree: &Op,
+    at: Spot,
+    by: &ValueList,
+    changes: &ChangeList,
+) -> Result<Edit, NoMemory>
+    ensures { IfOk result (λ copy. copy ≡ Edit.Restore tree.now at by.now changes.now) }
+{
+    let tree = tree.copy(alloc)?;
+    let by = ValueList::from_slice(alloc, by.as_slice())?;
+    let changes = ListOf::from_slice(alloc, changes.as_slice())?;
+    Ok(Edit::Restore {
+        tree,
+        at,
+        by,
+        changes,
+    })
+}
+
+/// A copy of the change of an attribute.
+fn copy_set_attr(
+    alloc: Global,
+    op: OpName,
+    key: &ByteList,
+    value: &Option<AttrValue>,
+) -> Result<Edit, NoMemory>
+    ensures { IfOk result (λ copy. copy ≡ Edit.SetAttr op key.now value.now) }
+{
+    let key = key.duplicate(alloc)?;
+    let value = copy_value(alloc, value)?;
+    Ok(Edit::SetAttr { op, key, value })
 }
 
 /// Takes the operation of that name out of what an operation holds.
@@ -197,7 +244,8 @@ fn restore(
     at: Spot,
     changes: &[Change],
 ) -> Result<(), NoMemory>
-    ensures ok { OnOk result (m.new ≡ record m.old { root = tree_changed changes.now (tree_put at tree.now m.old.root) }) }
+    ensures ok { OnOk result
+        (m.new ≡ record m.old { root = tree_changed changes.now (tree_put at tree.now m.old.root) }) }
     ensures err { OnErr result (m.new ≡ m.old) }
 {
     let root = with_tree(alloc, &m.root, at, tree)?;
@@ -230,7 +278,8 @@ fn set_attr(
     key: &ByteList,
     value: &Option<AttrValue>,
 ) -> Result<(), NoMemory>
-    ensures ok { OnOk result (m.new ≡ record m.old { root = tree_attributed op (attr_set key.now value.now) m.old.root }) }
+    ensures ok { OnOk result
+        (m.new ≡ record m.old { root = tree_attributed op (attr_set key.now value.now) m.old.root }) }
     ensures err { OnErr result (m.new ≡ m.old) }
 {
     m.root = with_attr(alloc, &m.root, op, key, value)?;

@@ -1,6 +1,6 @@
 //! What an operation is, with the attributes of its own.
 ghost use Rattle.std.specs.Prelude.{◌≡◌};
-ghost use Rattle.xf_ir.specs.Kinds.{is_container, is_terminator, is_generic};
+ghost use Rattle.xf_ir.specs.Kinds.{is_container, has_body, has_else, is_terminator, is_generic};
 
 use xf_type::{
     AffineMap, AttrValue, BinKind, ByteList, CmpKind, ConvKind, ListOf, Shape, TypeList, Width,
@@ -56,8 +56,8 @@ pub enum NamedKind {
 
 /// The kind of an operation, with the attributes that belong to it.
 ///
-/// A number of a constant is that of its bits where it fits the width, so below 2^bits. A literal that does not fit has a
-/// number of at least 2^bits: itself, or 2^128 less its magnitude where it is negative.
+/// A number of a constant is that of its bits where it fits the width, so below 2^bits. A literal that does not fit has
+/// a number of at least 2^bits: itself, or 2^128 less its magnitude where it is negative.
 #[derive(Drop)]
 pub enum Kind {
     /// `builtin.module`: one region of functions.
@@ -81,7 +81,8 @@ pub enum Kind {
         width: Width,
         bits: u128,
     },
-    /// `arith.constant` of a tensor: its numbers in row-major order, or the one number of all elements where they are equal.
+    /// `arith.constant` of a tensor: its numbers in row-major order, or the one number of all elements where they are
+    /// equal.
     Dense {
         shape: Shape,
         numbers: NumberList,
@@ -155,6 +156,30 @@ impl Kind {
         match self {
             Kind::Module { .. } => true,
             Kind::Func { .. } => true,
+            _ => false,
+        }
+    }
+
+    /// Whether it has a region.
+    pub fn has_body(&self) -> bool
+        ensures { result ≡ has_body self.now }
+    {
+        match self {
+            Kind::Module { .. } => true,
+            Kind::Func { .. } => true,
+            Kind::For { .. } => true,
+            Kind::If => true,
+            Kind::Generic { .. } => true,
+            _ => false,
+        }
+    }
+
+    /// Whether it has a second region, that of else, which it may lack where it has no results.
+    pub fn has_else(&self) -> bool
+        ensures { result ≡ has_else self.now }
+    {
+        match self {
+            Kind::If => true,
             _ => false,
         }
     }

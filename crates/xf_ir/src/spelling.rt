@@ -1,41 +1,8 @@
 //! How kinds are spelt.
 ghost use Rattle.std.specs.Prelude.{◌≡◌, codes};
-ghost use Rattle.xf_ir.specs.Spelling.{binary_spelling, conversion_spelling, named_spelling, spelling};
+ghost use Rattle.xf_ir.specs.Spelling.{named_spelling, spelling};
 
 use crate::kind::{Kind, NamedKind};
-use xf_type::{BinKind, ConvKind};
-
-fn binary_spelling(kind: BinKind) -> &'static [u8]
-    ensures { result.now ≡ binary_spelling kind }
-{
-    match kind {
-        BinKind::Addi => b"arith.addi",
-        BinKind::Subi => b"arith.subi",
-        BinKind::Muli => b"arith.muli",
-        BinKind::Andi => b"arith.andi",
-        BinKind::Ori => b"arith.ori",
-        BinKind::Xori => b"arith.xori",
-        BinKind::Shli => b"arith.shli",
-        BinKind::Shrui => b"arith.shrui",
-        BinKind::Shrsi => b"arith.shrsi",
-        BinKind::Minsi => b"arith.minsi",
-        BinKind::Maxsi => b"arith.maxsi",
-        BinKind::Minui => b"arith.minui",
-        BinKind::Maxui => b"arith.maxui",
-    }
-}
-
-fn conversion_spelling(kind: ConvKind) -> &'static [u8]
-    ensures { result.now ≡ conversion_spelling kind }
-{
-    match kind {
-        ConvKind::Extsi => b"arith.extsi",
-        ConvKind::Extui => b"arith.extui",
-        ConvKind::Trunci => b"arith.trunci",
-        ConvKind::IndexCast => b"arith.index_cast",
-        ConvKind::IndexCastui => b"arith.index_castui",
-    }
-}
 
 fn named_spelling(kind: NamedKind) -> &'static [u8]
     ensures { result.now ≡ named_spelling kind }
@@ -61,10 +28,10 @@ impl Kind {
             Kind::Call { .. } => b"func.call",
             Kind::Constant { .. } => b"arith.constant",
             Kind::Dense { .. } => b"arith.constant",
-            Kind::Binary { kind, .. } => binary_spelling(*kind),
+            Kind::Binary { kind, .. } => kind.spelling(),
             Kind::Compare { .. } => b"arith.cmpi",
             Kind::Select { .. } => b"arith.select",
-            Kind::Convert { kind, .. } => conversion_spelling(*kind),
+            Kind::Convert { kind, .. } => kind.spelling(),
             Kind::For { .. } => b"scf.for",
             Kind::If => b"scf.if",
             Kind::Yield => b"scf.yield",

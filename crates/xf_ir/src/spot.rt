@@ -90,7 +90,8 @@ fn insert_in_regions(
     at: u32,
     tree: Op,
 ) -> Result<(), NoMemory>
-    ensures { OnOk result (regions_of regions.new.items ≡ regions_insert region at tree (regions_of regions.old.items)) }
+    ensures { OnOk result
+        (regions_of regions.new.items ≡ regions_insert region at tree (regions_of regions.old.items)) }
 {
     let region = region as usize;
     if region < regions.len() {

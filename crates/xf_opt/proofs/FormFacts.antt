@@ -18,11 +18,12 @@ use Rattle.xf_ir.specs.Places.{inside, done}
 use Rattle.xf_ir.specs.RuleBlocks.{block_args}
 use Rattle.xf_ir.specs.RuleTypes.{takes_gives, has_its_types}
 use Rattle.xf_ir.specs.Tree.{Ops, no_ops, op, Regions, no_regions, region, Tree}
-use Rattle.xf_ir.specs.Types.{have_types, same_types}
+use Rattle.xf_type.specs.Equal.{same_types}
+use Rattle.xf_ir.specs.Types.{have_types}
 use Rattle.xf_ir.proofs.Lists.{each_both, each_map}
-use Rattle.xf_roundtrip.specs.Printable.{AllBytes}
-use Rattle.xf_roundtrip.specs.Printing.{is_core, all_scalar, is_core_op, IsCore}
-use Rattle.xf_roundtrip.specs.Stored.{IsStored}
+use Rattle.xf_print_laws.specs.Stored.{AllBytes}
+use Rattle.xf_print_laws.specs.Core.{is_core, all_scalar, is_core_op, IsCore}
+use Rattle.xf_print_laws.specs.Stored.{IsStored}
 use Rattle.xf_opt.specs.Form.{is_i32, is_i32_at_most, is_one_i32, is_step_kind, has_no_regions, is_step, are_steps, IsFirstForm}
 use Rattle.xf_opt.proofs.FormParts.{empty, no_more, OneRegion, are_laid_out, parts}
 

@@ -6,7 +6,7 @@ use Rattle.xf_ir.specs.Valid.{IsValid}
 use Rattle.xf_ir.specs.Choices.{weight_at}
 use Rattle.xf_sem.specs.Keeps.{KeepsMeaning}
 use Rattle.xf_sem.proofs.Keeping.{keeping_composes}
-use Rattle.xf_ir.specs.PrintedForm.{printed_form}
+use Rattle.xf_printed.specs.PrintedForm.{printed_form}
 use Rattle.xf_read.specs.Names.{op_name}
 use Rattle.xf_read.proofs.Limits.{spelt_is_within_limits}
 use Rattle.xf_read.proofs.ShortLists.{spelt_is_short}

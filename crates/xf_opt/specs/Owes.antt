@@ -5,7 +5,7 @@ use Rattle.xf_ir.specs.declared.op.Module.{Module}
 use Rattle.xf_ir.specs.Valid.{IsValid}
 use Rattle.xf_ir.specs.Choices.{weight_at}
 use Rattle.xf_sem.specs.Keeps.{KeepsMeaning}
-use Rattle.xf_ir.specs.PrintedForm.{printed_form}
+use Rattle.xf_printed.specs.PrintedForm.{printed_form}
 use Rattle.xf_read.specs.Spells.{Spells}
 use Rattle.xf_ir.specs.Renamed.{IsRenamed}
 use Rattle.xf_payload.specs.Payload.{IsPayload}

@@ -18,13 +18,12 @@ use Rattle.xf_lex.specs.Bytes.{is_name_start, is_name_byte, is_mark, run, starts
 use Rattle.xf_lex.specs.Lexemes.{quoted_in, string_of, string_at, value_at, named_at, hash_at, shape_at, integer_of, sign_at, token_at}
 use Rattle.xf_lex.specs.Lexes.{HasFault, text_at}
 use Rattle.xf_read_base.specs.declared.verdict.Verdict.{Verdict}
-use Rattle.xf_read_base.specs.declared.verdict.Verdict.TheVariants.{Syntax, OutOfProfile, NotBuilt, TooMany}
+use Rattle.xf_read_base.specs.declared.verdict.Verdict.TheVariants.{Syntax, OutOfProfile, NotBuilt, TooMany, TooDeep}
 use Rattle.xf_ir.specs.declared.rule.Rule.{Rule}
 use Rattle.xf_ir.specs.declared.rule.Rule.TheVariants as rule
-use Rattle.xf_read.specs.declared.fault.Cause.{Cause}
-use Rattle.xf_read.specs.declared.fault.Cause.TheVariants as cause
-use Rattle.xf_read_base.specs.Stops.{judged}
-use Rattle.xf_read.specs.Spells.{syntax_fault, mismatch_fault, twice_fault_or, undefined_fault_or, Misspells}
+use Rattle.xf_format.specs.declared.expected.Expected.{Expected}
+use Rattle.xf_read_base.specs.Stops.{judged, due_fault}
+use Rattle.xf_read.specs.Spells.{mismatch_fault, twice_fault_or, undefined_fault_or, Misspells}
 use Rattle.xf_read.specs.Meant.{file_faults}
 use Rattle.xf_payload.specs.Payload.{rule_code, IsNoPayload, IsRefused, IsTellable}
 
@@ -101,11 +100,10 @@ judged_line Syntax p = refl
 judged_line (OutOfProfile n) p = refl
 judged_line NotBuilt p = tt
 judged_line TooMany p = refl
+judged_line TooDeep p = refl
 
-syntax_line : (all : List Token) (at : ℕ) (c : Cause) → HasLine (syntax_fault all at c)
-syntax_line all at (cause.Expected d) = judged_line _ _
-syntax_line all at cause.NestLimit = refl
-syntax_line all at cause.TooManyOps = refl
+syntax_line : (all : List Token) (at : ℕ) (d : Expected) → HasLine (due_fault all at d)
+syntax_line all at d = judged_line _ _
 
 -- ---- names and types
 
@@ -126,7 +124,7 @@ undefined_line all (Some i) t m f e = some_line (fault_at A2 _) f refl e
 
 misspelt_line : (bytes : List ℕ) (f : Fault) → Misspells bytes f → HasLine f
 misspelt_line bytes f (inl x) = lexical_line bytes f x
-misspelt_line bytes f (inr (inl x)) = subst HasLine (sym x.bad.is) (syntax_line x.tokens x.bad.at x.bad.cause)
+misspelt_line bytes f (inr (inl x)) = subst HasLine (sym x.bad.is) (syntax_line x.tokens x.bad.at x.bad.due)
 misspelt_line bytes f (inr (inr x)) = undefined_line x.tokens (file_faults x.tokens x.bad.file).undefined (file_faults x.tokens x.bad.file).twice (file_faults x.tokens x.bad.file).mismatch f x.bad.finds
 
 -- ---- rules

@@ -9,12 +9,12 @@ use Rattle.xf_ir.specs.declared.op.Module.{Module}
 use Rattle.xf_ir.specs.Valid.{IsValid}
 use Rattle.xf_ir.specs.Violations.{Violation, first_violation}
 use Rattle.xf_ir_laws.proofs.ViolationLaw.{valid_has_no_violation}
-use Rattle.xf_read.specs.declared.fault.Cause.{Cause}
-use Rattle.xf_read.specs.declared.tree.File.{File}
-use Rattle.xf_read.specs.Laws.{IsText}
+use Rattle.xf_format.specs.declared.expected.Expected.{Expected}
+use Rattle.xf_syntax.specs.declared.tree.File.{File}
+use Rattle.xf_syntax.specs.Laws.{IsText}
 use Rattle.xf_read.specs.Meant.{places_of}
 use Rattle.xf_read.specs.Spells.{HasPlaces}
-use Rattle.xf_read.specs.Syntax.{file_at}
+use Rattle.xf_syntax.specs.File.{file_at}
 use Rattle.xf_read.proofs.Meanings.{spells_one, misspells_one, spells_or_not}
 use Rattle.xf_payload.specs.Payload.{BreaksARule, rule_fault}
 use Rattle.xf_payload.specs.Laws.{HoldsOne, HasOneFault, HoldsOrNot}
@@ -24,7 +24,7 @@ use Rattle.xf_payload.specs.Laws.{HoldsOne, HasOneFault, HoldsOrNot}
 enough : (all : List Token) → length all < suc (length all)
 enough all = omega arith
 
-ok_same : (r : Out File Cause) (x y : File × ℕ) → r ≡ Ok x → r ≡ Ok y → x ≡ y
+ok_same : (r : Out File Expected) (x y : File × ℕ) → r ≡ Ok x → r ≡ Ok y → x ≡ y
 ok_same r x y p q = cc
 
 one_file : (all : List Token) (f g : File) → IsText all f → IsText all g → f ≡ g

@@ -1,7 +1,7 @@
 -- The dimensions of a map, one behind the other.
 use Rattle.std.proofs.Common.{◌≡◌, ℕ, suc, ◌+◌, ◌-◌, ◌<◌, List, ◌∷◌, ◌++◌, codes, sym, ap, ◌∙◌, append_assoc, arith}
-use Rattle.xf_ir.specs.PrintedWords.{listed, listed_more, dimension_text}
-use Rattle.xf_ir.specs.PrintedRows.{dimension_texts}
+use Rattle.xf_printed.specs.Words.{listed, listed_more, dimension_text}
+use Rattle.xf_printed.specs.Unread.{dimension_texts}
 
 texts_suc : (at count more : ℕ) → count ≡ suc more → dimension_texts at count ≡ dimension_text at ∷ dimension_texts (at + 1) more
 texts_suc at count more e = let q : suc at ≡ at + 1 = omega arith in rw e (ap (λ k. dimension_text at ∷ dimension_texts k more) q)

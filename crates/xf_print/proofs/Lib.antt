@@ -1,7 +1,11 @@
-mod Examples
+pub mod SlotTexts
+pub mod Rows
+pub mod Docs
+pub mod Parts
+pub mod Headers
+pub mod Writes
 pub mod RowLemmas
 pub mod DimensionLemmas
 pub mod MapLemmas
 pub mod StrideLemmas
 pub mod BlankLemmas
-pub mod Writes

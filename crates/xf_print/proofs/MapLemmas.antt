@@ -3,8 +3,8 @@ use Rattle.std.proofs.Common.{◌≡◌, ℕ, ◌-◌, ◌≤◌, List, [], ◌�
 use Rattle.std.specs.Prelude.{map}
 use Rattle.std.proofs.lemmas.List.{take_all}
 use Rattle.xf_type.specs.declared.attribute.AffineMap.{AffineMap}
-use Rattle.xf_ir.specs.PrintedWords.{listed, listed_more}
-use Rattle.xf_ir.specs.PrintedRows.{map_text}
+use Rattle.xf_printed.specs.Words.{listed, listed_more}
+use Rattle.xf_printed.specs.Unread.{map_text}
 
 pub maps_begin : (ms : List AffineMap) (m : AffineMap) (line old : List ℕ) → 1 ≤ length ms → m ≡ get_or ms 0 m → line ≡ old ++ map_text m
     → line ++ listed_more (map map_text (take (length ms - 1) (drop 1 ms))) ≡ old ++ listed (map map_text ms)

@@ -3,8 +3,8 @@ use Rattle.std.proofs.Common.{◌≡◌, ℕ, suc, ◌+◌, ◌-◌, ◌<◌, Li
 use Rattle.std.specs.Prelude.{◌/◌, min}
 use Rattle.std.proofs.Math.Nat.{div-zero}
 use Rattle.std.proofs.lemmas.List.{take_min, drop_min}
-use Rattle.xf_ir.specs.PrintedDense.{rows}
-use Rattle.xf_ir.specs.PrintedWords.{listed, listed_more}
+use Rattle.xf_printed.specs.Dense.{rows}
+use Rattle.xf_printed.specs.Words.{listed, listed_more}
 
 rows_suc : (count at size : ℕ) (ns : List ℕ) → count ≡ suc at → rows count size ns ≡ take size ns ∷ rows at size (drop size ns)
 rows_suc count at size ns e = rw e refl

@@ -4,8 +4,8 @@ use Rattle.std.specs.Prelude.{map}
 use Rattle.std.proofs.lemmas.List.{drop_more}
 use Rattle.xf_ir.specs.declared.kind.SliceIndex.{SliceIndex}
 use Rattle.xf_ir.specs.declared.kind.SliceIndex.TheVariants.{Dynamic}
-use Rattle.xf_ir.specs.PrintedWords.{listed_more}
-use Rattle.xf_ir.specs.PrintedRows.{stride_text}
+use Rattle.xf_printed.specs.Words.{listed_more}
+use Rattle.xf_printed.specs.Unread.{stride_text}
 
 next_stride : (ps : List SliceIndex) (i : ℕ) → i < length ps → map stride_text (drop i ps) ≡ codes "1" ∷ map stride_text (drop (i + 1) ps)
 next_stride ps i lt = ap (map stride_text) (drop_more ps i Dynamic lt)

@@ -1,16 +1,14 @@
 -- What was written so far of a text, and what a call that fails leaves.
-use Rattle.std.proofs.Common.{◌≡◌, ℕ, suc, ◌+◌, ◌-◌, ◌<◌, ◌≤◌, List, [], ◌∷◌, ◌++◌, length, take, drop, get_or, Option, Result, Ok, Err, refl, sym, ap, subst, ◌∙◌, arith, append_assoc, append-nil}
-use Rattle.std.specs.Prelude.{codes, false}
-use Rattle.std.proofs.lemmas.Grind.{flat_map-append}
-use Rattle.std.proofs.lemmas.List.{drop_more, take_all}
+use Rattle.std.proofs.Common.{◌≡◌, ℕ, ◌+◌, ◌<◌, ◌≤◌, Bool, false, List, [], ◌∷◌, ◌++◌, length, drop, get_or, Option, Result, Ok, Err, refl, sym, ap, subst, ◌∙◌, arith, append_assoc, append-nil}
+use Rattle.std.proofs.lemmas.List.{drop_more, drop_all}
 use Rattle.xf_ir.specs.declared.op.Module.{Module}
-use Rattle.xf_ir.specs.Placed.{functions_of}
-use Rattle.xf_ir.specs.Tree.{Tree, Body, Ops}
+use Rattle.xf_ir.specs.Tree.{Tree, Body}
 use Rattle.xf_ir.specs.View.{ops_of, regions_of, tree_size, ops_size, regions_size, body_size}
 use Rattle.xf_ir.proofs.EraseLemmas.{size_at, body_size_at}
-use Rattle.xf_ir.specs.PrintedNames.{Names, no_names}
-use Rattle.xf_print.specs.Lines.{lines_text, tree_lines, else_lines, else_block_lines, rest_lines, function_lines}
-use Rattle.xf_ir.specs.PrintedForm.{line_at, op_text, is_empty_yield, body_head, head_lines, ops_lines, regions_lines, end_lines, functions_lines, printed_form}
+use Rattle.xf_printed.specs.Names.{Names, no_names}
+use Rattle.xf_printed.specs.PrintedForm.{printed_form}
+use Rattle.xf_print.specs.Lines.{block_text, body_text, closing, function_text, functions_text, op_text, opening, ops_text, rest_text, tail_text}
+use Rattle.xf_print.proofs.Docs.{first_op, first_function, form_text, no_function, no_op, no_rest, rest_first}
 use Rattle.xf_host.specs.Writes.{Gains, GainsPrefix, WritesText}
 use Rattle.xf_host.proofs.WriteLemmas.{gains_nothing, gains-append, prefix-append, gains-prefix, writes_same}
 use Rattle.xf_host.specs.declared.sink.SinkFail.{SinkFail}
@@ -51,79 +49,95 @@ pub second_last : {T : Type 0} (r : Result T SinkFail) (old mid new : Option (Li
 second_last (Ok x) old mid new text a b e g w = subst (λ t. Gains old t new) (sym e) (gains-append old mid new a b g w)
 second_last (Err y) old mid new text a b e g w = subst (λ t. GainsPrefix old t new) (sym e) (gains-prefix old mid new a b g w)
 
--- lines behind lines
-pub lines_append : (xs ys : List (List ℕ)) → lines_text (xs ++ ys) ≡ lines_text xs ++ lines_text ys
-lines_append xs ys = flat_map-append (λ line. line ++ 10 ∷ []) xs ys
+-- both parts were written
+pub both_gained : (old mid new : Option (List ℕ)) (text a b : List ℕ) → text ≡ a ++ b → Gains old a mid → Gains mid b new → Gains old text new
+both_gained old mid new text a b e g h = subst (λ t. Gains old t new) (sym e) (gains-append old mid new a b g h)
 
--- ---- operations of a block
+-- the first part was written, and the second failed
+pub second_fails : (old mid new : Option (List ℕ)) (text a b : List ℕ) → text ≡ a ++ b → Gains old a mid → GainsPrefix mid b new → GainsPrefix old text new
+second_fails old mid new text a b e g f = subst (λ t. GainsPrefix old t new) (sym e) (gains-prefix old mid new a b g f)
 
-first_tree : (names : Names) (level : ℕ) (ts : List Tree) (i : ℕ) (t : Tree) → i < length ts → t ≡ get_or ts i t
-    → lines_text (ops_lines names level (ops_of (drop i ts))) ≡ lines_text (tree_lines names level t) ++ lines_text (ops_lines names level (ops_of (drop (i + 1) ts)))
-first_tree names level ts i t lt is =
-    let at : drop i ts ≡ t ∷ drop (i + 1) ts = drop_more ts i t lt ∙ ap (λ x. x ∷ drop (i + 1) ts) (sym is) in
-    ap (λ xs. lines_text (ops_lines names level (ops_of xs))) at ∙ lines_append (tree_lines names level t) (ops_lines names level (ops_of (drop (i + 1) ts)))
+-- a call that fails behind all of a text
+pub all_gained : (old new : Option (List ℕ)) (text : List ℕ) → Gains old text new → GainsPrefix old text new
+all_gained old new text g = record { got = text; rest = []; is = sym (append-nil text); gains = g }
 
-pub tree_written : (old now new : Option (List ℕ)) (text : List ℕ) (names : Names) (level : ℕ) (ts : List Tree) (i : ℕ) (t : Tree) → i < length ts → t ≡ get_or ts i t
-    → Going old text (lines_text (ops_lines names level (ops_of (drop i ts)))) now → Gains now (lines_text (tree_lines names level t)) new
-    → Going old text (lines_text (ops_lines names level (ops_of (drop (i + 1) ts)))) new
-tree_written old now new text names level ts i t lt is g h = going_on old now new text _ _ (going_same old now text _ _ (first_tree names level ts i t lt is) g) h
+-- ---- items in order
 
-pub tree_failed : (old now new : Option (List ℕ)) (text : List ℕ) (names : Names) (level : ℕ) (ts : List Tree) (i : ℕ) (t : Tree) → i < length ts → t ≡ get_or ts i t
-    → Going old text (lines_text (ops_lines names level (ops_of (drop i ts)))) now → GainsPrefix now (lines_text (tree_lines names level t)) new → GainsPrefix old text new
-tree_failed old now new text names level ts i t lt is g f = going_fails old now new text _ _ (going_same old now text _ _ (first_tree names level ts i t lt is) g) f
+-- the first of a list, in a text by items
+item_at : {A : Type 0} (xs : List A) (i : ℕ) (x : A) → i < length xs → x ≡ get_or xs i x → drop i xs ≡ x ∷ drop (i + 1) xs
+item_at xs i x lt is = drop_more xs i x lt ∙ ap (λ y. y ∷ drop (i + 1) xs) (sym is)
 
--- ---- blocks behind the first
+first_tree : (names : Names) (margin : ℕ) (ts : List Tree) (i : ℕ) (t : Tree) → i < length ts → t ≡ get_or ts i t
+    → ops_text names margin (ops_of (drop i ts)) ≡ op_text names margin t ++ ops_text names margin (ops_of (drop (i + 1) ts))
+first_tree names margin ts i t lt is =
+    ap (λ xs. ops_text names margin (ops_of xs)) (item_at ts i t lt is) ∙ first_op names margin t (ops_of (drop (i + 1) ts))
 
-first_else : (names : Names) (level : ℕ) (bs : List Body) (i : ℕ) (b : Body) → i < length bs → b ≡ get_or bs i b
-    → lines_text (else_lines names level (regions_of (drop i bs))) ≡ lines_text (else_block_lines names level b.ops) ++ lines_text (else_lines names level (regions_of (drop (i + 1) bs)))
-first_else names level bs i b lt is =
-    let at : drop i bs ≡ b ∷ drop (i + 1) bs = drop_more bs i b lt ∙ ap (λ x. x ∷ drop (i + 1) bs) (sym is) in
-    ap (λ xs. lines_text (else_lines names level (regions_of xs))) at ∙ lines_append (else_block_lines names level b.ops) (else_lines names level (regions_of (drop (i + 1) bs)))
+pub tree_written : (old now new : Option (List ℕ)) (text : List ℕ) (names : Names) (margin : ℕ) (ts : List Tree) (i : ℕ) (t : Tree) → i < length ts → t ≡ get_or ts i t
+    → Going old text (ops_text names margin (ops_of (drop i ts))) now → Gains now (op_text names margin t) new
+    → Going old text (ops_text names margin (ops_of (drop (i + 1) ts))) new
+tree_written old now new text names margin ts i t lt is g h = going_on old now new text _ _ (going_same old now text _ _ (first_tree names margin ts i t lt is) g) h
 
-pub else_written : (old now new : Option (List ℕ)) (text : List ℕ) (names : Names) (level : ℕ) (bs : List Body) (i : ℕ) (b : Body) → i < length bs → b ≡ get_or bs i b
-    → Going old text (lines_text (else_lines names level (regions_of (drop i bs)))) now → Gains now (lines_text (else_block_lines names level b.ops)) new
-    → Going old text (lines_text (else_lines names level (regions_of (drop (i + 1) bs)))) new
-else_written old now new text names level bs i b lt is g h = going_on old now new text _ _ (going_same old now text _ _ (first_else names level bs i b lt is) g) h
+pub tree_failed : (old now new : Option (List ℕ)) (text : List ℕ) (names : Names) (margin : ℕ) (ts : List Tree) (i : ℕ) (t : Tree) → i < length ts → t ≡ get_or ts i t
+    → Going old text (ops_text names margin (ops_of (drop i ts))) now → GainsPrefix now (op_text names margin t) new → GainsPrefix old text new
+tree_failed old now new text names margin ts i t lt is g f = going_fails old now new text _ _ (going_same old now text _ _ (first_tree names margin ts i t lt is) g) f
 
-pub else_failed : (old now new : Option (List ℕ)) (text : List ℕ) (names : Names) (level : ℕ) (bs : List Body) (i : ℕ) (b : Body) → i < length bs → b ≡ get_or bs i b
-    → Going old text (lines_text (else_lines names level (regions_of (drop i bs)))) now → GainsPrefix now (lines_text (else_block_lines names level b.ops)) new → GainsPrefix old text new
-else_failed old now new text names level bs i b lt is g f = going_fails old now new text _ _ (going_same old now text _ _ (first_else names level bs i b lt is) g) f
+-- no operation is left
+pub trees_end : (old now : Option (List ℕ)) (text : List ℕ) (names : Names) (margin : ℕ) (ts : List Tree) (i : ℕ) → length ts ≤ i
+    → Going old text (ops_text names margin (ops_of (drop i ts))) now → Gains old text now
+trees_end old now text names margin ts i le g =
+    going_ends old now text (going_same old now text _ _ (ap (λ xs. ops_text names margin (ops_of xs)) (drop_all i ts le) ∙ no_op names margin) g)
 
--- the first block, and the others
-first_block : (names : Names) (level inner : ℕ) (bs : List Body) (b : Body) → 1 ≤ length bs → b ≡ get_or bs 0 b → inner ≡ level + 1
-    → lines_text (regions_lines names level (regions_of bs)) ≡ lines_text (ops_lines names inner b.ops) ++ lines_text (else_lines names level (regions_of (take (length bs - 1) (drop 1 bs))))
-first_block names level inner [] b lt is f = absurd (omega (arith, lt))
-first_block names level inner (x ∷ xs) b lt is f =
-    let e : take (length (x ∷ xs) - 1) xs ≡ xs = take_all (length (x ∷ xs) - 1) xs (omega arith) in
-    let q : inner ≡ suc level = omega (arith, f) in
-    rw (is, e, q) (lines_append (ops_lines names (suc level) x.ops) (else_lines names level (regions_of xs)))
+function_first : (fs : List Tree) (i : ℕ) (t : Tree) → i < length fs → t ≡ get_or fs i t
+    → functions_text (ops_of (drop i fs)) ≡ function_text t ++ functions_text (ops_of (drop (i + 1) fs))
+function_first fs i t lt is = ap (λ xs. functions_text (ops_of xs)) (item_at fs i t lt is) ∙ first_function t (ops_of (drop (i + 1) fs))
 
-pub block_fails : (old new : Option (List ℕ)) (names : Names) (level inner : ℕ) (bs : List Body) (b : Body) → 1 ≤ length bs → b ≡ get_or bs 0 b → inner ≡ level + 1
-    → GainsPrefix old (lines_text (ops_lines names inner b.ops)) new → GainsPrefix old (lines_text (regions_lines names level (regions_of bs))) new
-block_fails old new names level inner bs b lt is q f = first_fails old new _ _ _ (first_block names level inner bs b lt is q) f
+pub function_written : (old now new : Option (List ℕ)) (text : List ℕ) (fs : List Tree) (i : ℕ) (t : Tree) → i < length fs → t ≡ get_or fs i t
+    → Going old text (functions_text (ops_of (drop i fs))) now → Gains now (function_text t) new
+    → Going old text (functions_text (ops_of (drop (i + 1) fs))) new
+function_written old now new text fs i t lt is g h = going_on old now new text _ _ (going_same old now text _ _ (function_first fs i t lt is) g) h
 
-pub block_written : (old new : Option (List ℕ)) (names : Names) (level inner : ℕ) (bs : List Body) (b : Body) → 1 ≤ length bs → b ≡ get_or bs 0 b → inner ≡ level + 1
-    → Gains old (lines_text (ops_lines names inner b.ops)) new
-    → Going old (lines_text (regions_lines names level (regions_of bs))) (lines_text (else_lines names level (regions_of (take (length bs - 1) (drop 1 bs))))) new
-block_written old new names level inner bs b lt is q g = record { done = _; is = first_block names level inner bs b lt is q; gains = g }
+pub function_failed : (old now new : Option (List ℕ)) (text : List ℕ) (fs : List Tree) (i : ℕ) (t : Tree) → i < length fs → t ≡ get_or fs i t
+    → Going old text (functions_text (ops_of (drop i fs))) now → GainsPrefix now (function_text t) new → GainsPrefix old text new
+function_failed old now new text fs i t lt is g f = going_fails old now new text _ _ (going_same old now text _ _ (function_first fs i t lt is) g) f
 
--- the line of else, and its block
-pub else_text : (names : Names) (level inner : ℕ) (ops : Ops) → inner ≡ level + 1
-    → lines_text (else_block_lines names level ops) ≡ lines_text (line_at level (codes "} else {") ∷ []) ++ lines_text (ops_lines names inner ops)
-else_text names level inner ops f = let q : inner ≡ suc level = omega (arith, f) in rw q (lines_append (line_at level (codes "} else {") ∷ []) (ops_lines names (suc level) ops))
+pub functions_end : (old now : Option (List ℕ)) (text : List ℕ) (fs : List Tree) (i : ℕ) → length fs ≤ i → Going old text (functions_text (ops_of (drop i fs))) now → Gains old text now
+functions_end old now text fs i le g = going_ends old now text (going_same old now text _ _ (ap (λ xs. functions_text (ops_of xs)) (drop_all i fs le) ∙ no_function) g)
 
--- ---- an operation
+-- a block behind the line so far, and then the line that ends it
+block_first : (names : Names) (margin : ℕ) (t : Tree) (first : Bool) (bs : List Body) (i : ℕ) (b : Body) (line line' : List ℕ) → i < length bs → b ≡ get_or bs i b → line' ≡ closing margin
+    → line ++ rest_text names margin t first (regions_of (drop i bs)) ≡ (line ++ block_text names margin t first b.ops) ++ (line' ++ rest_text names margin t false (regions_of (drop (i + 1) bs)))
+block_first names margin t first bs i b line line' lt is e =
+    ap (λ xs. line ++ rest_text names margin t first (regions_of xs)) (item_at bs i b lt is)
+    ∙ ap (λ x. line ++ x) (rest_first names margin t first b.args b.ops (regions_of (drop (i + 1) bs)))
+    ∙ rw e (sym (append_assoc line (block_text names margin t first b.ops) _))
 
-pub tree_text : (names : Names) (level : ℕ) (t : Tree) → lines_text (tree_lines names level t) ≡ lines_text (head_lines names level t) ++ lines_text (rest_lines names level t)
-tree_text names level t = lines_append (head_lines names level t) (rest_lines names level t)
+pub block_goes : (old now new : Option (List ℕ)) (text : List ℕ) (names : Names) (margin : ℕ) (t : Tree) (first : Bool) (bs : List Body) (i : ℕ) (b : Body) (line line' : List ℕ)
+    → i < length bs → b ≡ get_or bs i b → line' ≡ closing margin
+    → Going old text (line ++ rest_text names margin t first (regions_of (drop i bs))) now → Gains now (line ++ block_text names margin t first b.ops) new
+    → Going old text (line' ++ rest_text names margin t false (regions_of (drop (i + 1) bs))) new
+block_goes old now new text names margin t first bs i b line line' lt is e g h =
+    going_on old now new text _ _ (going_same old now text _ _ (block_first names margin t first bs i b line line' lt is e) g) h
 
-pub rest_text : (names : Names) (level : ℕ) (t : Tree) (rs : List Body) → regions_of rs ≡ t.regions
-    → lines_text (rest_lines names level t) ≡ lines_text (regions_lines names level (regions_of rs)) ++ lines_text (end_lines level t.kind t.attrs t.results)
-rest_text names level t rs e = rw e (lines_append (regions_lines names level t.regions) (end_lines level t.kind t.attrs t.results))
+pub block_failed : (old now new : Option (List ℕ)) (text : List ℕ) (names : Names) (margin : ℕ) (t : Tree) (first : Bool) (bs : List Body) (i : ℕ) (b : Body) (line : List ℕ)
+    → i < length bs → b ≡ get_or bs i b
+    → Going old text (line ++ rest_text names margin t first (regions_of (drop i bs))) now → GainsPrefix now (line ++ block_text names margin t first b.ops) new → GainsPrefix old text new
+block_failed old now new text names margin t first bs i b line lt is g f =
+    going_fails old now new text _ _ (going_same old now text _ _ (block_first names margin t first bs i b line (closing margin) lt is refl) g) f
 
-pub head_text : (names : Names) (level : ℕ) (t : Tree) → is_empty_yield t.kind t.attrs t.operands ≡ false
-    → lines_text (head_lines names level t) ≡ lines_text (line_at level (op_text names t) ∷ []) ++ lines_text (body_head names level t t.kind)
-head_text names level t e = rw e (lines_append (line_at level (op_text names t) ∷ []) (body_head names level t t.kind))
+-- no block is left
+pub blocks_end : {T : Type 0} (r : Result T SinkFail) (old now new : Option (List ℕ)) (text line : List ℕ) (names : Names) (margin : ℕ) (t : Tree) (first : Bool) (bs : List Body) (i : ℕ) → length bs ≤ i
+    → Going old text (line ++ rest_text names margin t first (regions_of (drop i bs))) now → WritesText r (line ++ tail_text names t) now new → WritesText r text old new
+blocks_end r old now new text line names margin t first bs i le g w =
+    let none_left : drop i bs ≡ [] = drop_all i bs le in
+    let h : Going old text (line ++ tail_text names t) now = going_same old now text _ _ (ap (λ xs. line ++ rest_text names margin t first (regions_of xs)) none_left ∙ ap (λ x. line ++ x) (no_rest names margin t first)) g in
+    second_last r old now new text h.done (line ++ tail_text names t) h.is h.gains w
+
+-- ---- the module
+
+pub form_written : {T : Type 0} (r : Result T SinkFail) (old new : Option (List ℕ)) (names : Names) (m : Module) (line : List ℕ) → names ≡ no_names → line ≡ opening names m.root
+    → WritesText r (line ++ body_text names m) old new → WritesText r (printed_form m) old new
+form_written r old new names m line e f w =
+    writes_same r (line ++ body_text names m) (printed_form m) old new (ap (λ x. x ++ body_text names m) f ∙ ap (λ n. opening n m.root ++ body_text n m) e ∙ sym (form_text m)) w
 
 -- ---- sizes
 
@@ -132,44 +146,3 @@ tree_below ts i t lt is = let e : tree_size t ≡ tree_size (get_or ts i t) = ap
 
 pub block_below : (bs : List Body) (i : ℕ) (b : Body) → i < length bs → b ≡ get_or bs i b → body_size b + 1 ≤ regions_size (regions_of bs)
 block_below bs i b lt is = let e : body_size b ≡ body_size (get_or bs i b) = ap body_size is in omega (arith, e, body_size_at bs i b lt)
-
-rest_below : (bs : List Body) → regions_size (regions_of (take (length bs - 1) (drop 1 bs))) ≤ regions_size (regions_of bs)
-rest_below [] = omega arith
-rest_below (x ∷ xs) = let e : take (length (x ∷ xs) - 1) xs ≡ xs = take_all (length (x ∷ xs) - 1) xs (omega arith) in rw e (omega arith)
-
-pub else_below : (bs : List Body) (i : ℕ) (b : Body) → i < length (take (length bs - 1) (drop 1 bs)) → b ≡ get_or (take (length bs - 1) (drop 1 bs)) i b → body_size b + 1 ≤ regions_size (regions_of bs)
-else_below bs i b lt is = omega (arith, block_below (take (length bs - 1) (drop 1 bs)) i b lt is, rest_below bs)
-
--- ---- functions
-
-first_function : (fs : List Tree) (i : ℕ) (t : Tree) → i < length fs → t ≡ get_or fs i t
-    → lines_text (functions_lines (ops_of (drop i fs))) ≡ lines_text (function_lines t) ++ lines_text (functions_lines (ops_of (drop (i + 1) fs)))
-first_function fs i t lt is =
-    let at : drop i fs ≡ t ∷ drop (i + 1) fs = drop_more fs i t lt ∙ ap (λ x. x ∷ drop (i + 1) fs) (sym is) in
-    ap (λ xs. lines_text (functions_lines (ops_of xs))) at
-    ∙ lines_append (function_lines t ++ []) (functions_lines (ops_of (drop (i + 1) fs)))
-    ∙ ap (λ x. lines_text x ++ lines_text (functions_lines (ops_of (drop (i + 1) fs)))) (append-nil (function_lines t))
-
-pub function_written : (old now new : Option (List ℕ)) (text : List ℕ) (fs : List Tree) (i : ℕ) (t : Tree) → i < length fs → t ≡ get_or fs i t
-    → Going old text (lines_text (functions_lines (ops_of (drop i fs)))) now → Gains now (lines_text (function_lines t)) new
-    → Going old text (lines_text (functions_lines (ops_of (drop (i + 1) fs)))) new
-function_written old now new text fs i t lt is g h = going_on old now new text _ _ (going_same old now text _ _ (first_function fs i t lt is) g) h
-
-pub function_failed : (old now new : Option (List ℕ)) (text : List ℕ) (fs : List Tree) (i : ℕ) (t : Tree) → i < length fs → t ≡ get_or fs i t
-    → Going old text (lines_text (functions_lines (ops_of (drop i fs)))) now → GainsPrefix now (lines_text (function_lines t)) new → GainsPrefix old text new
-function_failed old now new text fs i t lt is g f = going_fails old now new text _ _ (going_same old now text _ _ (first_function fs i t lt is) g) f
-
--- ---- the module
-
-pub form_text : (m : Module) → printed_form m ≡ (op_text no_names m.root ++ codes "\n") ++ (lines_text (functions_lines (functions_of m)) ++ codes "}\n")
-form_text m = ap (λ x. (op_text no_names m.root ++ codes "\n") ++ x) (lines_append (functions_lines (functions_of m)) (codes "}" ∷ []))
-
--- the functions, however they are named, and the end
-pub rest_of_module : (m : Module) (functions : Ops) → functions ≡ functions_of m
-    → lines_text (functions_lines (functions_of m)) ++ codes "}\n" ≡ lines_text (functions_lines functions) ++ codes "}\n"
-rest_of_module m functions e = ap (λ x. lines_text (functions_lines x) ++ codes "}\n") (sym e)
-
--- the head of a module was written in a line
-pub head_written : {T : Type 0} (r : Result T SinkFail) (old new : Option (List ℕ)) (names : Names) (t : Tree) (piece line : List ℕ) → names ≡ no_names
-    → piece ≡ line → line ≡ op_text names t ++ 10 ∷ [] → WritesText r piece old new → WritesText r (op_text no_names t ++ 10 ∷ []) old new
-head_written r old new names t piece line e p q w = writes_same r piece (op_text no_names t ++ 10 ∷ []) old new (p ∙ q ∙ ap (λ n. op_text n t ++ 10 ∷ []) e) w

@@ -1,15 +1,13 @@
 //! Dense constants, appended to the line so far. They refuse for want of memory alone.
-ghost use Rattle.std.specs.Prelude.{◌≡◌, [], ◌∷◌, ◌++◌, ◌/◌, OnOk, IfOk, map, take, drop};
+ghost use Rattle.std.specs.Prelude.{◌≡◌, ◌∷◌, ◌++◌, ◌/◌, OnOk, IfOk, map, take, drop};
 ghost use Rattle.xf_type.specs.declared.payload_type.Dim.TheVariants.{Fixed};
 ghost use Rattle.xf_ir.specs.declared.kind.Kind.TheVariants as kind;
-ghost use Rattle.xf_ir.specs.PrintedDense.{rows, nested, body_text};
-ghost use Rattle.xf_ir.specs.PrintedNames.{no_names};
-ghost use Rattle.xf_ir.specs.PrintedNumbers.{number_text};
-ghost use Rattle.xf_ir.specs.PrintedRows.{row_text};
-ghost use Rattle.xf_ir.specs.PrintedWords.{listed};
+ghost use Rattle.xf_printed.specs.Dense.{rows, nested, body_text};
+ghost use Rattle.xf_printed.specs.Numbers.{number_text};
+ghost use Rattle.xf_printed.specs.Unread.{dense_text};
+ghost use Rattle.xf_printed.specs.Words.{listed};
 
-use xf_ir::Attr;
-use xf_print_base::{write_attrs, write_number_of, write_shape};
+use xf_print_base::{write_number_of, write_tensor};
 use xf_type::{Dim, NoMemory, Shape, Width};
 
 fn write_numbers(width: Width, numbers: &[u128], line: &mut Vec<u8>) -> Result<(), NoMemory>
@@ -130,21 +128,14 @@ fn write_body(shape: &Shape, numbers: &[u128], line: &mut Vec<u8>) -> Result<(),
     }
 }
 
-/// Appends a constant tensor.
-pub fn write_dense(
-    shape: &Shape,
-    numbers: &[u128],
-    attrs: &[Attr],
-    line: &mut Vec<u8>,
-) -> Result<(), NoMemory>
-    ensures { OnOk result (line.new.items ≡ line.old.items
-        ++ row_text no_names 0 [] (kind.Dense shape.now numbers.now) attrs.now [] []) }
+/// Appends a constant tensor, behind a blank.
+pub fn write_dense(shape: &Shape, numbers: &[u128], line: &mut Vec<u8>) -> Result<(), NoMemory>
+    ensures { OnOk result (line.new.items
+        ≡ line.old.items ++ dense_text (kind.Dense shape.now numbers.now)) }
 {
-    line.extend_from_slice(b"arith.constant")?;
-    write_attrs(attrs, line)?;
     line.extend_from_slice(b" dense<")?;
     write_body(shape, numbers, line)?;
-    line.extend_from_slice(b"> : ")?;
-    write_shape(shape, line)?;
+    line.extend_from_slice(b"> :")?;
+    write_tensor(true, shape, line)?;
     Ok(())
 }

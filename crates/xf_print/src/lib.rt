@@ -1,6 +1,6 @@
-//! The printed form of modules of every kind: the rows of tensor and linalg, lines, and `print`,
-//! which writes the printed form of a module, or a front of it where the sink fails or memory is
-//! refused. What all rows need, and the rows of builtin, func, arith and scf, stand in `xf_print_base`.
+//! The printed form of modules: what the slots of each row write, lines, and `print`, which writes the
+//! printed form of a module, or a front of it where the sink fails or memory is refused. What single
+//! slots write stands in `xf_print_base`.
 #![tactic(auto)]
 
 mod dense;
@@ -8,6 +8,7 @@ mod linalg_rows;
 mod line;
 mod printer;
 mod row;
+mod slot;
 mod tensor_rows;
 
 pub use printer::print;

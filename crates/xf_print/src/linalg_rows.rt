@@ -1,15 +1,13 @@
-//! The rows of linalg, appended to the line so far. They refuse for want of memory alone.
-ghost use Rattle.std.specs.Prelude.{◌≡◌, ◌++◌, OnOk, [], map, codes};
-ghost use Rattle.xf_ir.specs.declared.kind.Kind.TheVariants as kind;
-ghost use Rattle.xf_ir.specs.PrintedAttributes.{attrs_text, dictionary_behind};
+//! What stands behind the words of linalg, appended to the line so far. They refuse for want of memory alone.
+ghost use Rattle.std.specs.Prelude.{◌≡◌, ◌++◌, OnOk, map};
 ghost use Rattle.xf_print_base.specs.Index.{names_of};
-ghost use Rattle.xf_ir.specs.PrintedRows.{ins_text, outs_text, structured_text, dimension_texts, map_text, generic_text, row_text};
-ghost use Rattle.xf_ir.specs.PrintedWords.{listed, arrow_types, dimension_text, iterator_text};
+ghost use Rattle.xf_printed.specs.Unread.{attrs_text, dimension_texts, generic_text, given_text, ins_text, map_text, marked_attrs, outs_text, results_text, structured_text, typed_text};
+ghost use Rattle.xf_printed.specs.Words.{listed, dimension_text, iterator_text};
 
-use xf_ir::{IteratorKind, Op, ValueName};
+use xf_ir::{Attr, IteratorKind, Op, ValueName};
 use xf_print_base::{
-    Index, write_arrow_results, write_dictionary, write_number, write_op_attrs, write_value_types,
-    write_values,
+    Index, write_dictionary, write_number, write_op_attrs, write_op_results, write_operands,
+    write_use_types, write_uses,
 };
 use xf_type::{AffineMap, NoMemory};
 
@@ -31,6 +29,16 @@ fn write_dimension(at: u32, line: &mut Vec<u8>) -> Result<(), NoMemory>
     write_number(u128::from(at), line)
 }
 
+/// Appends values and their types.
+fn write_typed(names: &Index<'_>, values: &[ValueName], line: &mut Vec<u8>) -> Result<(), NoMemory>
+    ensures { OnOk result (line.new.items
+        ≡ line.old.items ++ typed_text (names_of names.now) values.now) }
+{
+    write_uses(false, names, values, line)?;
+    line.extend_from_slice(b" :")?;
+    write_use_types(true, names, values, line)
+}
+
 fn write_ins(names: &Index<'_>, values: &[ValueName], line: &mut Vec<u8>) -> Result<(), NoMemory>
     ensures { OnOk result (line.new.items
         ≡ line.old.items ++ ins_text (names_of names.now) values.now) }
@@ -39,9 +47,7 @@ fn write_ins(names: &Index<'_>, values: &[ValueName], line: &mut Vec<u8>) -> Res
         return Ok(());
     }
     line.extend_from_slice(b" ins(")?;
-    write_values(names, values, line)?;
-    line.extend_from_slice(b" : ")?;
-    write_value_types(names, values, line)?;
+    write_typed(names, values, line)?;
     line.push(b')')?;
     Ok(())
 }
@@ -51,9 +57,7 @@ fn write_outs(names: &Index<'_>, values: &[ValueName], line: &mut Vec<u8>) -> Re
         ≡ line.old.items ++ outs_text (names_of names.now) values.now) }
 {
     line.extend_from_slice(b" outs(")?;
-    write_values(names, values, line)?;
-    line.extend_from_slice(b" : ")?;
-    write_value_types(names, values, line)?;
+    write_typed(names, values, line)?;
     line.push(b')')?;
     Ok(())
 }
@@ -70,23 +74,15 @@ fn write_structured(names: &Index<'_>, op: &Op, line: &mut Vec<u8>) -> Result<()
     Ok(())
 }
 
-/// Appends an operation with a name.
-pub fn write_named(
-    word: &[u8],
-    names: &Index<'_>,
-    op: &Op,
-    line: &mut Vec<u8>,
-) -> Result<(), NoMemory>
-    ensures { OnOk result (line.new.items ≡ line.old.items ++ (word.now
+/// Appends what stands behind the word of an operation with a name.
+pub fn write_named(names: &Index<'_>, op: &Op, line: &mut Vec<u8>) -> Result<(), NoMemory>
+    ensures { OnOk result (line.new.items ≡ line.old.items
         ++ (attrs_text op.now.attrs ++ (structured_text (names_of names.now) op.now.operands
-        ++ (codes " -> " ++ arrow_types op.now.results))))) }
+        ++ results_text op.now.results))) }
 {
-    line.extend_from_slice(word)?;
     write_op_attrs(op, line)?;
     write_structured(names, op, line)?;
-    line.extend_from_slice(b" -> ")?;
-    write_arrow_results(op, line)?;
-    Ok(())
+    write_op_results(op, line)
 }
 
 /// Appends the dimensions of a map that has so many.
@@ -177,7 +173,7 @@ fn write_traits(
     ensures { OnOk result (line.new.items
         ≡ line.old.items ++ generic_text maps.now iterators.now) }
 {
-    line.extend_from_slice(b"linalg.generic {indexing_maps = [")?;
+    line.extend_from_slice(b" {indexing_maps = [")?;
     write_maps(maps, line)?;
     line.extend_from_slice(b"], iterator_types = [")?;
     write_iterators(iterators, line)?;
@@ -185,14 +181,17 @@ fn write_traits(
     Ok(())
 }
 
-fn write_op_attributes(op: &Op, line: &mut Vec<u8>) -> Result<(), NoMemory>
-    ensures { OnOk result (line.new.items
-        ≡ line.old.items ++ dictionary_behind (codes " attrs = ") op.now.attrs) }
+fn write_marked_attrs(attrs: &[Attr], line: &mut Vec<u8>) -> Result<(), NoMemory>
+    ensures { OnOk result (line.new.items ≡ line.old.items ++ marked_attrs attrs.now) }
 {
-    write_dictionary(b" attrs = ", op.attrs.as_slice(), line)
+    if attrs.is_empty() {
+        return Ok(());
+    }
+    line.extend_from_slice(b" attrs =")?;
+    write_dictionary(attrs, line)
 }
 
-/// Appends the head of an operation with a body.
+/// Appends what stands behind the word of an operation with a body, up to its body.
 pub fn write_generic(
     maps: &[AffineMap],
     iterators: &[IteratorKind],
@@ -200,12 +199,19 @@ pub fn write_generic(
     op: &Op,
     line: &mut Vec<u8>,
 ) -> Result<(), NoMemory>
-    ensures { OnOk result (line.new.items ≡ line.old.items ++ row_text (names_of names.now) 0 []
-        (kind.Generic maps.now iterators.now) op.now.attrs op.now.operands op.now.results) }
+    ensures { OnOk result (line.new.items ≡ line.old.items ++ (generic_text maps.now iterators.now
+        ++ (structured_text (names_of names.now) op.now.operands ++ marked_attrs op.now.attrs))) }
 {
     write_traits(maps, iterators, line)?;
     write_structured(names, op, line)?;
-    write_op_attributes(op, line)?;
-    line.extend_from_slice(b" {")?;
-    Ok(())
+    write_marked_attrs(op.attrs.as_slice(), line)
+}
+
+/// Appends what stands behind the word of an operation that ends a body.
+pub fn write_yield(names: &Index<'_>, op: &Op, line: &mut Vec<u8>) -> Result<(), NoMemory>
+    ensures { OnOk result (line.new.items ≡ line.old.items
+        ++ (attrs_text op.now.attrs ++ given_text (names_of names.now) op.now.operands)) }
+{
+    write_op_attrs(op, line)?;
+    write_operands(names, op.operands.as_slice(), line)
 }

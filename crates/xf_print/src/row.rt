@@ -1,97 +1,127 @@
-//! The row of an operation, by its kind.
+//! The row of an operation, and what begins it, appended to the line so far. They refuse for want of memory alone.
 ghost use Rattle.std.specs.Prelude.{◌≡◌, ◌++◌, OnOk};
+ghost use Rattle.xf_print.specs.Lines.{count_text, head_text, op_row, opening, results_text, slots_text, tail_text};
 ghost use Rattle.xf_print_base.specs.Index.{names_of};
-ghost use Rattle.xf_ir.specs.PrintedNames.{first_args, first_of, number_of, results_text};
-ghost use Rattle.xf_ir.specs.PrintedForm.{op_text};
-ghost use Rattle.xf_ir.specs.PrintedRows.{row_text};
+ghost use Rattle.xf_printed.specs.PrintedForm.{word_of};
 
-use crate::dense::write_dense;
-use crate::linalg_rows::{write_generic, write_named};
-use crate::tensor_rows::{
-    write_cast, write_dim, write_empty, write_extract, write_extract_slice, write_insert,
-    write_insert_slice,
-};
-use xf_ir::{Kind, Op, first_args};
-use xf_print_base::{
-    FunctionHead, Index, write_call, write_compare, write_constant, write_convert, write_for,
-    write_func, write_giving, write_if, write_module, write_results, write_simple,
-};
-use xf_type::NoMemory;
+use crate::slot::write_slots;
+use xf_format::{FormatElement, Row, row_slots, row_tail};
+use xf_ir::{Kind, Op};
+use xf_print_base::{Index, write_number};
+use xf_type::{NoMemory, PayloadType};
 
-/// Appends an operation without its results; `first` is the first number of its block's arguments.
-fn write_row(names: &Index<'_>, first: u64, op: &Op, line: &mut Vec<u8>) -> Result<(), NoMemory>
-    ensures { OnOk result (line.new.items ≡ line.old.items ++ row_text (names_of names.now) first
-        (first_args op.now.regions) op.now.kind op.now.attrs op.now.operands op.now.results) }
+/// The word of an operation: that of its kind, but a module has the short one.
+fn word_of(kind: &Kind) -> &'static [u8]
+    ensures { result.now ≡ word_of kind.now }
 {
-    let attrs = op.attrs.as_slice();
-    let word = op.kind.spelling();
-    match &op.kind {
-        Kind::Module { symbol } => write_module(symbol, attrs, line),
-        Kind::Func {
-            symbol,
-            private,
-            results,
-        } => {
-            let of = FunctionHead {
-                symbol: symbol.as_slice(),
-                private: *private,
-                first,
-                args: first_args(op.regions.as_slice()),
-                results: results.as_slice(),
-            };
-            write_func(&of, attrs, line)
-        }
-        Kind::Return => write_giving(word, names, op, line),
-        Kind::Call { callee } => write_call(callee.as_slice(), names, op, line),
-        Kind::Constant { width, bits } => write_constant(*width, *bits, attrs, line),
-        Kind::Dense { shape, numbers } => write_dense(shape, numbers.as_slice(), attrs, line),
-        Kind::Binary { width, .. } => write_simple(word, *width, names, op, line),
-        Kind::Compare { kind, width } => write_compare(*kind, *width, names, op, line),
-        Kind::Select { width } => write_simple(word, *width, names, op, line),
-        Kind::Convert { from, to, .. } => write_convert(word, *from, *to, names, op, line),
-        Kind::For { width } => write_for(*width, names, first, op, line),
-        Kind::If => write_if(names, op, line),
-        Kind::Yield => write_giving(word, names, op, line),
-        Kind::Empty => write_empty(names, op, line),
-        Kind::Dim => write_dim(names, op, line),
-        Kind::Extract => write_extract(names, op, line),
-        Kind::Insert => write_insert(names, op, line),
-        Kind::ExtractSlice { offsets, sizes } => {
-            write_extract_slice(offsets.as_slice(), sizes.as_slice(), names, op, line)
-        }
-        Kind::InsertSlice { offsets, sizes } => {
-            write_insert_slice(offsets.as_slice(), sizes.as_slice(), names, op, line)
-        }
-        Kind::Cast => write_cast(names, op, line),
-        Kind::Named { .. } => write_named(word, names, op, line),
-        Kind::Generic { maps, iterators } => {
-            write_generic(maps.as_slice(), iterators.as_slice(), names, op, line)
-        }
-        Kind::LinalgYield => write_giving(word, names, op, line),
+    match kind {
+        Kind::Module { .. } => b"module",
+        _ => kind.spelling(),
     }
 }
 
-fn write_op_results(names: &Index<'_>, op: &Op, line: &mut Vec<u8>) -> Result<(), NoMemory>
-    ensures { OnOk result (line.new.items ≡ line.old.items ++ results_text
-        (number_of ((names_of names.now).entry op.now.name.0)) op.now.results) }
+/// The row that the word of an operation begins.
+#[tactic(auto, unfolding(crate::specs::Lines::op_row))]
+fn row_of(kind: &Kind) -> Row
+    ensures { result ≡ op_row kind.now }
 {
-    write_results(names.number_of(op.name), op.results.as_slice(), line)
+    match kind {
+        Kind::Module { .. } => Row::Module,
+        Kind::Func { .. } => Row::Function,
+        Kind::Return => Row::Return,
+        Kind::Call { .. } => Row::Call,
+        Kind::Constant { .. } => Row::Constant,
+        Kind::Dense { .. } => Row::Constant,
+        Kind::Binary { kind, .. } => Row::Binary(*kind),
+        Kind::Compare { .. } => Row::Compare,
+        Kind::Select { .. } => Row::Select,
+        Kind::Convert { kind, .. } => Row::Convert(*kind),
+        Kind::For { .. } => Row::For,
+        Kind::If => Row::If,
+        Kind::Yield => Row::Yield,
+        Kind::Empty => Row::Other,
+        Kind::Dim => Row::Other,
+        Kind::Extract => Row::Other,
+        Kind::Insert => Row::Other,
+        Kind::ExtractSlice { .. } => Row::Other,
+        Kind::InsertSlice { .. } => Row::Other,
+        Kind::Cast => Row::Other,
+        Kind::Named { .. } => Row::Other,
+        Kind::Generic { .. } => Row::Generic,
+        Kind::LinalgYield => Row::Other,
+    }
 }
 
-fn write_op_row(names: &Index<'_>, op: &Op, line: &mut Vec<u8>) -> Result<(), NoMemory>
-    ensures { OnOk result (line.new.items ≡ line.old.items ++ row_text (names_of names.now)
-        (first_of ((names_of names.now).entry op.now.name.0)) (first_args op.now.regions)
-        op.now.kind op.now.attrs op.now.operands op.now.results) }
+/// The row of an operation.
+pub fn op_row(op: &Op) -> Row
+    ensures { result ≡ op_row op.now.kind }
 {
-    write_row(names, names.first_of(op.name), op, line)
+    row_of(&op.kind)
 }
 
-/// Appends an operation with its results.
-pub fn write_op(names: &Index<'_>, op: &Op, line: &mut Vec<u8>) -> Result<(), NoMemory>
-    ensures { OnOk result (line.new.items
-        ≡ line.old.items ++ op_text (names_of names.now) op.now) }
+/// Appends how many results there are, where they are several.
+fn write_count(results: &[PayloadType], line: &mut Vec<u8>) -> Result<(), NoMemory>
+    ensures { OnOk result (line.new.items ≡ line.old.items ++ count_text results.now) }
 {
-    write_op_results(names, op, line)?;
-    write_op_row(names, op, line)?;
+    match results {
+        [_] => Ok(()),
+        _ => {
+            line.push(b':')?;
+            write_number(results.len() as u128, line)
+        }
+    }
+}
+
+/// Appends the number of an operation's results, how many they are where they are several, and `=`; nothing for no results.
+fn write_results(number: u64, results: &[PayloadType], line: &mut Vec<u8>) -> Result<(), NoMemory>
+    ensures { OnOk result (line.new.items ≡ line.old.items ++ results_text number results.now) }
+{
+    if results.is_empty() {
+        return Ok(());
+    }
+    line.push(b'%')?;
+    write_number(u128::from(number), line)?;
+    write_count(results, line)?;
+    line.extend_from_slice(b" = ")?;
     Ok(())
+}
+
+/// Appends the name of an operation's results, and its word.
+fn write_head(names: &Index<'_>, op: &Op, line: &mut Vec<u8>) -> Result<(), NoMemory>
+    ensures { OnOk result (line.new.items ≡ line.old.items ++ head_text (names_of names.now) op.now) }
+{
+    write_results(names.number_of(op.name), op.results.as_slice(), line)?;
+    line.extend_from_slice(word_of(&op.kind))
+}
+
+/// Appends what slots of an operation write.
+pub fn write_op_slots(
+    slots: &[FormatElement],
+    names: &Index<'_>,
+    op: &Op,
+    line: &mut Vec<u8>,
+) -> Result<(), NoMemory>
+    ensures { OnOk result (line.new.items
+        ≡ line.old.items ++ slots_text (names_of names.now) op.now slots.now) }
+{
+    write_slots(slots, names, names.first_of(op.name), op, line)
+}
+
+/// Appends an operation up to its blocks.
+#[tactic(auto, unfolding(crate::specs::Lines::opening))]
+pub fn write_opening(names: &Index<'_>, op: &Op, line: &mut Vec<u8>) -> Result<(), NoMemory>
+    ensures { OnOk result (line.new.items ≡ line.old.items ++ opening (names_of names.now) op.now) }
+{
+    let slots = row_slots(op_row(op));
+    write_head(names, op, line)?;
+    write_op_slots(slots, names, op, line)
+}
+
+/// Appends what stands behind the blocks of an operation.
+#[tactic(auto, unfolding(crate::specs::Lines::tail_text))]
+pub fn write_tail(names: &Index<'_>, op: &Op, line: &mut Vec<u8>) -> Result<(), NoMemory>
+    ensures { OnOk result (line.new.items ≡ line.old.items ++ tail_text (names_of names.now) op.now) }
+{
+    let slots = row_tail(op_row(op));
+    write_op_slots(slots, names, op, line)
 }

@@ -1,75 +1,71 @@
-//! The rows of tensor, appended to the line so far. They refuse for want of memory alone.
-ghost use Rattle.std.specs.Prelude.{◌≡◌, ◌++◌, OnOk, IfOk, [], map, drop};
+//! What stands behind the words of tensor, appended to the line so far. They refuse for want of memory alone.
+ghost use Rattle.std.specs.Prelude.{◌≡◌, ◌++◌, OnOk, IfOk, map, drop};
 ghost use Rattle.xf_ir.specs.declared.kind.Kind.TheVariants as kind;
 ghost use Rattle.xf_print_base.specs.Index.{names_of};
-ghost use Rattle.xf_ir.specs.PrintedRows.{place_text, behind_place, place_texts, behind_places, stride_text, window_text, row_text};
-ghost use Rattle.xf_ir.specs.PrintedWords.{listed};
+ghost use Rattle.xf_printed.specs.Unread.{place_text, behind_place, place_texts, behind_places, rest_text, stride_text, window_text};
+ghost use Rattle.xf_printed.specs.Words.{listed};
 
 use xf_ir::{Op, SliceIndex, ValueName};
 use xf_print_base::{
     Index, operands_behind, write_behind, write_integer, write_nth, write_nth_type, write_op_attrs,
-    write_operand, write_operands, write_result_types,
+    write_op_types, write_op_uses, write_operand,
 };
 use xf_type::NoMemory;
 
 /// Appends an empty tensor.
 pub fn write_empty(names: &Index<'_>, op: &Op, line: &mut Vec<u8>) -> Result<(), NoMemory>
-    ensures { OnOk result (line.new.items ≡ line.old.items ++ row_text (names_of names.now) 0 []
+    ensures { OnOk result (line.new.items ≡ line.old.items ++ rest_text (names_of names.now)
         kind.Empty op.now.attrs op.now.operands op.now.results) }
 {
-    line.extend_from_slice(b"tensor.empty(")?;
-    write_operands(names, op, line)?;
+    line.push(b'(')?;
+    write_op_uses(false, names, op, line)?;
     line.push(b')')?;
     write_op_attrs(op, line)?;
-    line.extend_from_slice(b" : ")?;
-    write_result_types(op, line)?;
+    line.extend_from_slice(b" :")?;
+    write_op_types(op, line)?;
     Ok(())
 }
 
 /// Appends the extent of a dimension.
 pub fn write_dim(names: &Index<'_>, op: &Op, line: &mut Vec<u8>) -> Result<(), NoMemory>
-    ensures { OnOk result (line.new.items ≡ line.old.items ++ row_text (names_of names.now) 0 []
+    ensures { OnOk result (line.new.items ≡ line.old.items ++ rest_text (names_of names.now)
         kind.Dim op.now.attrs op.now.operands op.now.results) }
 {
-    line.extend_from_slice(b"tensor.dim")?;
     write_op_attrs(op, line)?;
-    line.push(b' ')?;
-    write_operands(names, op, line)?;
-    line.extend_from_slice(b" : ")?;
+    write_op_uses(true, names, op, line)?;
+    line.extend_from_slice(b" :")?;
     write_nth_type(names, op, 0, line)?;
     Ok(())
 }
 
 /// Appends the reading of an element.
 pub fn write_extract(names: &Index<'_>, op: &Op, line: &mut Vec<u8>) -> Result<(), NoMemory>
-    ensures { OnOk result (line.new.items ≡ line.old.items ++ row_text (names_of names.now) 0 []
+    ensures { OnOk result (line.new.items ≡ line.old.items ++ rest_text (names_of names.now)
         kind.Extract op.now.attrs op.now.operands op.now.results) }
 {
-    line.extend_from_slice(b"tensor.extract ")?;
-    write_nth(names, op, 0, line)?;
+    write_nth(true, names, op, 0, line)?;
     line.push(b'[')?;
     write_behind(names, op, 1, line)?;
     line.push(b']')?;
     write_op_attrs(op, line)?;
-    line.extend_from_slice(b" : ")?;
+    line.extend_from_slice(b" :")?;
     write_nth_type(names, op, 0, line)?;
     Ok(())
 }
 
 /// Appends the change of an element.
 pub fn write_insert(names: &Index<'_>, op: &Op, line: &mut Vec<u8>) -> Result<(), NoMemory>
-    ensures { OnOk result (line.new.items ≡ line.old.items ++ row_text (names_of names.now) 0 []
+    ensures { OnOk result (line.new.items ≡ line.old.items ++ rest_text (names_of names.now)
         kind.Insert op.now.attrs op.now.operands op.now.results) }
 {
-    line.extend_from_slice(b"tensor.insert ")?;
-    write_nth(names, op, 0, line)?;
-    line.extend_from_slice(b" into ")?;
-    write_nth(names, op, 1, line)?;
+    write_nth(true, names, op, 0, line)?;
+    line.extend_from_slice(b" into")?;
+    write_nth(true, names, op, 1, line)?;
     line.push(b'[')?;
     write_behind(names, op, 2, line)?;
     line.push(b']')?;
     write_op_attrs(op, line)?;
-    line.extend_from_slice(b" : ")?;
+    line.extend_from_slice(b" :")?;
     write_nth_type(names, op, 1, line)?;
     Ok(())
 }
@@ -91,7 +87,7 @@ fn write_place<'a>(
             Ok(operands)
         }
         SliceIndex::Dynamic => {
-            write_operand(names, operands, 0, line)?;
+            write_operand(false, names, operands, 0, line)?;
             Ok(operands_behind(operands, 1))
         }
     }
@@ -173,17 +169,16 @@ pub fn write_extract_slice(
     op: &Op,
     line: &mut Vec<u8>,
 ) -> Result<(), NoMemory>
-    ensures { OnOk result (line.new.items ≡ line.old.items ++ row_text (names_of names.now) 0 []
+    ensures { OnOk result (line.new.items ≡ line.old.items ++ rest_text (names_of names.now)
         (kind.ExtractSlice offsets.now sizes.now) op.now.attrs op.now.operands op.now.results) }
 {
-    line.extend_from_slice(b"tensor.extract_slice ")?;
-    write_nth(names, op, 0, line)?;
+    write_nth(true, names, op, 0, line)?;
     write_window(names, offsets, sizes, op, 1, line)?;
     write_op_attrs(op, line)?;
-    line.extend_from_slice(b" : ")?;
+    line.extend_from_slice(b" :")?;
     write_nth_type(names, op, 0, line)?;
-    line.extend_from_slice(b" to ")?;
-    write_result_types(op, line)?;
+    line.extend_from_slice(b" to")?;
+    write_op_types(op, line)?;
     Ok(())
 }
 
@@ -195,33 +190,31 @@ pub fn write_insert_slice(
     op: &Op,
     line: &mut Vec<u8>,
 ) -> Result<(), NoMemory>
-    ensures { OnOk result (line.new.items ≡ line.old.items ++ row_text (names_of names.now) 0 []
+    ensures { OnOk result (line.new.items ≡ line.old.items ++ rest_text (names_of names.now)
         (kind.InsertSlice offsets.now sizes.now) op.now.attrs op.now.operands op.now.results) }
 {
-    line.extend_from_slice(b"tensor.insert_slice ")?;
-    write_nth(names, op, 0, line)?;
-    line.extend_from_slice(b" into ")?;
-    write_nth(names, op, 1, line)?;
+    write_nth(true, names, op, 0, line)?;
+    line.extend_from_slice(b" into")?;
+    write_nth(true, names, op, 1, line)?;
     write_window(names, offsets, sizes, op, 2, line)?;
     write_op_attrs(op, line)?;
-    line.extend_from_slice(b" : ")?;
+    line.extend_from_slice(b" :")?;
     write_nth_type(names, op, 0, line)?;
-    line.extend_from_slice(b" into ")?;
+    line.extend_from_slice(b" into")?;
     write_nth_type(names, op, 1, line)?;
     Ok(())
 }
 
 /// Appends a cast.
 pub fn write_cast(names: &Index<'_>, op: &Op, line: &mut Vec<u8>) -> Result<(), NoMemory>
-    ensures { OnOk result (line.new.items ≡ line.old.items ++ row_text (names_of names.now) 0 []
+    ensures { OnOk result (line.new.items ≡ line.old.items ++ rest_text (names_of names.now)
         kind.Cast op.now.attrs op.now.operands op.now.results) }
 {
-    line.extend_from_slice(b"tensor.cast ")?;
-    write_operands(names, op, line)?;
+    write_op_uses(true, names, op, line)?;
     write_op_attrs(op, line)?;
-    line.extend_from_slice(b" : ")?;
+    line.extend_from_slice(b" :")?;
     write_nth_type(names, op, 0, line)?;
-    line.extend_from_slice(b" to ")?;
-    write_result_types(op, line)?;
+    line.extend_from_slice(b" to")?;
+    write_op_types(op, line)?;
     Ok(())
 }

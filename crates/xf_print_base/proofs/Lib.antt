@@ -1,1 +1,3 @@
+pub mod Texts
+pub mod Results
 pub mod ListLemmas

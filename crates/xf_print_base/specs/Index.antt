@@ -4,7 +4,7 @@ use Rattle.std.specs.Ordering.{nat_cmp}
 use Rattle.std.specs.BTreeMap.{get}
 use Rattle.xf_print_base.specs.declared.index.Defined.{Defined}
 use Rattle.xf_print_base.specs.declared.index.Index.{Index}
-use Rattle.xf_ir.specs.PrintedNames.{DefinedValues, Names}
+use Rattle.xf_printed.specs.Names.{DefinedValues, Names}
 
 abbrev pub entry_of : Defined → DefinedValues
 entry_of d = record { number = d.number; results = d.results.now; first = d.first; args = d.args.now }

@@ -1,10 +1,15 @@
 //! Dictionaries of attributes, appended to the line so far. They refuse for want of memory alone.
-ghost use Rattle.std.specs.Prelude.{◌≡◌, ◌<◌, ◌++◌, OnOk, map};
+ghost use Rattle.std.specs.Prelude.{◌≡◌, ◌<◌, ◌++◌, OnOk};
 ghost use Rattle.std.specs.List.{flat_map};
-ghost use Rattle.xf_ir.specs.PrintedAttributes.{hex_digit, is_plain, byte_text, string_text, value_text, entry_text, dictionary_behind, attrs_text};
-ghost use Rattle.xf_ir.specs.PrintedWords.{listed};
+ghost use Rattle.xf_format.specs.Rules.{attributes_rule, dictionary_rule, entry_rule, language};
+ghost use Rattle.xf_grammar.specs.Grammar.{begun, gap_of, listed, written};
+ghost use Rattle.xf_grammar.specs.Layout.{text};
+ghost use Rattle.xf_print_base.specs.Texts.{value_text};
+ghost use Rattle.xf_printed.specs.Attributes.{hex_digit, is_plain, byte_text, string_text};
+ghost use Rattle.xf_printed.specs.Items.{attributes_fill, dictionary_fill, entry_fill, rule_text, some_fill};
 
 use crate::number::write_literal;
+use crate::words::write_word;
 use xf_ir::Attr;
 use xf_type::{AttrValue, NoMemory};
 
@@ -59,7 +64,7 @@ fn write_value(value: &AttrValue, line: &mut Vec<u8>) -> Result<(), NoMemory>
     match value {
         AttrValue::Unit => Ok(()),
         AttrValue::Int { width, bits } => {
-            line.extend_from_slice(b" = ")?;
+            line.extend_from_slice(b" =")?;
             write_literal(*width, u128::from(*bits), line)
         }
         AttrValue::Text(bytes) => {
@@ -69,46 +74,56 @@ fn write_value(value: &AttrValue, line: &mut Vec<u8>) -> Result<(), NoMemory>
     }
 }
 
-fn write_entry(attr: &Attr, line: &mut Vec<u8>) -> Result<(), NoMemory>
-    ensures { OnOk result (line.new.items ≡ line.old.items ++ entry_text attr.now) }
+fn write_entry(gap: bool, attr: &Attr, line: &mut Vec<u8>) -> Result<(), NoMemory>
+    ensures { OnOk result (line.new.items
+        ≡ line.old.items ++ text (begun (gap_of gap) (written language entry_rule (entry_fill attr.now)))) }
 {
-    line.extend_from_slice(attr.name.as_slice())?;
-    write_value(&attr.value, line)
+    write_word(gap, attr.name.as_slice(), line)?;
+    write_value(&attr.value, line)?;
+    Ok(())
 }
 
 fn write_entries(attrs: &[Attr], line: &mut Vec<u8>) -> Result<(), NoMemory>
     ensures { OnOk result (line.new.items
-        ≡ line.old.items ++ listed (map entry_text attrs.now)) }
+        ≡ line.old.items ++ rule_text (listed entry_rule) (some_fill entry_fill attrs.now)) }
 {
     let [first, rest @ ..] = attrs else {
         return Ok(());
     };
-    write_entry(first, line)?;
+    write_entry(false, first, line)?;
     for attr in rest {
-        line.extend_from_slice(b", ")?;
-        write_entry(attr, line)?;
+        line.push(b',')?;
+        write_entry(true, attr, line)?;
     }
     Ok(())
 }
 
-/// Appends a word and the attributes in braces, or nothing where there are none.
-pub fn write_dictionary(word: &[u8], attrs: &[Attr], line: &mut Vec<u8>) -> Result<(), NoMemory>
-    ensures { OnOk result (line.new.items
-        ≡ line.old.items ++ dictionary_behind word.now attrs.now) }
+/// Appends attributes in braces behind a blank, or nothing where there are none.
+pub fn write_dictionary(attrs: &[Attr], line: &mut Vec<u8>) -> Result<(), NoMemory>
+    ensures { OnOk result (line.new.items ≡ line.old.items ++ rule_text dictionary_rule (dictionary_fill attrs.now)) }
 {
-    if attrs.is_empty() {
-        return Ok(());
+    match attrs {
+        [] => Ok(()),
+        [_, ..] => {
+            line.extend_from_slice(b" {")?;
+            write_entries(attrs, line)?;
+            line.push(b'}')?;
+            Ok(())
+        }
     }
-    line.extend_from_slice(word)?;
-    line.push(b'{')?;
-    write_entries(attrs, line)?;
-    line.push(b'}')?;
-    Ok(())
 }
 
-/// Appends a blank and the attributes in braces, or nothing where there are none.
-pub fn write_attrs(attrs: &[Attr], line: &mut Vec<u8>) -> Result<(), NoMemory>
-    ensures { OnOk result (line.new.items ≡ line.old.items ++ attrs_text attrs.now) }
+/// Appends `attributes` and attributes in braces, or nothing where there are none.
+pub fn write_attributes(attrs: &[Attr], line: &mut Vec<u8>) -> Result<(), NoMemory>
+    ensures { OnOk result (line.new.items ≡ line.old.items ++ rule_text attributes_rule (attributes_fill attrs.now)) }
 {
-    write_dictionary(b" ", attrs, line)
+    match attrs {
+        [] => Ok(()),
+        [_, ..] => {
+            line.extend_from_slice(b" attributes {")?;
+            write_entries(attrs, line)?;
+            line.push(b'}')?;
+            Ok(())
+        }
+    }
 }

@@ -4,9 +4,15 @@ ghost use Rattle.std.specs.Option.{option_map, option_copied};
 ghost use Rattle.xf_ir.specs.Tree.{cons, no_ops};
 ghost use Rattle.xf_ir.specs.View.{ops_of, regions_of};
 ghost use Rattle.xf_print_base.specs.Index.{entry_of, names_of};
-ghost use Rattle.xf_ir.specs.PrintedNames.{no_names, with_op, with_ops, with_regions, first_args, next_number, result_part, result_text, argument_text, name_text, type_of, value_type, number_of, first_of};
+ghost use Rattle.xf_print_base.specs.Texts.{digits_text};
+ghost use Rattle.xf_format.specs.Rules.{type_rule, use_rule};
+ghost use Rattle.xf_grammar.specs.Grammar.{gap_of};
+ghost use Rattle.xf_grammar.specs.Layout.{gap_text};
+ghost use Rattle.xf_printed.specs.Items.{argument_use, part_digits, result_use, rule_text, use_fill, value_fill, value_type_fill};
+ghost use Rattle.xf_printed.specs.Names.{no_names, with_op, with_ops, with_regions, first_args, next_number, argument_text, type_of, number_of, first_of};
 
-use crate::words::{write_number, write_type};
+use crate::types::write_type;
+use crate::words::{write_gap, write_number};
 use std::alloc::{AllocError, Global};
 use std::collections::BTreeMap;
 use xf_ir::{Block, Op, OpName, ValueName, first_args};
@@ -49,8 +55,10 @@ fn next_number(number: u64, results: &[PayloadType]) -> Result<u64, NoMemory>
     }
 }
 
-fn write_result_part(results: &[PayloadType], num: u32, line: &mut Vec<u8>) -> Result<(), NoMemory>
-    ensures { OnOk result (line.new.items ≡ line.old.items ++ result_part results.now num) }
+/// Appends which of several results it is.
+fn write_part(results: &[PayloadType], num: u32, line: &mut Vec<u8>) -> Result<(), NoMemory>
+    ensures { OnOk result (line.new.items
+        ≡ line.old.items ++ digits_text (part_digits results.now num)) }
 {
     match results {
         [_, _, ..] => {
@@ -61,20 +69,40 @@ fn write_result_part(results: &[PayloadType], num: u32, line: &mut Vec<u8>) -> R
     }
 }
 
-fn write_result(of: Defined<'_>, num: u32, line: &mut Vec<u8>) -> Result<(), NoMemory>
-    ensures { OnOk result (line.new.items ≡ line.old.items ++ result_text (entry_of of.entry) num) }
+/// Appends the name of a result.
+fn write_result(gap: bool, of: Defined<'_>, num: u32, line: &mut Vec<u8>) -> Result<(), NoMemory>
+    ensures { OnOk result (line.new.items
+        ≡ line.old.items ++ rule_text (use_rule gap) (use_fill (result_use (entry_of of.entry) num))) }
 {
+    write_gap(gap, line)?;
     line.push(b'%')?;
     write_number(u128::from(of.number), line)?;
-    write_result_part(of.results, num, line)
+    write_part(of.results, num, line)?;
+    Ok(())
 }
 
 /// Appends the name of the argument with that number.
-pub fn write_argument(number: u128, line: &mut Vec<u8>) -> Result<(), NoMemory>
-    ensures { OnOk result (line.new.items ≡ line.old.items ++ argument_text number) }
+pub fn write_argument(gap: bool, number: u128, line: &mut Vec<u8>) -> Result<(), NoMemory>
+    ensures { OnOk result (line.new.items
+        ≡ line.old.items ++ (gap_text (gap_of gap) ++ argument_text number)) }
 {
+    write_gap(gap, line)?;
     line.extend_from_slice(b"%arg")?;
     write_number(number, line)
+}
+
+/// Appends the name of an argument of a block.
+fn write_block_argument(
+    gap: bool,
+    of: Defined<'_>,
+    num: u32,
+    line: &mut Vec<u8>,
+) -> Result<(), NoMemory>
+    ensures { OnOk result (line.new.items
+        ≡ line.old.items ++ rule_text (use_rule gap) (use_fill (argument_use (entry_of of.entry) num))) }
+{
+    write_argument(gap, u128::from(of.first) + u128::from(num), line)?;
+    Ok(())
 }
 
 impl<'a> Index<'a> {
@@ -173,22 +201,21 @@ impl<'a> Index<'a> {
     }
 
     /// Appends the name of a value. Refuses for want of memory alone.
-    pub fn write_name(&self, value: ValueName, line: &mut Vec<u8>) -> Result<(), NoMemory>
+    #[tactic(auto, using(crate::proofs::Texts::no_use_text))]
+    pub fn write_use(&self, gap: bool, value: ValueName, line: &mut Vec<u8>) -> Result<(), NoMemory>
         ensures { OnOk result (line.new.items
-            ≡ line.old.items ++ name_text (names_of self.now) value) }
+            ≡ line.old.items ++ rule_text (use_rule gap) (value_fill (names_of self.now) value)) }
     {
         match value {
             ValueName::Result { op, num } => match self.defined(op) {
-                None => Ok(()),
-                Some(defined) => write_result(defined, num, line),
+                None => write_gap(gap, line),
+                Some(defined) => write_result(gap, defined, num, line),
             },
             ValueName::Arg { op, num, .. } => match self.defined(op) {
-                None => Ok(()),
-                Some(defined) => {
-                    write_argument(u128::from(defined.first) + u128::from(num), line)
-                }
+                None => write_gap(gap, line),
+                Some(defined) => write_block_argument(gap, defined, num, line),
             },
-            ValueName::Free(_) => Ok(()),
+            ValueName::Free(_) => write_gap(gap, line),
         }
     }
 
@@ -204,13 +231,19 @@ impl<'a> Index<'a> {
     }
 
     /// Appends the type of a value. Refuses for want of memory alone.
-    pub fn write_type_of(&self, value: ValueName, line: &mut Vec<u8>) -> Result<(), NoMemory>
+    #[tactic(auto, using(crate::proofs::Texts::no_type))]
+    pub fn write_type_of(
+        &self,
+        gap: bool,
+        value: ValueName,
+        line: &mut Vec<u8>,
+    ) -> Result<(), NoMemory>
         ensures { OnOk result (line.new.items
-            ≡ line.old.items ++ value_type (names_of self.now) value) }
+            ≡ line.old.items ++ rule_text (type_rule gap) (value_type_fill (names_of self.now) value)) }
     {
         match self.type_of(value) {
-            None => Ok(()),
-            Some(of) => write_type(of, line),
+            None => write_gap(gap, line),
+            Some(of) => write_type(gap, of, line),
         }
     }
 }

@@ -1,26 +1,31 @@
-//! The parts of printed lines: the names of a function's values, numbers, words, attributes, operands
-//! and types, and the rows of builtin, func, arith and scf. Each function appends to the line so far
-//! the text that the printed form has there, and refuses for want of memory alone.
+//! The parts of printed lines: what the slots of a row write, filled by an operation. Each function
+//! appends to the line so far the text that the printed form has there, and refuses for want of
+//! memory alone.
 #![tactic(auto)]
 
-mod arith_rows;
 mod attributes;
-mod func_rows;
 mod index;
+mod kinds;
 mod number;
-mod scf_rows;
+mod op;
+mod slots;
+mod types;
 mod values;
 mod words;
 
-pub use arith_rows::{write_compare, write_constant, write_convert, write_simple};
-pub use attributes::{write_attrs, write_dictionary};
-pub use func_rows::{FunctionHead, write_call, write_func, write_giving, write_module};
+pub use attributes::{write_attributes, write_dictionary};
 pub use index::{Defined, Index, sum};
 pub use number::write_number_of;
-pub use scf_rows::{write_for, write_if};
-pub use values::{
-    operands_behind, write_arrow_results, write_behind, write_nth, write_nth_type, write_op_attrs,
-    write_operand, write_operands, write_params, write_result_types, write_results,
-    write_value_types, write_values,
+pub use op::{
+    write_behind, write_nth, write_nth_type, write_op_attrs, write_op_results, write_op_types,
+    write_op_uses,
 };
-pub use words::{write_integer, write_number, write_shape};
+pub use slots::{
+    write_call_results, write_enclosed_params, write_enclosed_types, write_enclosed_uses,
+    write_first, write_function_name, write_function_results, write_if_results, write_iter_args,
+    write_keyword, write_loop_width, write_mark, write_module_name, write_predicate, write_scalar,
+    write_symbol, write_width,
+};
+pub use types::write_tensor;
+pub use values::{operands_behind, write_operand, write_operands, write_use_types, write_uses};
+pub use words::{write_integer, write_number};

@@ -2,9 +2,10 @@
 ghost use Rattle.std.specs.Prelude.{◌≡◌, ◌-◌, ◌^◌, ◌++◌, OnOk};
 ghost use Rattle.std.specs.Fmt.{signed_decimal};
 ghost use Rattle.xf_type.specs.Integers.{bits_of, signed_value};
-ghost use Rattle.xf_ir.specs.PrintedNumbers.{truth_text, number_text, literal_text};
+ghost use Rattle.xf_print_base.specs.Texts.{literal_text};
+ghost use Rattle.xf_printed.specs.Numbers.{is_set, number_text, truth_word};
 
-use crate::words::{write_number, write_width};
+use crate::words::{write_number, write_word};
 use xf_type::{NoMemory, Width};
 
 /// The number from which on a number of the width is negative.
@@ -38,7 +39,7 @@ fn write_signed(width: Width, bits: u128, line: &mut Vec<u8>) -> Result<(), NoMe
 }
 
 fn write_truth(bits: u128, line: &mut Vec<u8>) -> Result<(), NoMemory>
-    ensures { OnOk result (line.new.items ≡ line.old.items ++ truth_text bits) }
+    ensures { OnOk result (line.new.items ≡ line.old.items ++ truth_word (is_set bits)) }
 {
     if bits == 0 {
         line.extend_from_slice(b"false")
@@ -57,16 +58,17 @@ pub fn write_number_of(width: Width, bits: u128, line: &mut Vec<u8>) -> Result<(
     }
 }
 
-/// Appends a number with its type, which is left out for `i1`.
+/// Appends a blank and a number with its type, which is left out for `i1`.
 pub fn write_literal(width: Width, bits: u128, line: &mut Vec<u8>) -> Result<(), NoMemory>
     ensures { OnOk result (line.new.items ≡ line.old.items ++ literal_text width bits) }
 {
+    line.push(b' ')?;
+    write_number_of(width, bits, line)?;
     match width {
-        Width::I1 => write_truth(bits, line),
+        Width::I1 => Ok(()),
         _ => {
-            write_signed(width, bits, line)?;
-            line.extend_from_slice(b" : ")?;
-            write_width(width, line)
+            line.extend_from_slice(b" :")?;
+            write_word(true, width.spelling(), line)
         }
     }
 }

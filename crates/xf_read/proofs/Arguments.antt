@@ -4,7 +4,7 @@ use Rattle.std.specs.Prelude.{if◌then◌else◌, is_some, slice_get}
 use Rattle.std.proofs.lemmas.List.{at_drop_more}
 use Rattle.xf_type.specs.declared.payload_type.PayloadType.{PayloadType}
 use Rattle.xf_lex.specs.declared.token.Token.{Token}
-use Rattle.xf_read_base.specs.declared.parts.Ref.{Ref}
+use Rattle.xf_format.specs.declared.parts.Ref.{Ref}
 use Rattle.xf_read.specs.declared.scope.Named.{Named}
 use Rattle.xf_read.specs.Names.{earlier, argument_named, with_args, args_twice}
 use Rattle.xf_read_base.specs.Values.{text}

@@ -1,22 +1,24 @@
 -- A module that a text spells is within the limits of payloads.
-use Rattle.std.proofs.Common.{◌≡◌, ℕ, suc, ◌+◌, ◌≤◌, Bool, true, false, List, length, refl, subst, arith}
+use Rattle.std.proofs.Common.{◌≡◌, ℕ, ◌+◌, Bool, true, false, List, refl, subst, arith}
 use Rattle.std.specs.Prelude.{if◌then◌else◌}
 use Rattle.xf_lex.specs.declared.token.Token.{Token}
-use Rattle.xf_read_base.specs.declared.parts.Parts.{Parts}
+use Rattle.xf_format.specs.declared.parts.Parts.{Parts}
 use Rattle.xf_ir.specs.Count.{ops_count, regions_count}
 use Rattle.xf_ir.specs.Limits.{OpsNest, RegionsNest, IsWithinLimits}
 use Rattle.xf_ir.specs.Tree.{Ops, no_ops, op, cons}
-use Rattle.xf_read.specs.declared.tree.File.{File}
-use Rattle.xf_read.specs.Laws.{IsText}
+use Rattle.xf_syntax.specs.declared.tree.File.{File}
+use Rattle.xf_syntax.specs.Laws.{IsText}
 use Rattle.xf_read.specs.Meant.{joined, left_out, yield_tree, nodes_meant, bodies_meant, meant}
 use Rattle.xf_read.specs.Names.{yield_count, nodes_count, bodies_count, inside, behind}
 use Rattle.xf_read.specs.Scopes.{Meanings, no_names}
 use Rattle.xf_read.specs.Short.{SpeltIsWithinLimits}
-use Rattle.xf_read.specs.Syntax.{lacks_yield}
-use Rattle.xf_read.specs.Tree.{Nodes, no_nodes, node, Bodies, no_bodies, body}
-use Rattle.xf_read.specs.Written.{nodes_said, bodies_said, NestsWell, BodiesNestWell}
+use Rattle.xf_read.specs.Names.{lacks_yield}
+use Rattle.xf_grammar.specs.Tree.{Nodes, no_nodes, node, Bodies, no_bodies, body, nodes_said, bodies_said}
+use Rattle.xf_grammar.proofs.TreesNest.{NodesNest, BodiesNest}
+use Rattle.xf_format.specs.Format.{most_open}
+use Rattle.xf_format.specs.Parts.{said}
 use Rattle.xf_read.proofs.Counting.{few_operations}
-use Rattle.xf_read.proofs.Texts.{texts_are_written}
+use Rattle.xf_read.proofs.Texts.{text_nests}
 
 -- ---- nesting
 
@@ -29,12 +31,12 @@ yield_nests true n depth = (tt, tt)
 yield_nests false n depth = tt
 
 mutual
-  nodes_nest : (all : List Token) (n : ℕ) (scope : Meanings) (ns : Nodes) (depth : ℕ) → NestsWell depth (nodes_said all ns) → OpsNest depth (nodes_meant all n scope ns)
+  nodes_nest : (all : List Token) (n : ℕ) (scope : Meanings) (ns : Nodes Parts) (depth : ℕ) → NodesNest most_open 2 depth (nodes_said (said all) ns) → OpsNest depth (nodes_meant all n scope ns)
   nodes_nest all n scope no_nodes depth h = tt
   nodes_nest all n scope (node first p bs rest) depth h =
-      (bodies_nest all (n + 1) p (inside all n p scope) bs depth h.0, nodes_nest all (n + (1 + bodies_count p bs)) (behind all n p scope) rest depth h.1)
+      (bodies_nest all (n + 1) p (inside all n p scope) bs depth h.1.0, nodes_nest all (n + (1 + bodies_count p bs)) (behind all n p scope) rest depth h.1.1)
 
-  bodies_nest : (all : List Token) (n : ℕ) (p : Parts) (scope : Meanings) (bs : Bodies) (depth : ℕ) → BodiesNestWell depth (bodies_said all bs) → RegionsNest depth (bodies_meant all n p scope bs)
+  bodies_nest : (all : List Token) (n : ℕ) (p : Parts) (scope : Meanings) (bs : Bodies Parts) (depth : ℕ) → BodiesNest most_open 2 depth (bodies_said (said all) bs) → RegionsNest depth (bodies_meant all n p scope bs)
   bodies_nest all n p scope no_bodies depth h = tt
   bodies_nest all n p scope (body ns close rest) depth h = (
     h.0,
@@ -55,14 +57,14 @@ left_count true n = refl
 left_count false n = refl
 
 mutual
-  nodes_counted : (all : List Token) (n : ℕ) (scope : Meanings) (ns : Nodes) → ops_count (nodes_meant all n scope ns) ≡ nodes_count ns
+  nodes_counted : (all : List Token) (n : ℕ) (scope : Meanings) (ns : Nodes Parts) → ops_count (nodes_meant all n scope ns) ≡ nodes_count ns
   nodes_counted all n scope no_nodes = refl
   nodes_counted all n scope (node first p bs rest) =
       let a = bodies_counted all (n + 1) p (inside all n p scope) bs in
       let b = nodes_counted all (n + (1 + bodies_count p bs)) (behind all n p scope) rest in
       omega (arith, a, b)
 
-  bodies_counted : (all : List Token) (n : ℕ) (p : Parts) (scope : Meanings) (bs : Bodies) → regions_count (bodies_meant all n p scope bs) ≡ bodies_count p bs
+  bodies_counted : (all : List Token) (n : ℕ) (p : Parts) (scope : Meanings) (bs : Bodies Parts) → regions_count (bodies_meant all n p scope bs) ≡ bodies_count p bs
   bodies_counted all n p scope no_bodies = refl
   bodies_counted all n p scope (body ns close rest) =
       let a = nodes_counted all n scope ns in
@@ -76,10 +78,10 @@ mutual
 text_within : (all : List Token) (file : File) → IsText all file → IsWithinLimits (meant all file)
 text_within all file text =
     let t = file.root in
-    let written = texts_are_written all file text in
-    let few = few_operations (suc (length all)) all file (length all) (text (suc (length all)) (omega arith)) in
+    let nests = text_nests all file text in
+    let few = few_operations all file text in
     let counted = bodies_counted all 1 t.parts (inside all 0 t.parts no_names) t.bodies in
-    record { nesting = bodies_nest all 1 t.parts (inside all 0 t.parts no_names) t.bodies 0 written.1.1.nesting.0; number = omega (arith, few, counted) }
+    record { nesting = bodies_nest all 1 t.parts (inside all 0 t.parts no_names) t.bodies 0 nests.1.0; number = omega (arith, few, counted) }
 
 pub spelt_is_within_limits : SpeltIsWithinLimits
 spelt_is_within_limits bytes m s = subst IsWithinLimits s.means (text_within s.tokens s.file s.is_text)

@@ -5,24 +5,26 @@ use Rattle.xf_lex.specs.declared.token.Token.{Token}
 use Rattle.xf_lex.specs.Lexes.{Lexes}
 use Rattle.xf_grammar.specs.Reading.{Out}
 use Rattle.xf_lex.proofs.Lexing.{one_reading, one_fault, never_both}
-use Rattle.xf_read.specs.declared.fault.Cause.{Cause}
-use Rattle.xf_read.specs.declared.fault.SyntaxFault.{SyntaxFault}
-use Rattle.xf_read.specs.declared.fault.SyntaxFault.TheVariants as stopped
+use Rattle.xf_format.specs.declared.expected.Expected.{Expected}
+use Rattle.xf_format.specs.declared.expected.Stopped.{Stopped}
+use Rattle.xf_format.specs.declared.expected.Stopped.TheVariants as stopped
+use Rattle.xf_format.specs.Reading.{Fails}
+use Rattle.xf_syntax.specs.File.{file_at}
+use Rattle.xf_read_base.specs.Stops.{due_fault}
 use Rattle.xf_read.specs.declared.faults.Faults.{Faults}
-use Rattle.xf_read.specs.declared.tree.File.{File}
-use Rattle.xf_read.specs.Laws.{IsText, AtNoText}
+use Rattle.xf_syntax.specs.declared.tree.File.{File}
+use Rattle.xf_syntax.specs.Laws.{IsText, AtNoText}
 use Rattle.xf_read.specs.Meant.{meant, file_faults}
 use Rattle.xf_read.specs.Names.{no_faults}
-use Rattle.xf_read.specs.Spells.{StopsAt, Misnames, SpellsOne, MisspellsOne, SpellsOrNot, IsUnread, unread, first_fault, syntax_fault}
-use Rattle.xf_read.specs.Syntax.{Fails, file_at}
+use Rattle.xf_read.specs.Spells.{StopsAt, Misnames, SpellsOne, MisspellsOne, SpellsOrNot, IsUnread, unread, first_fault}
 
 enough : (all : List Token) → length all < suc (length all)
 enough all = omega arith
 
-ok_same : (r : Out File Cause) (x y : File × ℕ) → r ≡ Ok x → r ≡ Ok y → x ≡ y
+ok_same : (r : Out File Expected) (x y : File × ℕ) → r ≡ Ok x → r ≡ Ok y → x ≡ y
 ok_same r x y p q = cc
 
-stop_same : (r : Out File Cause) (x y : ℕ × Cause) → r ≡ Err x → r ≡ Err y → x ≡ y
+stop_same : (r : Out File Expected) (x y : ℕ × Expected) → r ≡ Err x → r ≡ Err y → x ≡ y
 stop_same r x y p q = cc
 
 one_file : (all : List Token) (f g : File) → IsText all f → IsText all g → f ≡ g
@@ -31,8 +33,8 @@ one_file all f g a b = ap (λ (x : File × ℕ). x.0) (ok_same (file_at (suc (le
 file_or_stop : (all : List Token) (f : File) (x : Fault) → IsText all f → StopsAt all x → ⊥
 file_or_stop all f x a b =
     let e : file_at (suc (length all)) all ≡ Ok (f, length all) = a (suc (length all)) (enough all) in
-    let h : file_at (suc (length all)) all ≡ Err (b.at, b.cause) = b.stops (suc (length all)) (enough all) in
-    let both : Ok (f, length all) ≡ Err (b.at, b.cause) = sym e ∙ h in
+    let h : file_at (suc (length all)) all ≡ Err (b.at, b.due) = b.stops (suc (length all)) (enough all) in
+    let both : Ok (f, length all) ≡ Err (b.at, b.due) = sym e ∙ h in
     absurd (cc (both))
 
 -- what holds of tokens holds of the same tokens
@@ -41,8 +43,8 @@ moved bytes ts us P x y p = subst P (one_reading bytes ts us x y) p
 
 stops_same : (all : List Token) (f g : Fault) → StopsAt all f → StopsAt all g → f ≡ g
 stops_same all f g a b =
-    let same = stop_same (file_at (suc (length all)) all) (a.at, a.cause) (b.at, b.cause) (a.stops (suc (length all)) (enough all)) (b.stops (suc (length all)) (enough all)) in
-    a.is ∙ ap (λ (x : ℕ × Cause). syntax_fault all x.0 x.1) same ∙ sym b.is
+    let same = stop_same (file_at (suc (length all)) all) (a.at, a.due) (b.at, b.due) (a.stops (suc (length all)) (enough all)) (b.stops (suc (length all)) (enough all)) in
+    a.is ∙ ap (λ (x : ℕ × Expected). due_fault all x.0 x.1) same ∙ sym b.is
 
 misnames_same : (all : List Token) (f g : Fault) → Misnames all f → Misnames all g → f ≡ g
 misnames_same all f g a b =
@@ -94,6 +96,6 @@ none_found all f e = none_at all f.undefined f.twice f.mismatch e
 
 -- ---- a text whose syntax is not read
 
-pub stopped_is_unread : (bytes : List ℕ) (all : List Token) (e : SyntaxFault) → Lexes bytes all → ((f : ℕ) → length all < f → Fails e (file_at f all)) → AtNoText {A = File} (Err e) all → IsUnread bytes (unread all e)
+pub stopped_is_unread : (bytes : List ℕ) (all : List Token) (e : Stopped) → Lexes bytes all → ((f : ℕ) → length all < f → Fails e (file_at f all)) → AtNoText {A = File} (Err e) all → IsUnread bytes (unread all e)
 stopped_is_unread bytes all stopped.NoMemory x stops away = tt
-stopped_is_unread bytes all (stopped.At at c) x stops away = inr (inl (record { tokens = all; lexes = x; bad = record { at = at; cause = c; stops = stops; no_text = away; is = refl } }))
+stopped_is_unread bytes all (stopped.At at d) x stops away = inr (inl (record { tokens = all; lexes = x; bad = record { at = at; due = d; stops = stops; no_text = away; is = refl } }))

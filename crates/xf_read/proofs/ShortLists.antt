@@ -1,17 +1,17 @@
 -- A module that a text spells has no list of 2 ^ 32 entries.
 use Rattle.std.proofs.Common.{◌≡◌, ℕ, suc, ◌+◌, ◌<◌, ◌≤◌, ◌^◌, Bool, true, false, List, [], ◌∷◌, length, Option, Some, None, Ordering, Less, Equal, Greater, refl, ap, subst, arith}
-use Rattle.std.specs.Prelude.{map, if◌then◌else◌, slice_get}
+use Rattle.std.specs.Prelude.{if◌then◌else◌, slice_get}
 use Rattle.std.specs.Cmp.Lexicographic.{slice_cmp}
 use Rattle.std.specs.Ordering.{nat_cmp, match_ordering}
 use Rattle.std.proofs.lemmas.Bool.{and_parts, eqb-true}
 use Rattle.std.proofs.lemmas.List.{length-map}
 use Rattle.xf_type.specs.declared.payload_type.PayloadType.{PayloadType}
 use Rattle.xf_lex.specs.declared.token.Token.{Token}
-use Rattle.xf_read_base.specs.declared.parts.AttrEntry.{AttrEntry}
-use Rattle.xf_read_base.specs.declared.parts.Parts.{Parts}
-use Rattle.xf_read_base.specs.declared.row.Row.{Row}
-use Rattle.xf_read_base.specs.declared.row.Row.TheVariants as row
-use Rattle.xf_read_base.specs.Short.{HasShortParts}
+use Rattle.xf_format.specs.declared.parts.AttrEntry.{AttrEntry}
+use Rattle.xf_format.specs.declared.parts.Parts.{Parts}
+use Rattle.xf_format.specs.declared.row.Row.{Row}
+use Rattle.xf_format.specs.declared.row.Row.TheVariants as row
+use Rattle.xf_format.specs.Short.{HasShortParts}
 use Rattle.xf_read_base.specs.Values.{attr_of, with_attr, with_entries, kind_by}
 use Rattle.xf_ir.specs.declared.kind.Attr.{Attr}
 use Rattle.xf_ir.specs.declared.kind.Kind.TheVariants as kind
@@ -20,21 +20,22 @@ use Rattle.xf_ir.specs.Kinds.{returned_types}
 use Rattle.xf_ir.specs.Lists.{Each}
 use Rattle.xf_ir.specs.RuleBlocks.{block_args}
 use Rattle.xf_ir.specs.Spots.{ops_length}
-use Rattle.xf_ir.specs.Tree.{Ops, no_ops, op, Regions, no_regions, region}
+use Rattle.xf_ir.specs.Tree.{Ops, no_ops, op, no_regions}
 use Rattle.xf_read.specs.declared.faults.Faults.{Faults}
-use Rattle.xf_read.specs.declared.tree.File.{File}
-use Rattle.xf_read.specs.Meant.{operands_of, joined, left_out, nodes_meant, bodies_meant, tree_meant, file_count, meant}
-use Rattle.xf_read.specs.Names.{op_name, yield_count, nodes_count, bodies_count, earlier, inside, behind, agrees, nodes_faults, bodies_faults, tree_faults}
+use Rattle.xf_read.specs.Meant.{operands_of, joined, left_out, nodes_meant, bodies_meant, tree_meant}
+use Rattle.xf_read.specs.Names.{op_name, lacks_yield, yield_count, nodes_count, bodies_count, earlier, inside, behind, agrees, nodes_faults, bodies_faults}
 use Rattle.xf_read.specs.Scopes.{Meanings, no_names, value_used}
 use Rattle.xf_read.specs.Short.{SpeltIsShort}
-use Rattle.xf_read.specs.Syntax.{most_operations, lacks_yield}
-use Rattle.xf_read.specs.Tree.{Nodes, no_nodes, node, Bodies, no_bodies, body, Tree}
+use Rattle.xf_grammar.specs.Holding.{NodesHave, BodiesHave}
+use Rattle.xf_grammar.specs.Tree.{Nodes, no_nodes, node, Bodies, no_bodies, body, Tree, nodes_said, bodies_said}
+use Rattle.xf_grammar.proofs.TreesNest.{bodies_number, NodesNest, BodiesNest}
+use Rattle.xf_format.specs.Format.{most_open}
+use Rattle.xf_format.specs.Parts.{said}
 use Rattle.xf_read.specs.Types.{one_type, results_by, args_by}
 use Rattle.xf_read.proofs.Counting.{few_operations}
-use Rattle.xf_read.proofs.OfKind.{Inside, NodesOf, BodiesOf, FunctionsOf, RootOf, FileOf}
+use Rattle.xf_format.proofs.OfKind.{Inside}
 use Rattle.xf_read.proofs.ShortNames.{entries_short, symbol_short}
-use Rattle.xf_read.proofs.ShortTrees.{bodies_number, NodesShort, BodiesShort, TreeShort, text_short}
-use Rattle.xf_read.proofs.TreesWithin.{text_of_kinds}
+use Rattle.xf_read.proofs.Texts.{Kept, text_kept, text_nests}
 
 -- ---- the lists of one operation
 
@@ -57,9 +58,6 @@ one_at_most None = omega arith
 one_at_most (Some t) = omega arith
 
 results_short : (r : Row) (p : Parts) → HasShortParts p → length (results_by r p) < 2 ^ 32
-results_short row.Module p s = omega arith
-results_short row.Function p s = omega arith
-results_short row.Return p s = omega arith
 results_short row.Call p s = s.results
 results_short row.Constant p s = s.types
 results_short (row.Binary k) p s = s.types
@@ -68,13 +66,13 @@ results_short row.Select p s = s.types
 results_short (row.Convert k) p s = let o = one_at_most (slice_get p.types 1) in omega (arith, o)
 results_short row.For p s = s.results
 results_short row.If p s = s.results
-results_short row.Yield p s = omega arith
+results_short r p s = omega arith
 
 returned_short : (all : List Token) (r : Row) (p : Parts) → HasShortParts p → length (returned_types (kind_by all r p)) < 2 ^ 32
 returned_short all row.Function p s = s.results
 returned_short all r p s = omega arith
 
-arguments_short : (all : List Token) (n : ℕ) (p : Parts) (scope : Meanings) (bs : Bodies) → length (args_by p.row p) < 2 ^ 32 → Each (λ (ts : List PayloadType). length ts < 2 ^ 32) (block_args (bodies_meant all n p scope bs))
+arguments_short : (all : List Token) (n : ℕ) (p : Parts) (scope : Meanings) (bs : Bodies Parts) → length (args_by p.row p) < 2 ^ 32 → Each (λ (ts : List PayloadType). length ts < 2 ^ 32) (block_args (bodies_meant all n p scope bs))
 arguments_short all n p scope no_bodies lt = tt
 arguments_short all n p scope (body ns close rest) lt = (lt, arguments_short all (n + (nodes_count ns + yield_count p ns)) p scope rest lt)
 
@@ -84,11 +82,11 @@ agreed all p scope e = eqb-true (length p.args) (length (args_by p.row p)) (and_
 
 -- ---- regions and blocks
 
-regions_long : (all : List Token) (n : ℕ) (p : Parts) (scope : Meanings) (bs : Bodies) → regions_length (bodies_meant all n p scope bs) ≡ bodies_number bs
+regions_long : (all : List Token) (n : ℕ) (p : Parts) (scope : Meanings) (bs : Bodies Parts) → regions_length (bodies_meant all n p scope bs) ≡ bodies_number (bodies_said (said all) bs)
 regions_long all n p scope no_bodies = refl
 regions_long all n p scope (body ns close rest) = let e = regions_long all (n + (nodes_count ns + yield_count p ns)) p scope rest in omega (arith, e)
 
-ops_long : (all : List Token) (n : ℕ) (scope : Meanings) (ns : Nodes) → ops_length (nodes_meant all n scope ns) ≤ nodes_count ns
+ops_long : (all : List Token) (n : ℕ) (scope : Meanings) (ns : Nodes Parts) → ops_length (nodes_meant all n scope ns) ≤ nodes_count ns
 ops_long all n scope no_nodes = omega arith
 ops_long all n scope (node first p bs rest) = let e = ops_long all (n + (1 + bodies_count p bs)) (behind all n p scope) rest in omega (arith, e)
 
@@ -100,7 +98,7 @@ yield_long : (b : Bool) (n : ℕ) → ops_length (if b then op (op_name n) kind.
 yield_long true n = refl
 yield_long false n = refl
 
-blocks_short : (all : List Token) (n : ℕ) (p : Parts) (scope : Meanings) (bs : Bodies) → bodies_count p bs < 2 ^ 32 → Each (λ ops. ops_length ops < 2 ^ 32) (blocks_of (bodies_meant all n p scope bs))
+blocks_short : (all : List Token) (n : ℕ) (p : Parts) (scope : Meanings) (bs : Bodies Parts) → bodies_count p bs < 2 ^ 32 → Each (λ ops. ops_length ops < 2 ^ 32) (blocks_of (bodies_meant all n p scope bs))
 blocks_short all n p scope no_bodies lt = tt
 blocks_short all n p scope (body ns close rest) lt =
     let a = ops_long all n scope ns in
@@ -109,7 +107,7 @@ blocks_short all n p scope (body ns close rest) lt =
     (omega (arith, lt, a, b, c), blocks_short all (n + (nodes_count ns + yield_count p ns)) p scope rest (omega (arith, lt)))
 
 -- operation n of a text, where it agrees with its types
-head_lists : (all : List Token) (n : ℕ) (scope : Meanings) (t : Tree) → HasShortParts t.parts → Inside all t.parts → bodies_number t.bodies ≤ 2 → bodies_count t.parts t.bodies < 2 ^ 32 → agrees all t.parts scope ≡ true
+head_lists : (all : List Token) (n : ℕ) (scope : Meanings) (t : Tree Parts) → HasShortParts t.parts → Inside all t.parts → bodies_number (bodies_said (said all) t.bodies) ≤ 2 → bodies_count t.parts t.bodies < 2 ^ 32 → agrees all t.parts scope ≡ true
     → HasShortLists (tree_meant all n scope t)
 head_lists all n scope t s i two few e =
     let p : Parts = t.parts in
@@ -122,7 +120,7 @@ head_lists all n scope t s i two few e =
     let lt : length (args_by p.row p) < 2 ^ 32 = omega (arith, a, names) in
     record {
       attributes = omega (arith, k, le);
-      names = entries_short all p.entries [] i.1.1.0 tt;
+      names = entries_short all p.entries [] i.entries tt;
       operands = omega (arith, u, us);
       results = results_short p.row p s;
       regions = let r = regions_long all (n + 1) p (inside all n p scope) t.bodies in omega (arith, r, two);
@@ -153,59 +151,41 @@ yield_short : (b : Bool) (n : ℕ) → OpsShort (if b then op (op_name n) kind.Y
 yield_short true n = (record { attributes = omega arith; names = tt; operands = omega arith; results = omega arith; regions = omega arith; arguments = tt; blocks = tt; symbol = tt; returned = omega arith }, (tt, tt))
 yield_short false n = tt
 
--- the operations of each body, whether it is closed or not
-abbrev BodiesInside : List Token → Bodies → Type 0
-BodiesInside all no_bodies = Unit {0}
-BodiesInside all (body ns close rest) = NodesOf all ns × BodiesInside all rest
-
-bodies_inside : (all : List Token) (bs : Bodies) → BodiesOf all bs → BodiesInside all bs
-bodies_inside all no_bodies w = tt
-bodies_inside all (body ns close rest) w = (w.0, bodies_inside all rest w.1.1)
-
-functions_inside : (all : List Token) (bs : Bodies) → FunctionsOf all bs → BodiesInside all bs
-functions_inside all no_bodies w = tt
-functions_inside all (body ns close rest) w = (w.0, bodies_inside all rest w.1)
-
-root_inside : (all : List Token) (written : Bool) (first : ℕ) (p : Parts) (bs : Bodies) → RootOf all written first p bs → Inside all p × BodiesInside all bs
-root_inside all true first p bs w = (w.1.0, bodies_inside all bs w.1.1.0)
-root_inside all false first p bs w = (w.0, functions_inside all bs w.1)
-
 mutual
-  nodes_lists : (all : List Token) (n : ℕ) (scope : Meanings) (ns : Nodes) → NodesShort ns → NodesOf all ns → nodes_count ns < 2 ^ 32 → (nodes_faults all n scope ns).mismatch ≡ None → OpsShort (nodes_meant all n scope ns)
-  nodes_lists all n scope no_nodes s w few e = tt
-  nodes_lists all n scope (node first p bs rest) s w few e =
+  nodes_lists : (all : List Token) (m depth n : ℕ) (scope : Meanings) (ns : Nodes Parts) → NodesHave m (Kept all) ns → NodesNest most_open 2 depth (nodes_said (said all) ns) → nodes_count ns < 2 ^ 32
+      → (nodes_faults all n scope ns).mismatch ≡ None → OpsShort (nodes_meant all n scope ns)
+  nodes_lists all m depth n scope no_nodes w two few e = tt
+  nodes_lists all m depth n scope (node first p bs rest) w two few e =
       let f = none_earlier _ _ e in
       let g = none_earlier _ _ f.0 in (
-        head_lists all n scope (record { first = first; parts = p; bodies = bs }) s.0 w.1.0 s.1.0.0 (omega (arith, few)) (unless (agrees all p scope) first g.0),
+        head_lists all n scope (record { first = first; parts = p; bodies = bs }) w.1.0.0 w.1.0.1 two.0 (omega (arith, few)) (unless (agrees all p scope) first g.0),
         (
-          bodies_lists all (n + 1) p (inside all n p scope) bs s.1.0.1 (bodies_inside all bs w.1.1.0) (omega (arith, few)) g.1,
-          nodes_lists all (n + (1 + bodies_count p bs)) (behind all n p scope) rest s.1.1 w.1.1.1 (omega (arith, few)) f.1,
+          bodies_lists all m depth (n + 1) p (inside all n p scope) bs w.1.1.0 two.1.0 (omega (arith, few)) g.1,
+          nodes_lists all m depth (n + (1 + bodies_count p bs)) (behind all n p scope) rest w.1.1.1 two.1.1 (omega (arith, few)) f.1,
         ),
       )
 
-  bodies_lists : (all : List Token) (n : ℕ) (p : Parts) (scope : Meanings) (bs : Bodies) → BodiesShort bs → BodiesInside all bs → bodies_count p bs < 2 ^ 32 → (bodies_faults all n p scope bs).mismatch ≡ None → RegionsShort (bodies_meant all n p scope bs)
-  bodies_lists all n p scope no_bodies s w few e = tt
-  bodies_lists all n p scope (body ns close rest) s w few e =
+  bodies_lists : (all : List Token) (m depth n : ℕ) (p : Parts) (scope : Meanings) (bs : Bodies Parts) → BodiesHave m (Kept all) bs → BodiesNest most_open 2 depth (bodies_said (said all) bs) → bodies_count p bs < 2 ^ 32
+      → (bodies_faults all n p scope bs).mismatch ≡ None → RegionsShort (bodies_meant all n p scope bs)
+  bodies_lists all m depth n p scope no_bodies w two few e = tt
+  bodies_lists all m depth n p scope (body ns close rest) w two few e =
       let f = none_earlier _ _ e in (
-        joined_short (nodes_meant all n scope ns) (left_out p ns (n + nodes_count ns)) (nodes_lists all n scope ns s.0 w.0 (omega (arith, few)) f.0) (yield_short (lacks_yield p ns) (n + nodes_count ns)),
-        bodies_lists all (n + (nodes_count ns + yield_count p ns)) p scope rest s.1 w.1 (omega (arith, few)) f.1,
+        joined_short (nodes_meant all n scope ns) (left_out p ns (n + nodes_count ns)) (nodes_lists all m (depth + 1) n scope ns w.0 two.1.0 (omega (arith, few)) f.0) (yield_short (lacks_yield p ns) (n + nodes_count ns)),
+        bodies_lists all m depth (n + (nodes_count ns + yield_count p ns)) p scope rest w.1.1 two.1.1 (omega (arith, few)) f.1,
       )
 
 -- ---- texts
 
-tree_lists : (all : List Token) (file : File) → TreeShort file.root → FileOf all file → file_count file ≤ most_operations → (tree_faults all 0 no_names file.root).mismatch ≡ None → ListsAreShort (meant all file)
-tree_lists all file s k few e =
-    let t : Tree = file.root in
-    let w = root_inside all file.written t.first t.parts t.bodies k in
-    let f = none_earlier _ _ e in
-    let count : bodies_count t.parts t.bodies < 2 ^ 32 = omega (arith, few) in
-    record {
-      lists = head_lists all 0 no_names t s.0 w.0 s.1.0 count (unless (agrees all t.parts no_names) t.first f.0);
-      inside = bodies_lists all 1 t.parts (inside all 0 t.parts no_names) t.bodies s.1.1 w.1 count f.1;
-    }
-
 pub spelt_is_short : SpeltIsShort
 spelt_is_short bytes m s =
     let all = s.tokens in
-    let few = few_operations (suc (length all)) all s.file (length all) (s.is_text (suc (length all)) (omega arith)) in
-    subst ListsAreShort s.means (tree_lists all s.file (text_short all s.file s.is_text) (text_of_kinds all s.file s.is_text) few (ap (λ (f : Faults). f.mismatch) s.no_fault))
+    let t : Tree Parts = s.file.root in
+    let few = few_operations all s.file s.is_text in
+    let w = text_kept all s.file s.is_text in
+    let two = text_nests all s.file s.is_text in
+    let f = none_earlier _ _ (ap (λ (f : Faults). f.mismatch) s.no_fault) in
+    let count : bodies_count t.parts t.bodies < 2 ^ 32 = omega (arith, few) in
+    subst ListsAreShort s.means (record {
+      lists = head_lists all 0 no_names t w.1.0.0 w.1.0.1 two.0 count (unless (agrees all t.parts no_names) t.first f.0);
+      inside = bodies_lists all (suc (length all)) 0 1 t.parts (inside all 0 t.parts no_names) t.bodies w.1.1.0 two.1.0 count f.1;
+    })

@@ -3,38 +3,39 @@ use Rattle.std.proofs.Common.{◌≡◌, ℕ, ◌<◌, ◌^◌, true, List, [], 
 use Rattle.std.specs.Prelude.{All, drop, slice_get}
 use Rattle.std.specs.Cmp.Lexicographic.{slice_cmp}
 use Rattle.std.specs.Ordering.{nat_cmp, match_ordering}
-use Rattle.std.proofs.lemmas.Bool.{ltb-true}
+use Rattle.std.proofs.lemmas.Bool.{leb-true}
 use Rattle.std.proofs.lemmas.List.Elements.{All-head, All-tail}
+use Rattle.xf_type.specs.Limits.{most_entries}
 use Rattle.xf_lex.specs.declared.token.Token.{Token}
 use Rattle.xf_lex.specs.declared.token.TokenKind.{TokenKind}
 use Rattle.xf_lex.specs.declared.token.TokenKind.TheVariants as token_kind
 use Rattle.xf_grammar.specs.Tokens.{terminal, terminal_of, telling}
-use Rattle.xf_read_base.specs.declared.parts.AttrEntry.{AttrEntry}
-use Rattle.xf_read_base.specs.declared.parts.EntryValue.{EntryValue}
-use Rattle.xf_read_base.specs.declared.parts.EntryValue.TheVariants as value
-use Rattle.xf_read_base.specs.declared.parts.Parts.{Parts}
-use Rattle.xf_read_base.specs.declared.row.Row.{Row}
-use Rattle.xf_read_base.specs.declared.row.Row.TheVariants as row
-use Rattle.xf_read_base.specs.Rules.{is_symbol, is_name, is_string}
-use Rattle.xf_read_base.specs.Strings.{decoded}
+use Rattle.xf_format.specs.declared.parts.AttrEntry.{AttrEntry}
+use Rattle.xf_format.specs.declared.parts.EntryValue.{EntryValue}
+use Rattle.xf_format.specs.declared.parts.EntryValue.TheVariants as value
+use Rattle.xf_format.specs.declared.parts.Parts.{Parts}
+use Rattle.xf_format.specs.declared.row.Row.{Row}
+use Rattle.xf_format.specs.declared.row.Row.TheVariants as row
+use Rattle.xf_format.specs.Tests.{is_symbol, is_name, is_string}
+use Rattle.xf_format.specs.Strings.{decoded}
 use Rattle.xf_read_base.specs.Values.{bytes_of, value_of_entry, attr_of, with_attr, with_entries, kind_by}
 use Rattle.xf_ir.specs.declared.kind.Attr.{Attr}
 use Rattle.xf_ir.specs.Lists.{Each}
 use Rattle.xf_ir.specs.Bounds.{HasShortText, IsShortAttr, HasShortSymbol}
-use Rattle.xf_read.proofs.OfKind.{SymbolOf, ValueOf, EntryOf, Inside}
+use Rattle.xf_format.proofs.OfKind.{SymbolOf, ValueOf, EntryOf, Inside}
 
 -- ---- tokens
 
 symbol_bytes : (k : TokenKind) (bs : List ℕ) → is_symbol (terminal k (telling k bs)) ≡ true → length (drop 1 bs) < 2 ^ 32
-symbol_bytes token_kind.Symbol bs e = ltb-true (length (drop 1 bs)) (2 ^ 32) e
+symbol_bytes token_kind.Symbol bs e = let le = leb-true (length (drop 1 bs)) most_entries e in omega (arith, le)
 symbol_bytes k bs e = absurd cc
 
 name_bytes : (k : TokenKind) (bs : List ℕ) → is_name (terminal k (telling k bs)) ≡ true → length bs < 2 ^ 32
-name_bytes token_kind.Word bs e = ltb-true (length bs) (2 ^ 32) e
+name_bytes token_kind.Word bs e = let le = leb-true (length bs) most_entries e in omega (arith, le)
 name_bytes k bs e = absurd cc
 
 string_bytes : (k : TokenKind) (bs : List ℕ) → is_string (terminal k (telling k bs)) ≡ true → length (decoded bs) < 2 ^ 32
-string_bytes token_kind.Text bs e = ltb-true (length (decoded bs)) (2 ^ 32) e
+string_bytes token_kind.Text bs e = let le = leb-true (length (decoded bs)) most_entries e in omega (arith, le)
 string_bytes k bs e = absurd cc
 
 symbol_token : (o : Option Token) → is_symbol (terminal_of o) ≡ true → length (drop 1 (bytes_of o)) < 2 ^ 32
@@ -85,4 +86,4 @@ kind_short all row.Call p (Some at) e w = rw e (symbol_token (slice_get all at) 
 kind_short all r p s e w = tt
 
 pub symbol_short : (all : List Token) (r : Row) (p : Parts) → Inside all p → HasShortSymbol (kind_by all r p)
-symbol_short all r p w = kind_short all r p p.symbol refl w.0
+symbol_short all r p w = kind_short all r p p.symbol refl w.symbol

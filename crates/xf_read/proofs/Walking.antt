@@ -3,7 +3,7 @@ use Rattle.std.proofs.Common.{◌≡◌, ℕ, ◌+◌, ◌^◌, ◌<◌, List, [
 use Rattle.std.proofs.lemmas.List.{at_drop_more}
 use Rattle.xf_span.specs.declared.place.Place.{Place}
 use Rattle.xf_lex.specs.declared.token.Token.{Token}
-use Rattle.xf_read_base.specs.declared.parts.Parts.{Parts}
+use Rattle.xf_format.specs.declared.parts.Parts.{Parts}
 use Rattle.xf_ir.specs.Tree.{Ops, Regions, region, cons}
 use Rattle.xf_ir.specs.Tree.{Tree as Op, Body as IrBlock}
 use Rattle.xf_ir.specs.View.{ops_of, regions_of}
@@ -11,19 +11,19 @@ use Rattle.xf_read.specs.declared.faults.Faults.{Faults}
 use Rattle.xf_read.specs.Meant.{joined, left_out, nodes_meant, bodies_meant, tree_meant, place_of, yield_places, nodes_places, bodies_places}
 use Rattle.xf_read.specs.Names.{with_faults, no_faults, yield_count, nodes_count, bodies_count, tree_count, inside, behind, head_faults, nodes_faults, bodies_faults, tree_faults}
 use Rattle.xf_read.specs.Scopes.{Meanings}
-use Rattle.xf_read.specs.Tree.{Tree, Block}
+use Rattle.xf_grammar.specs.Tree.{Tree, Block}
 use Rattle.xf_read.specs.Types.{args_by}
-use Rattle.xf_read.specs.View.{nodes_of, bodies_of}
+use Rattle.xf_syntax.specs.View.{nodes_of, bodies_of}
 use Rattle.xf_read.specs.Walks.{joined_regions}
 use Rattle.xf_read.proofs.Earlier.{faults_regrouped, faults_not}
 use Rattle.xf_read.proofs.Joining.{ops_push, regions_push}
 
-module _ (all : List Token) (ts : List Tree) (i : ℕ) (this : Tree) (is : this ≡ get_or ts i this) (lt : i < length ts)
+module _ (all : List Token) (ts : List (Tree Parts)) (i : ℕ) (this : Tree Parts) (is : this ≡ get_or ts i this) (lt : i < length ts)
   where
-    abbrev rest : List Tree
+    abbrev rest : List (Tree Parts)
     rest = drop (i + 1) ts
 
-    first_is : {Y : Type 0} (F : List Tree → Y) → F (drop i ts) ≡ F (this ∷ rest)
+    first_is : {Y : Type 0} (F : List (Tree Parts) → Y) → F (drop i ts) ≡ F (this ∷ rest)
     first_is F = at_drop_more F ts i this lt ∙ ap (λ x. F (x ∷ rest)) (sym is)
 
     pub ops_more : (n m : ℕ) (s z : Meanings) (os us : List Op) (o : Op) (total : Ops) → o ≡ tree_meant all n s this → m ≡ n + tree_count this → z ≡ behind all n this.parts s → us ≡ os ++ o ∷ []
@@ -62,12 +62,12 @@ module _ (all : List Token) (ts : List Tree) (i : ℕ) (this : Tree) (is : this 
         let c : nodes_count (nodes_of (drop i ts)) ≡ tree_count this + nodes_count (nodes_of rest) = first_is (λ xs. nodes_count (nodes_of xs)) in
         omega arith
 
-module _ (all : List Token) (p : Parts) (bs : List Block) (i : ℕ) (here : Block) (is : here ≡ get_or bs i here) (lt : i < length bs)
+module _ (all : List Token) (p : Parts) (bs : List (Block Parts)) (i : ℕ) (here : Block Parts) (is : here ≡ get_or bs i here) (lt : i < length bs)
   where
-    abbrev later : List Block
+    abbrev later : List (Block Parts)
     later = drop (i + 1) bs
 
-    next_is : {Y : Type 0} (F : List Block → Y) → F (drop i bs) ≡ F (here ∷ later)
+    next_is : {Y : Type 0} (F : List (Block Parts) → Y) → F (drop i bs) ≡ F (here ∷ later)
     next_is F = at_drop_more F bs i here lt ∙ ap (λ x. F (x ∷ later)) (sym is)
 
     abbrev size : ℕ
@@ -108,7 +108,7 @@ module _ (all : List Token) (p : Parts) (bs : List Block) (i : ℕ) (here : Bloc
 
 -- ---- one operation, from its head and its bodies
 
-module _ (all : List Token) (s z : Meanings) (t : Tree) (n m : ℕ) (e : m ≡ n + 1) (q : z ≡ inside all n t.parts s)
+module _ (all : List Token) (s z : Meanings) (t : Tree Parts) (n m : ℕ) (e : m ≡ n + 1) (q : z ≡ inside all n t.parts s)
   where
     pub tree_faults_are : (f g h : Faults) → g ≡ with_faults f (head_faults all n t.first t.parts s) → h ≡ with_faults g (bodies_faults all m t.parts z t.bodies) → h ≡ with_faults f (tree_faults all n s t)
     tree_faults_are f g h a b =

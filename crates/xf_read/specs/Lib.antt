@@ -1,14 +1,8 @@
-pub mod Laws
 pub mod Meant
 pub mod Names
 pub mod Scopes
 pub mod Short
 pub mod Spells
-pub mod Syntax
-pub mod Tree
 pub mod Types
-pub mod View
 pub mod Visible
 pub mod Walks
-pub mod Within
-pub mod Written

@@ -1,10 +1,11 @@
 -- What the names of values stand for where an operation stands.
-use Rattle.std.specs.Prelude.{ℕ, zero, suc, ◌+◌, max, List, Option, Some, None, Bool, true, false, ◌||◌, ◌==◌, if◌then◌else◌, nat_lt, slice_get}
+use Rattle.std.specs.Prelude.{ℕ, zero, suc, max, List, Option, Some, None, Bool, true, false, ◌||◌, ◌==◌, if◌then◌else◌}
+use Rattle.std.specs.Prelude.{nat_lt, slice_get}
 use Rattle.std.specs.Str.{bytes_eq}
 use Rattle.xf_type.specs.declared.payload_type.PayloadType.{PayloadType}
 use Rattle.xf_lex.specs.declared.token.Token.{Token}
-use Rattle.xf_grammar.specs.Tokens.{is_index_at}
-use Rattle.xf_read_base.specs.declared.parts.Ref.{Ref}
+use Rattle.xf_format.specs.declared.parts.Use.{Use}
+use Rattle.xf_read_base.specs.Spelt.{count_used}
 use Rattle.xf_read_base.specs.Values.{text}
 use Rattle.xf_ir.specs.declared.name.ValueName.{ValueName}
 use Rattle.xf_ir.specs.declared.name.ValueName.TheVariants.{Result, Arg, Free}
@@ -23,8 +24,8 @@ abbrev pub has_values : ℕ → Bool
 has_values zero = false
 has_values (suc k) = true
 
--- a name beside those of its text that are visible already; what defines the values, and their types, the last one tells. It
--- stands twice, so that the text means no module; but a use of a value that any of them has is defined.
+-- a name beside those of its text that are visible already; what defines the values, and their types, the last one
+-- tells. It stands twice, so that the text means no module; but a use of a value that any of them has is defined.
 abbrev pub beside : Option Named → Named → Named
 beside None x = x
 beside (Some y) x = record x { most = max y.most x.most; single = y.single || x.single }
@@ -44,21 +45,21 @@ with_name name x scope other = if bytes_eq name other then Some (beside (scope n
 -- ---- uses
 
 -- %n is the one value of some name of that text, and %n#i value i of some name of it
-abbrev pub has_value : Bool → ℕ → Named → Bool
-has_value true i x = nat_lt i x.most
-has_value false i x = x.single
+abbrev pub has_value : Option ℕ → Named → Bool
+has_value (Some i) x = nat_lt i x.most
+has_value None x = x.single
 
-abbrev pub has_use : Bool → ℕ → Option Named → Bool
-has_use indexed i None = false
-has_use indexed i (Some x) = has_value indexed i x
+abbrev pub has_use : Option ℕ → Option Named → Bool
+has_use number None = false
+has_use number (Some x) = has_value number x
 
 -- what the text of a use stands for
-abbrev pub named_by : List Token → Meanings → Ref → Option Named
-named_by all scope r = scope (text all r.token)
+abbrev pub named_by : List Token → Meanings → Use → Option Named
+named_by all scope u = scope (text all u.token)
 
 -- whether a use stands for a value
-abbrev pub means : List Token → Meanings → Ref → Bool
-means all scope r = has_use (is_index_at all (r.token + 1)) r.count (named_by all scope r)
+abbrev pub means : List Token → Meanings → Use → Bool
+means all scope u = has_use u.number (named_by all scope u)
 
 -- ---- values and their types
 
@@ -76,9 +77,9 @@ abbrev pub type_in : Option Named → ℕ → Option PayloadType
 type_in None i = None
 type_in (Some x) i = slice_get x.types i
 
--- the value that a use stands for, and its type
-abbrev pub value_used : List Token → Meanings → Ref → ValueName
-value_used all scope r = value_in (named_by all scope r) r.count
+-- the value that a use stands for, and its type; without a number it is value 0
+abbrev pub value_used : List Token → Meanings → Use → ValueName
+value_used all scope u = value_in (named_by all scope u) (count_used u.number)
 
-abbrev pub type_used : List Token → Meanings → Ref → Option PayloadType
-type_used all scope r = type_in (named_by all scope r) r.count
+abbrev pub type_used : List Token → Meanings → Use → Option PayloadType
+type_used all scope u = type_in (named_by all scope u) (count_used u.number)

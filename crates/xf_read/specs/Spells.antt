@@ -1,25 +1,24 @@
 -- The module that a text spells, and why a text spells none.
 use Rattle.std.specs.Prelude.{◌≡◌, ◌⊎◌, ⊤, ℕ, ◌<◌, List, length, Option, Some, None, Err}
 use Rattle.xf_span.specs.declared.place.Place.{Place}
-use Rattle.xf_span.specs.declared.code.Code.TheVariants.{A2, A3, A4, A5, A7}
+use Rattle.xf_span.specs.declared.code.Code.TheVariants.{A2, A3, A4}
 use Rattle.xf_span.specs.declared.fault.Fault.{Fault}
 use Rattle.xf_span.specs.declared.fault.TextFault.{TextFault}
 use Rattle.xf_span.specs.declared.fault.TextFault.TheVariants as text_fault
 use Rattle.xf_span.specs.Fault.{fault_at}
 use Rattle.xf_lex.specs.declared.token.Token.{Token}
 use Rattle.xf_lex.specs.Lexes.{Lexes, HasFault}
-use Rattle.xf_read_base.specs.Stops.{stop_place, due_fault}
+use Rattle.xf_format.specs.declared.expected.Expected.{Expected}
+use Rattle.xf_format.specs.declared.expected.Stopped.{Stopped}
+use Rattle.xf_format.specs.declared.expected.Stopped.TheVariants as stopped
+use Rattle.xf_syntax.specs.declared.tree.File.{File}
+use Rattle.xf_syntax.specs.File.{file_at}
+use Rattle.xf_syntax.specs.Laws.{IsText, NoTextThrough}
+use Rattle.xf_read_base.specs.Stops.{due_fault}
 use Rattle.xf_ir.specs.declared.op.Module.{Module}
-use Rattle.xf_read.specs.declared.fault.Cause.{Cause}
-use Rattle.xf_read.specs.declared.fault.Cause.TheVariants as cause
-use Rattle.xf_read.specs.declared.fault.SyntaxFault.{SyntaxFault}
-use Rattle.xf_read.specs.declared.fault.SyntaxFault.TheVariants as stopped
 use Rattle.xf_read.specs.declared.faults.Faults.{Faults}
-use Rattle.xf_read.specs.declared.tree.File.{File}
-use Rattle.xf_read.specs.Laws.{IsText, NoTextThrough}
 use Rattle.xf_read.specs.Meant.{file_faults, meant, places_of, place_of}
 use Rattle.xf_read.specs.Names.{no_faults}
-use Rattle.xf_read.specs.Syntax.{file_at}
 
 -- ---- modules
 
@@ -42,23 +41,17 @@ pub record HasPlaces (bytes : List ℕ) (places : List Place) : Type 0 where
 
 -- ---- faults of the syntax
 
--- the fault of a reading that stops at a token, by its cause
-abbrev pub syntax_fault : List Token → ℕ → Cause → Fault
-syntax_fault all at (cause.Expected d) = due_fault all at d
-syntax_fault all at cause.NestLimit = fault_at A5 (stop_place all at)
-syntax_fault all at cause.TooManyOps = fault_at A7 (stop_place all at)
-
-abbrev pub unread : List Token → SyntaxFault → TextFault
+abbrev pub unread : List Token → Stopped → TextFault
 unread all stopped.NoMemory = text_fault.NoMemory
-unread all (stopped.At at c) = text_fault.At (syntax_fault all at c)
+unread all (stopped.At at d) = text_fault.At (due_fault all at d)
 
 -- tokens that no file has: their reading stops at a token through which no text of the syntax agrees with them
 pub record StopsAt (tokens : List Token) (f : Fault) : Type 0 where
   pub at : ℕ
-  pub cause : Cause
-  pub stops : (fuel : ℕ) → length tokens < fuel → file_at fuel tokens ≡ Err (at, cause)
+  pub due : Expected
+  pub stops : (fuel : ℕ) → length tokens < fuel → file_at fuel tokens ≡ Err (at, due)
   pub no_text : NoTextThrough at tokens
-  pub is : f ≡ syntax_fault tokens at cause
+  pub is : f ≡ due_fault tokens at due
 
 -- ---- faults of names and types
 

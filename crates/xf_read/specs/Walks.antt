@@ -2,7 +2,7 @@
 use Rattle.std.specs.Prelude.{◌≡◌, ℕ, ◌+◌, List, ◌++◌, if◌then◌else◌, Some, None, false}
 use Rattle.xf_span.specs.declared.place.Place.{Place}
 use Rattle.xf_lex.specs.declared.token.Token.{Token}
-use Rattle.xf_read_base.specs.declared.parts.Parts.{Parts}
+use Rattle.xf_format.specs.declared.parts.Parts.{Parts}
 use Rattle.xf_ir.specs.Tree.{Regions, no_regions, region}
 use Rattle.xf_ir.specs.Tree.{Tree as Op}
 use Rattle.xf_read.specs.declared.faults.Faults.{Faults}
@@ -10,7 +10,7 @@ use Rattle.xf_read.specs.declared.head.MeantHead.{MeantHead}
 use Rattle.xf_read.specs.declared.scope.VisibleNames.{VisibleNames as Visible}
 use Rattle.xf_read.specs.declared.walk.Walk.{Walk}
 use Rattle.xf_read.specs.declared.read.Built.{Built}
-use Rattle.xf_read.specs.declared.tree.File.{File}
+use Rattle.xf_syntax.specs.declared.tree.File.{File}
 use Rattle.xf_read.specs.Meant.{operands_of, meant, places_of, file_faults}
 use Rattle.xf_read_base.specs.Attributes.{entries_twice}
 use Rattle.xf_read.specs.Names.{op_name, earlier, with_faults, undefined_in, names_twice, agrees}
@@ -30,7 +30,8 @@ pub record Same (old new : Visible) : Type 0 where
   pub names : names_in new ≡ names_in old
   pub changes : new.changes.items ≡ old.changes.items
 
--- what an operation holds beside its name and its regions, and its faults but for names of its arguments that stand twice
+-- what an operation holds beside its name and its regions, and its faults but for names of its arguments that stand
+-- twice
 pub record IsHead (all : List Token) (scope : Meanings) (first : ℕ) (p : Parts) (h : MeantHead) : Type 0 where
   pub kind : h.kind ≡ kind_by all p.row p
   pub attrs : h.attrs ≡ attrs_of all p.entries
@@ -48,7 +49,14 @@ joined_regions (region args ops rest) us = region args ops (joined_regions rest 
 
 -- operation n of a head and regions
 abbrev pub head_tree : ℕ → MeantHead → Regions → Op
-head_tree n h rs = record { name = op_name n; kind = h.kind; attrs = h.attrs; operands = h.operands; results = h.results; regions = rs }
+head_tree n h rs = record {
+  name = op_name n;
+  kind = h.kind;
+  attrs = h.attrs;
+  operands = h.operands;
+  results = h.results;
+  regions = rs;
+}
 
 -- what a file means, and its faults
 pub record IsBuilt (all : List Token) (f : File) (b : Built) : Type 0 where

@@ -1,6 +1,7 @@
 //! What an operation lets names stand for.
 ghost use Rattle.std.specs.Prelude.{◌≡◌, IfOk, OnOk, min};
-ghost use Rattle.xf_read.specs.Names.{earlier, argument_number, argument_named, results_named, symbol_named, args_twice, with_args, with_results, with_symbol, behind};
+ghost use Rattle.xf_read.specs.Names.{earlier, argument_number, argument_named, results_named, symbol_named};
+ghost use Rattle.xf_read.specs.Names.{args_twice, with_args, with_results, with_symbol, behind};
 ghost use Rattle.std.specs.Option.{option_copied};
 ghost use Rattle.xf_read.specs.Types.{results_by};
 ghost use Rattle.xf_read.specs.Visible.{names_in, Grows};
@@ -9,9 +10,10 @@ use crate::faults::{earlier, function_symbol, has_values, token_if};
 use crate::scope::{Definer, Named, VisibleNames};
 use crate::types::one_type;
 use std::alloc::Global;
+use xf_format::{Parts, Ref};
 use xf_ir::OpName;
 use xf_lex::Token;
-use xf_read_base::{Parts, Ref, text};
+use xf_read_base::text;
 use xf_type::{Duplicate, NoMemory, PayloadType, TypeList};
 
 /// The number of an argument, up to 2^32 - 1.

@@ -1,12 +1,14 @@
 //! The faults of names and types.
 ghost use Rattle.std.specs.Prelude.{◌≡◌, if◌then◌else◌, None, Some, Option, min, is_some};
-ghost use Rattle.xf_read.specs.Names.{earlier, with_faults, twice_fault, no_faults, function_symbol, visible_at, symbol_twice, results_twice, names_twice};
+ghost use Rattle.xf_read.specs.Names.{earlier, with_faults, twice_fault, no_faults, function_symbol};
+ghost use Rattle.xf_read.specs.Names.{visible_at, symbol_twice, results_twice, names_twice};
 ghost use Rattle.xf_read.specs.Scopes.{has_values};
 ghost use Rattle.xf_read.specs.Visible.{names_in};
 
 use crate::scope::VisibleNames;
+use xf_format::{Parts, Ref, Row};
 use xf_lex::Token;
-use xf_read_base::{Parts, Ref, Row, text};
+use xf_read_base::text;
 
 /// The first token in the text at which each check finds a fault.
 #[derive(Clone, Copy, Debug, PartialEq, Eq)]

@@ -8,9 +8,10 @@ use crate::scope::VisibleNames;
 use crate::types::{agrees, arg_types, result_types};
 use crate::uses::{operands, undefined};
 use std::alloc::Global;
+use xf_format::Parts;
 use xf_ir::{AttrList, Kind, ValueList};
 use xf_lex::Token;
-use xf_read_base::{Parts, attributes, kind_of};
+use xf_read_base::{attributes, kind_of};
 use xf_type::{NoMemory, TypeList};
 
 /// What an operation holds beside its name and its regions, the types of its block arguments, and

@@ -1,19 +1,12 @@
 //! What holds of all texts.
 ghost use Rattle.xf_read.specs.Short.{SpeltIsShort, SpeltIsWithinLimits};
 ghost use Rattle.xf_read.specs.Spells.{SpellsOne, MisspellsOne, SpellsOrNot};
-ghost use Rattle.xf_read.specs.Written.{TextsAreWritten, TextsReadAgain};
 
 /// A text spells at most one module and has at most one fault, and never both.
 pub fn one_meaning()
     ensures spells { SpellsOne }
     ensures fault { MisspellsOne }
     ensures apart { SpellsOrNot }
-{}
-
-/// A text is read exactly where it is written, and its tree says what its tokens say.
-pub fn texts_are_read_as_written()
-    ensures written { TextsAreWritten }
-    ensures again { TextsReadAgain }
 {}
 
 /// No list of a module that a text spells has 2^32 entries, and the module is within the limits of

@@ -5,15 +5,14 @@ ghost use Rattle.xf_read.specs.Spells.{Spells, HasPlaces, IsUnread};
 ghost use Rattle.xf_read.specs.Walks.{IsBuilt};
 
 use crate::faults::Faults;
-use crate::reader::syntax;
 use crate::scope::VisibleNames;
 use crate::stop::{first_fault, unread};
-use crate::tree::File;
 use crate::walk::{PlaceOfList, Walk, operation, place_of};
 use std::alloc::Global;
 use xf_ir::Module;
 use xf_lex::{Token, tokens};
 use xf_span::{FIRST_PLACE, Place, ReadFault};
+use xf_syntax::{File, syntax};
 use xf_type::NoMemory;
 
 /// A module, and the place of each of its operations by its name's number.

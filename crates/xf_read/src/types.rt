@@ -2,15 +2,16 @@
 ghost use Rattle.std.specs.Prelude.{◌≡◌, ◌==◌, length, IfOk};
 ghost use Rattle.std.specs.Option.{option_copied};
 ghost use Rattle.xf_read.specs.Names.{operands_fit, results_fit, agrees};
-ghost use Rattle.xf_read.specs.Types.{one_type, results_by, args_by, operands_by, stated_by, same_type, fits};
+ghost use Rattle.xf_type.specs.Equal.{same_type};
+ghost use Rattle.xf_read.specs.Types.{one_type, results_by, args_by, operands_by, stated_by, fits};
 ghost use Rattle.xf_read.specs.Visible.{names_in};
 
 use crate::scope::VisibleNames;
 use crate::uses::type_used;
 use std::alloc::Global;
+use xf_format::{Parts, Ref, Row};
 use xf_lex::Token;
-use xf_read_base::{Parts, Ref, Row};
-use xf_type::{Duplicate, Equals, ListOf, NoMemory, PayloadType, TypeList, Width};
+use xf_type::{Duplicate, ListOf, NoMemory, PayloadType, TypeList, Width, same_type};
 
 /// The type, where it is there.
 pub fn one_type(alloc: Global, ty: Option<&PayloadType>) -> Result<TypeList, NoMemory>
@@ -28,11 +29,11 @@ pub fn result_types(alloc: Global, parts: &Parts) -> Result<TypeList, NoMemory>
     ensures { IfOk result (λ types. types ≡ results_by parts.now.row parts.now) }
 {
     match parts.row {
-        Row::Module | Row::Function | Row::Return | Row::Yield => Ok(TypeList::new(alloc)),
         Row::Call | Row::For | Row::If => parts.results.duplicate(alloc),
         Row::Constant | Row::Binary(_) | Row::Select => parts.types.duplicate(alloc),
         Row::Compare => one_type(alloc, Some(&PayloadType::Scalar(Width::I1))),
         Row::Convert(_) => one_type(alloc, parts.types.get(1)),
+        _ => Ok(TypeList::new(alloc)),
     }
 }
 
@@ -62,7 +63,7 @@ fn has_operands(parts: &Parts) -> bool
         Row::Select => uses == 3,
         Row::Convert(_) | Row::If => uses == 1,
         Row::For => uses >= 3 && uses - 3 == parts.results.len(),
-        Row::Module | Row::Function | Row::Constant => uses == 0,
+        _ => uses == 0,
     }
 }
 
@@ -77,15 +78,8 @@ fn stated(parts: &Parts, at: usize) -> Option<&PayloadType>
         Row::Select => parts.types.get(0),
         Row::For if at < 3 => parts.types.get(0),
         Row::For => parts.results.get(at - 3),
-        Row::Module | Row::Function | Row::Constant | Row::If => None,
+        _ => None,
     }
-}
-
-/// Whether two types are equal.
-fn same_type(a: &PayloadType, b: &PayloadType) -> bool
-    ensures { result ≡ same_type a.now b.now }
-{
-    a.equals(b)
 }
 
 /// Whether a type that is stated is that of the value, where both are known.

@@ -1,25 +1,25 @@
 //! The walk over all operations of a text, which builds the module and finds the faults.
 ghost use Rattle.std.specs.Prelude.{◌≡◌, ◌+◌, ◌^◌, ◌<◌, ℕ, [], ◌∷◌, IfOk, OnOk};
 ghost use Rattle.xf_ir.specs.View.{ops_of, regions_of};
-ghost use Rattle.xf_read.specs.Meant.{joined, yield_tree, left_out, nodes_meant, bodies_meant, tree_meant, place_of, yield_places, nodes_places, bodies_places};
-ghost use Rattle.xf_read.specs.Names.{no_faults, yield_count, nodes_count, bodies_count, tree_count, inside, behind, head_faults, nodes_faults, bodies_faults, tree_faults};
-ghost use Rattle.xf_read.specs.Syntax.{lacks_yield};
+ghost use Rattle.xf_read.specs.Meant.{joined, yield_tree, left_out, nodes_meant, bodies_meant, tree_meant};
+ghost use Rattle.xf_read.specs.Meant.{place_of, yield_places, nodes_places, bodies_places};
+ghost use Rattle.xf_read.specs.Names.{no_faults, lacks_yield, yield_count, nodes_count, bodies_count, tree_count};
+ghost use Rattle.xf_read.specs.Names.{inside, behind, head_faults, nodes_faults, bodies_faults, tree_faults};
 ghost use Rattle.xf_read.specs.Types.{args_by};
-ghost use Rattle.xf_read.specs.View.{nodes_of, bodies_of};
+ghost use Rattle.xf_syntax.specs.View.{nodes_of, bodies_of};
 ghost use Rattle.xf_read.specs.Visible.{names_in, Grows};
 ghost use Rattle.xf_read.specs.Walks.{IsHead, Moved, Same, head_tree};
 
 use crate::defining::{enter_args, enter_names};
 use crate::faults::Faults;
 use crate::head::{MeantHead, head_of};
-use crate::reader::{ends_in_yield, may_end_open};
 use crate::scope::VisibleNames;
-use crate::tree::{Body, SyntaxNode};
 use std::alloc::Global;
+use xf_format::{Parts, may_end_open};
 use xf_ir::{AttrList, Block, Kind, Op, OpName, ValueList};
 use xf_lex::Token;
-use xf_read_base::Parts;
 use xf_span::{FIRST_PLACE, Place};
+use xf_syntax::{Body, SyntaxNode, ends_in_yield};
 use xf_type::{Duplicate, ListOf, NoMemory, TypeList};
 
 /// The places of operations, by their numbers.
@@ -77,8 +77,10 @@ fn end_body(
     ops: &mut Vec<Op>,
 ) -> Result<(), NoMemory>
     requires { walk.old.next + yield_count parts.now body.now.nodes < 2 ^ 64 }
-    ensures ops { OnOk result (ops_of ops.new.items ≡ joined (ops_of ops.old.items) (left_out parts.now body.now.nodes walk.old.next)) }
-    ensures moved { OnOk result (Moved walk.old walk.new (yield_count parts.now body.now.nodes) (yield_places tokens.now parts.now body.now.nodes body.now.close) no_faults) }
+    ensures ops { OnOk result (ops_of ops.new.items ≡ joined (ops_of ops.old.items)
+        (left_out parts.now body.now.nodes walk.old.next)) }
+    ensures moved { OnOk result (Moved walk.old walk.new (yield_count parts.now body.now.nodes)
+        (yield_places tokens.now parts.now body.now.nodes body.now.close) no_faults) }
     ensures scope { OnOk result (Same walk.old.scope walk.new.scope) }
 {
     if lacks_yield(parts, body) {
@@ -101,7 +103,9 @@ fn enter_head<'a>(
 ) -> Result<(), NoMemory>
     requires room { walk.old.next + 1 < 2 ^ 64 }
     requires head { (first : ℕ) × IsHead tokens.now (names_in walk.old.scope) first parts.now head.now }
-    ensures moved { OnOk result ((first : ℕ) → IsHead tokens.now (names_in walk.old.scope) first parts.now head.now → Moved walk.old walk.new 1 (place ∷ []) (head_faults tokens.now walk.old.next first parts.now (names_in walk.old.scope))) }
+    ensures moved { OnOk result ((first : ℕ) → IsHead tokens.now (names_in walk.old.scope) first parts.now head.now
+        → Moved walk.old walk.new 1 (place ∷ [])
+        (head_faults tokens.now walk.old.next first parts.now (names_in walk.old.scope))) }
     ensures scope { OnOk result (names_in walk.new.scope ≡ inside tokens.now walk.old.next parts.now (names_in walk.old.scope)) }
     ensures grows { OnOk result (Grows walk.old.scope walk.new.scope) }
 {
@@ -140,8 +144,11 @@ pub fn operation<'a>(
 ) -> Result<Op, NoMemory>
     requires { walk.old.next + tree_count node.now < 2 ^ 64 }
     ensures op { IfOk result (λ op. op ≡ tree_meant tokens.now walk.old.next (names_in walk.old.scope) node.now) }
-    ensures moved { OnOk result (Moved walk.old walk.new (tree_count node.now) (place ∷ bodies_places tokens.now node.now.parts node.now.bodies) (tree_faults tokens.now walk.old.next (names_in walk.old.scope) node.now)) }
-    ensures scope { OnOk result (names_in walk.new.scope ≡ behind tokens.now walk.old.next node.now.parts (names_in walk.old.scope)) }
+    ensures moved { OnOk result (Moved walk.old walk.new (tree_count node.now)
+        (place ∷ bodies_places tokens.now node.now.parts node.now.bodies)
+        (tree_faults tokens.now walk.old.next (names_in walk.old.scope) node.now)) }
+    ensures scope { OnOk result (names_in walk.new.scope ≡ behind tokens.now walk.old.next node.now.parts
+        (names_in walk.old.scope)) }
     ensures grows { OnOk result (Grows walk.old.scope walk.new.scope) }
 {
     let number = walk.next;
@@ -164,8 +171,11 @@ fn operations<'a>(
     nodes: &[SyntaxNode],
 ) -> Result<Vec<Op>, NoMemory>
     requires { walk.old.next + nodes_count (nodes_of nodes.now) < 2 ^ 64 }
-    ensures ops { IfOk result (λ ops. ops_of ops.items ≡ nodes_meant tokens.now walk.old.next (names_in walk.old.scope) (nodes_of nodes.now)) }
-    ensures moved { OnOk result (Moved walk.old walk.new (nodes_count (nodes_of nodes.now)) (nodes_places tokens.now (nodes_of nodes.now)) (nodes_faults tokens.now walk.old.next (names_in walk.old.scope) (nodes_of nodes.now))) }
+    ensures ops { IfOk result (λ ops. ops_of ops.items ≡ nodes_meant tokens.now walk.old.next (names_in walk.old.scope)
+        (nodes_of nodes.now)) }
+    ensures moved { OnOk result (Moved walk.old walk.new (nodes_count (nodes_of nodes.now))
+        (nodes_places tokens.now (nodes_of nodes.now))
+        (nodes_faults tokens.now walk.old.next (names_in walk.old.scope) (nodes_of nodes.now))) }
     ensures scope { OnOk result (Same walk.old.scope walk.new.scope) }
 {
     let height = walk.scope.height();
@@ -191,8 +201,11 @@ fn blocks<'a>(
 ) -> Result<Vec<Block>, NoMemory>
     requires room { walk.old.next + bodies_count parts.now (bodies_of bodies.now) < 2 ^ 64 }
     requires args { args.now ≡ args_by parts.now.row parts.now }
-    ensures blocks { IfOk result (λ blocks. regions_of blocks.items ≡ bodies_meant tokens.now walk.old.next parts.now (names_in walk.old.scope) (bodies_of bodies.now)) }
-    ensures moved { OnOk result (Moved walk.old walk.new (bodies_count parts.now (bodies_of bodies.now)) (bodies_places tokens.now parts.now (bodies_of bodies.now)) (bodies_faults tokens.now walk.old.next parts.now (names_in walk.old.scope) (bodies_of bodies.now))) }
+    ensures blocks { IfOk result (λ blocks. regions_of blocks.items ≡ bodies_meant tokens.now walk.old.next parts.now
+        (names_in walk.old.scope) (bodies_of bodies.now)) }
+    ensures moved { OnOk result (Moved walk.old walk.new (bodies_count parts.now (bodies_of bodies.now))
+        (bodies_places tokens.now parts.now (bodies_of bodies.now))
+        (bodies_faults tokens.now walk.old.next parts.now (names_in walk.old.scope) (bodies_of bodies.now))) }
     ensures scope { OnOk result (Same walk.old.scope walk.new.scope) }
 {
     let mut made = Vec::new(alloc);

@@ -1,12 +1,3 @@
 pub mod Ends
-pub mod Growing
-pub mod HeadLaws
-pub mod HeadPieces
-pub mod Items
-pub mod Pieces
-pub mod Short
-pub mod Sizes
 pub mod Sorting
-pub mod Lookahead
 pub mod Stops
-pub mod Tells

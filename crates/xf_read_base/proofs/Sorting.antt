@@ -10,13 +10,11 @@ use Rattle.std.proofs.lemmas.List.{at_drop_more}
 use Rattle.std.proofs.lemmas.Map.Text.{btree_map_updates_str}
 use Rattle.xf_type.specs.declared.attribute.AttrValue.{AttrValue}
 use Rattle.xf_lex.specs.declared.token.Token.{Token}
-use Rattle.xf_read_base.specs.declared.parts.AttrEntry.{AttrEntry}
+use Rattle.xf_format.specs.declared.parts.AttrEntry.{AttrEntry}
 use Rattle.xf_ir.specs.declared.kind.Attr.{Attr}
 use Rattle.xf_ir.specs.Walk.{first_of}
-use Rattle.xf_read_base.specs.Attributes.{attr_in, attrs_in, names_of}
-use Rattle.xf_read_base.specs.Attributes.{also, entries_twice}
-use Rattle.xf_read_base.specs.Values.{text}
-use Rattle.xf_read_base.specs.Values.{value_of_entry, attr_of, with_attr, with_entries}
+use Rattle.xf_read_base.specs.Attributes.{attr_in, attrs_in, names_of, also, entries_twice}
+use Rattle.xf_read_base.specs.Values.{text, value_of_entry, attr_of, with_attr, with_entries}
 
 abbrev Entries : Type 0
 Entries = List (Bor (List ℕ) × AttrValue)

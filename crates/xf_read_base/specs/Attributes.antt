@@ -8,7 +8,7 @@ use denote.Ref.{Bor}
 use Rattle.xf_type.specs.declared.attribute.AttrValue.{AttrValue}
 use Rattle.xf_lex.specs.declared.token.Token.{Token}
 use Rattle.xf_ir.specs.declared.kind.Attr.{Attr}
-use Rattle.xf_read_base.specs.declared.parts.AttrEntry.{AttrEntry}
+use Rattle.xf_format.specs.declared.parts.AttrEntry.{AttrEntry}
 use Rattle.xf_read_base.specs.Values.{text}
 
 abbrev pub attr_in : Bor (List ℕ) × AttrValue → Attr
@@ -30,4 +30,5 @@ also name names other = bytes_eq name other || names other
 -- the first attribute that has a name of one before it, or one of these
 abbrev pub entries_twice : List Token → (List ℕ → Bool) → List AttrEntry → Option ℕ
 entries_twice all names [] = None
-entries_twice all names (e ∷ es) = if names (text all e.name) then Some e.name else entries_twice all (also (text all e.name) names) es
+entries_twice all names (e ∷ es) =
+    if names (text all e.name) then Some e.name else entries_twice all (also (text all e.name) names) es

@@ -1,15 +1,5 @@
 pub mod Attributes
-pub mod Heads
-pub mod Laws
-pub mod Parts
-pub mod Pieces
-pub mod Reading
-pub mod Rows
-pub mod Rules
-pub mod Short
 pub mod Spelt
 pub mod Stops
-pub mod Strings
 pub mod Values
 pub mod Verdicts
-pub mod Words

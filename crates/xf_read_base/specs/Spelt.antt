@@ -1,29 +1,33 @@
 -- The head that is spelt at a token.
-use Rattle.std.specs.Prelude.{◌≡◌, ℕ, ◌<◌, ◌≤◌, List, [], length, ◌++◌, Option, Some, None, Result, Ok, Err, Bool, true, false, if◌then◌else◌}
+use Rattle.std.specs.Prelude.{◌≡◌, ℕ, ◌<◌, ◌≤◌, List, [], length, map, ◌++◌, Option, Some, None, Result, Ok, Err}
+use Rattle.std.specs.Prelude.{Bool, if◌then◌else◌}
 use Rattle.xf_type.specs.declared.payload_type.PayloadType.{PayloadType}
 use Rattle.xf_span.specs.declared.fault.Fault.{Fault}
 use Rattle.xf_span.specs.declared.fault.TextFault.{TextFault}
 use Rattle.xf_span.specs.declared.fault.TextFault.TheVariants as text_fault
 use Rattle.xf_lex.specs.declared.token.Token.{Token}
-use Rattle.xf_grammar.specs.Tokens.{Terminal, terminal_at, word_of}
-use Rattle.xf_read_base.specs.declared.expected.Expected.{Expected}
-use Rattle.xf_read_base.specs.declared.expected.Expected.TheVariants as due
-use Rattle.xf_read_base.specs.declared.parts.Literal.{Literal}
-use Rattle.xf_read_base.specs.declared.parts.Literal.TheVariants as literal
-use Rattle.xf_read_base.specs.declared.parts.Parts.{Parts}
-use Rattle.xf_read_base.specs.declared.row.Level.TheVariants as level
-use Rattle.xf_read_base.specs.declared.row.Opening.{Opening}
-use Rattle.xf_read_base.specs.declared.row.Opening.TheVariants as opening
-use Rattle.xf_read_base.specs.declared.row.Row.{Row}
-use Rattle.xf_read_base.specs.declared.row.Row.TheVariants as row
-use Rattle.xf_read_base.specs.declared.parts.Head.{Head}
-use Rattle.xf_read_base.specs.Heads.{head_at}
-use Rattle.xf_read_base.specs.Reading.{Read}
+use Rattle.xf_grammar.specs.Tokens.{Terminal, terminal_at}
+use Rattle.xf_grammar.specs.Reading.{Out}
+use Rattle.xf_format.specs.declared.expected.Expected.{Expected}
+use Rattle.xf_format.specs.declared.expected.Expected.TheVariants as due
+use Rattle.xf_format.specs.declared.parts.Literal.{Literal}
+use Rattle.xf_format.specs.declared.parts.Literal.TheVariants as literal
+use Rattle.xf_format.specs.declared.parts.Parts.{Parts}
+use Rattle.xf_format.specs.declared.parts.Ref.{Ref}
+use Rattle.xf_format.specs.declared.parts.Use.{Use}
+use Rattle.xf_format.specs.declared.row.Level.TheVariants as level
+use Rattle.xf_format.specs.declared.row.Row.{Row}
+use Rattle.xf_format.specs.declared.row.Row.TheVariants as row
+use Rattle.xf_format.specs.Actions.{Reading}
+use Rattle.xf_format.specs.Format.{payload_head_at}
+use Rattle.xf_format.specs.Parts.{ref}
+use Rattle.xf_format.specs.Words.{row_begun, opens}
+use Rattle.xf_read_base.specs.declared.heads.Head.{Head}
 use Rattle.xf_read_base.specs.Stops.{due_fault}
 use Rattle.xf_read_base.specs.Values.{attrs_of, kind_by}
-use Rattle.xf_read_base.specs.Words.{opening_of}
 
--- the types that are stated, in order: of a loop those of its results go before its width, and true and false state none
+-- the types that are stated, in order: of a loop those of its results go before its width, and true and false state
+-- none
 abbrev pub unless_truth : Option Literal → List PayloadType → List PayloadType
 unless_truth (Some (literal.Truth b)) ts = []
 unless_truth (Some (literal.Integer negative at)) ts = ts
@@ -34,23 +38,35 @@ stated_by row.Constant p = unless_truth p.literal p.types
 stated_by row.For p = p.results ++ p.types
 stated_by r p = p.types ++ p.results
 
+-- the number of a use %n#i, and 0 of any other
+abbrev pub count_used : Option ℕ → ℕ
+count_used None = 0
+count_used (Some i) = i
+
+abbrev pub ref_used : Use → Ref
+ref_used u = ref u.token (count_used u.number)
+
 -- the head with these parts, up to a token
 abbrev pub head_of : List Token → Parts → ℕ → Head
-head_of all p next = record { kind = kind_by all p.row p; attrs = attrs_of all p.entries; defines = p.defines; args = p.args; uses = p.uses; types = stated_by p.row p; next = next }
+head_of all p next = record {
+  kind = kind_by all p.row p;
+  attrs = attrs_of all p.entries;
+  defines = p.defines;
+  args = p.args;
+  uses = map ref_used p.uses;
+  types = stated_by p.row p;
+  next = next;
+}
 
 -- whether an operation of this reader begins there
-abbrev pub is_row : Opening → Bool
-is_row (opening.Row r) = true
-is_row opening.Other = false
-is_row opening.Nothing = false
-
 abbrev pub begins_row : Terminal → Bool
-begins_row x = is_row (opening_of (word_of x))
+begins_row x = opens level.Any (row_begun x)
 
 -- the fault at the first token that fits no head; none where no operation of this reader begins
 abbrev pub stopped : List Token → ℕ → Expected → Option Fault
 stopped all at due.OtherReader = None
-stopped all at due.Operation = if begins_row (terminal_at all at) then Some (due_fault all at due.Operation) else None
+stopped all at due.Operation =
+    if begins_row (terminal_at all at) then Some (due_fault all at due.Operation) else None
 stopped all at d = Some (due_fault all at d)
 
 abbrev pub none_or : Option Fault → Result (Option Head) Fault
@@ -58,13 +74,13 @@ none_or None = Ok None
 none_or (Some f) = Err f
 
 -- what reading says of a head
-abbrev pub head_told : List Token → Read → Result (Option Head) Fault
-head_told all (Ok x) = Ok (Some (head_of all x.0 x.1))
+abbrev pub head_told : List Token → Out (Row × Reading) Expected → Result (Option Head) Fault
+head_told all (Ok x) = Ok (Some (head_of all x.0.1.parts x.1))
 head_told all (Err e) = none_or (stopped all e.0 e.1)
 
 -- the head of the operation at a token, wherever it may stand
 abbrev pub head_spelt : List Token → ℕ → Result (Option Head) Fault
-head_spelt all at = head_told all (head_at all level.Any at)
+head_spelt all at = head_told all (payload_head_at all level.Any at)
 
 -- where a head ends: behind its first token, and not behind the last
 abbrev pub EndsWithin : List Token → ℕ → Option Head → Type 0

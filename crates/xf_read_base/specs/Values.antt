@@ -1,5 +1,6 @@
 -- What the parts of a head mean: the kind of the operation, and its attributes.
-use Rattle.std.specs.Prelude.{ℕ, ◌-◌, ◌^◌, ℤ, pos, neg_ℤ, List, [], ◌∷◌, drop, Option, Some, None, Bool, if◌then◌else◌, slice_get}
+use Rattle.std.specs.Prelude.{ℕ, ◌-◌, ◌^◌, ℤ, pos, neg_ℤ, List, [], ◌∷◌, drop, Option, Some, None, Bool}
+use Rattle.std.specs.Prelude.{if◌then◌else◌, slice_get}
 use Rattle.std.specs.Option.{option_map}
 use Rattle.std.specs.Ordering.{nat_cmp, match_ordering}
 use Rattle.std.specs.Cmp.Lexicographic.{slice_cmp}
@@ -14,16 +15,16 @@ use Rattle.xf_type.specs.declared.payload_type.Width.TheVariants.{I1, Index}
 use Rattle.xf_type.specs.Integers.{wrapped}
 use Rattle.xf_lex.specs.declared.token.Token.{Token}
 use Rattle.xf_grammar.specs.Tokens.{number_at}
-use Rattle.xf_read_base.specs.declared.parts.AttrEntry.{AttrEntry}
-use Rattle.xf_read_base.specs.declared.parts.EntryValue.{EntryValue}
-use Rattle.xf_read_base.specs.declared.parts.EntryValue.TheVariants as entry
-use Rattle.xf_read_base.specs.declared.parts.Literal.{Literal}
-use Rattle.xf_read_base.specs.declared.parts.Literal.TheVariants as literal
-use Rattle.xf_read_base.specs.declared.parts.Parts.{Parts}
-use Rattle.xf_read_base.specs.declared.row.Row.{Row}
-use Rattle.xf_read_base.specs.declared.row.Row.TheVariants as row
-use Rattle.xf_read_base.specs.Rules.{has_room}
-use Rattle.xf_read_base.specs.Strings.{decoded}
+use Rattle.xf_format.specs.declared.parts.AttrEntry.{AttrEntry}
+use Rattle.xf_format.specs.declared.parts.EntryValue.{EntryValue}
+use Rattle.xf_format.specs.declared.parts.EntryValue.TheVariants as entry
+use Rattle.xf_format.specs.declared.parts.Literal.{Literal}
+use Rattle.xf_format.specs.declared.parts.Literal.TheVariants as literal
+use Rattle.xf_format.specs.declared.parts.Parts.{Parts}
+use Rattle.xf_format.specs.declared.row.Row.{Row}
+use Rattle.xf_format.specs.declared.row.Row.TheVariants as row
+use Rattle.xf_format.specs.Strings.{decoded}
+use Rattle.xf_format.specs.Tests.{has_room}
 use Rattle.xf_ir.specs.declared.kind.Attr.{Attr}
 use Rattle.xf_ir.specs.declared.kind.Kind.{Kind}
 use Rattle.xf_ir.specs.declared.kind.Kind.TheVariants as kind
@@ -49,7 +50,8 @@ truth_bits b = if b then 1 else 0
 
 -- the number of a literal of a width: that of its bits where the width has room for it, else one that no width has
 abbrev pub integer_bits : Width → Bool → ℕ → ℕ
-integer_bits w negative n = if has_room w negative n then wrapped w (signed negative n) else (if negative then 2 ^ 128 - n else n)
+integer_bits w negative n =
+    if has_room w negative n then wrapped w (signed negative n) else (if negative then 2 ^ 128 - n else n)
 
 abbrev pub literal_bits : List Token → Width → Option Literal → ℕ
 literal_bits all w None = 0
@@ -70,7 +72,9 @@ attr_of all e = record { name = text all e.name; value = value_of_entry all e.va
 -- with an attribute at its place by the bytes of the names, instead of one of its name
 abbrev pub with_attr : Attr → List Attr → List Attr
 with_attr a [] = a ∷ []
-with_attr a (b ∷ bs) = match_ordering (slice_cmp nat_cmp a.name b.name) (a ∷ b ∷ bs) (record { name = b.name; value = a.value } ∷ bs) (b ∷ with_attr a bs)
+with_attr a (b ∷ bs) =
+    match_ordering (slice_cmp nat_cmp a.name b.name) (a ∷ b ∷ bs) (record { name = b.name; value = a.value } ∷ bs)
+    (b ∷ with_attr a bs)
 
 abbrev pub with_entries : List Token → List AttrEntry → List Attr → List Attr
 with_entries all [] attrs = attrs
@@ -116,3 +120,6 @@ kind_by all (row.Convert k) p = kind.Convert k (width_at p 0) (width_at p 1)
 kind_by all row.For p = kind.For (width_at p 0)
 kind_by all row.If p = kind.If
 kind_by all row.Yield p = kind.Yield
+-- any of an operation that is not read yet
+kind_by all row.Other p = kind.Yield
+kind_by all row.Generic p = kind.Yield

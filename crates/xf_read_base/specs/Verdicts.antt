@@ -1,17 +1,22 @@
--- The code of the fault at the token that fits no head: whether it is a form of MLIR that is listed as not supported, by what
--- was due there, the token and the one behind it.
-use Rattle.std.specs.Prelude.{ℕ, List, [], ◌∷◌, length, drop, Option, Some, None, Bool, true, false, not, ◌&&◌, ◌||◌, ◌==◌, if◌then◌else◌, is_some, codes}
+-- The code of the fault at the token that fits no text: whether it is a form of MLIR that is listed as not supported,
+-- by what was due there, the token and the one behind it.
+use Rattle.std.specs.Prelude.{ℕ, List, [], ◌∷◌, length, drop, Option, Some, None, Bool, true, false, not, ◌&&◌, ◌||◌}
+use Rattle.std.specs.Prelude.{◌==◌, if◌then◌else◌, is_some, codes}
 use Rattle.std.specs.List.{starts_with, list_any}
 use Rattle.std.specs.Option.{option_or}
 use Rattle.std.specs.Str.{bytes_eq}
 use Rattle.xf_lex.specs.declared.token.TokenKind.TheVariants as kind
 use Rattle.xf_type.specs.Bytes.{is_digit}
-use Rattle.xf_grammar.specs.Tokens.{Terminal, is_kind, is_word, word_of, less, open_paren, open_bracket, open_brace, close_brace}
-use Rattle.xf_read_base.specs.declared.expected.Expected.{Expected}
-use Rattle.xf_read_base.specs.declared.expected.Expected.TheVariants as due
+use Rattle.xf_grammar.specs.Tokens.{Terminal, is_kind, is_word, word_of, less, open_paren, open_bracket}
+use Rattle.xf_grammar.specs.Tokens.{open_brace, close_brace}
+use Rattle.xf_format.specs.declared.expected.Expected.{Expected}
+use Rattle.xf_format.specs.declared.expected.Expected.TheVariants as due
+use Rattle.xf_format.specs.declared.row.Row.{Row}
+use Rattle.xf_format.specs.declared.row.Row.TheVariants as row
+use Rattle.xf_format.specs.Rows.{words}
+use Rattle.xf_format.specs.Words.{lookup, widths}
 use Rattle.xf_read_base.specs.declared.verdict.Verdict.{Verdict}
-use Rattle.xf_read_base.specs.declared.verdict.Verdict.TheVariants.{Syntax, OutOfProfile, NotBuilt, TooMany}
-use Rattle.xf_read_base.specs.Words.{lookup, widths}
+use Rattle.xf_read_base.specs.declared.verdict.Verdict.TheVariants.{Syntax, OutOfProfile, NotBuilt, TooMany, TooDeep}
 
 abbrev pub one_of : List (List ℕ) → List ℕ → Bool
 one_of [] w = false
@@ -28,34 +33,49 @@ has_dot w = list_any (λ b. b == 46) w
 -- division and remainder
 abbrev pub divisions : List (List ℕ)
 divisions =
-    codes "arith.divsi" ∷ codes "arith.divui" ∷ codes "arith.ceildivsi" ∷ codes "arith.ceildivui" ∷ codes "arith.floordivsi" ∷ codes "arith.remsi" ∷ codes "arith.remui" ∷ codes "arith.divf" ∷ codes "arith.remf" ∷ []
+    codes "arith.divsi" ∷ codes "arith.divui" ∷ codes "arith.ceildivsi" ∷ codes "arith.ceildivui"
+    ∷ codes "arith.floordivsi" ∷ codes "arith.remsi" ∷ codes "arith.remui" ∷ codes "arith.divf" ∷ codes "arith.remf"
+    ∷ []
 
-abbrev pub loops : List (List ℕ)
-loops = codes "scf.for" ∷ codes "scf.if" ∷ codes "scf.yield" ∷ []
+-- the word of an operation of payloads
+abbrev pub is_row : List ℕ → Bool
+is_row w = is_some (lookup words w)
 
-abbrev pub structured : List (List ℕ)
-structured =
-    codes "linalg.matmul" ∷ codes "linalg.batch_matmul" ∷ codes "linalg.matvec" ∷ codes "linalg.dot" ∷ codes "linalg.fill" ∷ codes "linalg.generic" ∷ codes "linalg.yield" ∷ codes "linalg.index" ∷ []
-
--- a word with a dot; a module is listed in every place but at the begin of a file
+-- a word with a dot
 abbrev pub dotted_number : List ℕ → Option ℕ
 dotted_number w =
     if one_of divisions w then Some 2
     else (if begins (codes "memref.") w || begins (codes "vector.") w then Some 5
     else (if begins (codes "affine.") w then Some 6
     else (if begins (codes "cf.") w then Some 7
-    else (if begins (codes "scf.") w && not (one_of loops w) then Some 8
-    else (if begins (codes "linalg.") w && not (one_of structured w) then Some 9
+    else (if begins (codes "scf.") w && not (is_row w) then Some 8
     else (if bytes_eq w (codes "linalg.index") then Some 10
+    else (if begins (codes "linalg.") w && not (is_row w) then Some 9
     else (if has_dot w then Some 21 else None)))))))
 
+abbrev pub begins_module : Option Row → Bool
+begins_module (Some row.Module) = true
+begins_module r = false
+
+abbrev pub is_module : List ℕ → Bool
+is_module w = begins_module (lookup words w) || bytes_eq w (codes "builtin.module")
+
+abbrev pub begins_function : Option Row → Bool
+begins_function (Some row.Function) = true
+begins_function r = false
+
+abbrev pub is_function : List ℕ → Bool
+is_function w = begins_function (lookup words w)
+
+-- a module is listed in every place but at the begin of a file
 abbrev pub word_number : List ℕ → Option ℕ
-word_number w = if one_of (codes "module" ∷ codes "builtin.module" ∷ []) w then Some 15 else dotted_number w
+word_number w = if is_module w then Some 15 else dotted_number w
 
 -- ---- words in the place of a type
 
 abbrev pub floats : List (List ℕ)
-floats = codes "f16" ∷ codes "f32" ∷ codes "f64" ∷ codes "f80" ∷ codes "f128" ∷ codes "bf16" ∷ codes "tf32" ∷ []
+floats =
+    codes "f16" ∷ codes "f32" ∷ codes "f64" ∷ codes "f80" ∷ codes "f128" ∷ codes "bf16" ∷ codes "tf32" ∷ []
 
 abbrev pub all_digits : List ℕ → Bool
 all_digits [] = true
@@ -67,7 +87,9 @@ digits_behind p w = begins p w && (not (bytes_eq w p) && all_digits (drop (lengt
 
 -- an integer type that is no width
 abbrev pub is_other_integer : List ℕ → Bool
-is_other_integer w = not (is_some (lookup widths w)) && (digits_behind (codes "i") w || (digits_behind (codes "si") w || digits_behind (codes "ui") w))
+is_other_integer w =
+    not (is_some (lookup widths w))
+    && (digits_behind (codes "i") w || (digits_behind (codes "si") w || digits_behind (codes "ui") w))
 
 abbrev pub type_number : List ℕ → Option ℕ
 type_number w =
@@ -80,7 +102,9 @@ type_number w =
 -- words that begin another attribute, or a type
 abbrev pub attribute_words : List (List ℕ)
 attribute_words =
-    codes "dense" ∷ codes "dense_resource" ∷ codes "sparse" ∷ codes "array" ∷ codes "affine_map" ∷ codes "affine_set" ∷ codes "strided" ∷ codes "distinct" ∷ codes "opaque" ∷ codes "tensor" ∷ codes "complex" ∷ codes "tuple" ∷ codes "none" ∷ []
+    codes "dense" ∷ codes "dense_resource" ∷ codes "sparse" ∷ codes "array" ∷ codes "affine_map"
+    ∷ codes "affine_set" ∷ codes "strided" ∷ codes "distinct" ∷ codes "opaque" ∷ codes "tensor" ∷ codes "complex"
+    ∷ codes "tuple" ∷ codes "none" ∷ []
 
 abbrev pub begins_attribute : Terminal → Bool
 begins_attribute x =
@@ -133,8 +157,9 @@ listed_number due.ConstantValue x = value_number (begins_constant x) x
 listed_number due.FunctionName x = number_if (one_of (codes "public" ∷ codes "nested" ∷ []) (word_of x)) 19
 listed_number due.AfterArgument x = number_if (is_kind open_brace x) 13
 listed_number due.AfterResult x = number_if (is_kind open_brace x) 13
-listed_number due.FunctionBody x = number_if (is_kind close_brace x || is_word (codes "func.func") x) 19
+listed_number due.FunctionBody x = number_if (is_kind close_brace x || is_function (word_of x)) 19
 listed_number due.ListEnd x = None
+listed_number due.NestLimit x = None
 listed_number due.Other x = None
 
 -- what is a text, and not built yet: an alias, an operation of another reader, a tensor type
@@ -155,7 +180,8 @@ abbrev pub numbered_or : Option ℕ → Verdict → Verdict
 numbered_or (Some n) v = OutOfProfile n
 numbered_or None v = v
 
--- by what was due, the token that fits no head, and the one behind it; an item that is one too many fits in itself
+-- by what was due, the token that fits no text, and the one behind it; one that is too many or too deep fits in itself
 abbrev pub verdict : Expected → Terminal → Terminal → Verdict
 verdict due.ListEnd x y = TooMany
+verdict due.NestLimit x y = TooDeep
 verdict d x y = numbered_or (anywhere x y) (listed d x)

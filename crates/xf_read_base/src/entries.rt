@@ -1,15 +1,13 @@
 //! Discardable attributes.
 ghost use Rattle.std.specs.Prelude.{◌≡◌, if◌then◌else◌, Some, None, false, IfOk};
 ghost use Rattle.xf_ir.specs.Walk.{first_of};
-ghost use Rattle.xf_read_base.specs.Attributes.{attrs_in};
-ghost use Rattle.xf_read_base.specs.Attributes.{entries_twice};
+ghost use Rattle.xf_read_base.specs.Attributes.{attrs_in, entries_twice};
 ghost use Rattle.xf_read_base.specs.Values.{signed, truth_bits, value_of_entry, attrs_of};
 
-use crate::parts::{AttrEntry, EntryValue};
-use crate::quoted::decoded;
 use crate::texts::text;
 use std::alloc::Global;
 use std::collections::BTreeMap;
+use xf_format::{AttrEntry, EntryValue, decoded};
 use xf_grammar::number_at;
 use xf_ir::{Attr, AttrList};
 use xf_lex::Token;

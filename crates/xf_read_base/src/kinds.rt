@@ -1,15 +1,13 @@
 //! The kinds of operations.
 ghost use Rattle.std.specs.Prelude.{◌≡◌, IfOk};
 ghost use Rattle.std.specs.Option.{option_map};
-ghost use Rattle.xf_read_base.specs.Values.{integer_bits, literal_bits, symbol_of, symbol_or, width_at, predicate_or, kind_by};
+ghost use Rattle.xf_read_base.specs.Values.{integer_bits, literal_bits, symbol_of, symbol_or, width_at, predicate_or};
+ghost use Rattle.xf_read_base.specs.Values.{kind_by};
 
-use crate::dictionary::has_room;
 use crate::entries::{signed, truth_bits};
-use crate::parts::{Literal, Parts};
-use crate::quoted::behind_first;
-use crate::row::Row;
 use crate::texts::text;
 use std::alloc::Global;
+use xf_format::{Literal, Parts, Row, behind_first, has_room};
 use xf_grammar::number_at;
 use xf_ir::Kind;
 use xf_lex::Token;
@@ -89,7 +87,8 @@ fn predicate_or(predicate: Option<CmpKind>) -> CmpKind
     }
 }
 
-/// The kind of an operation, with the attributes of its own. Refuses for want of memory alone.
+/// The kind of an operation, with the attributes of its own; any of one that is not read yet. Refuses
+/// for want of memory alone.
 pub fn kind_of(alloc: Global, tokens: &[Token], parts: &Parts) -> Result<Kind, NoMemory>
     ensures { IfOk result (λ kind. kind ≡ kind_by tokens.now parts.now.row parts.now) }
 {
@@ -124,6 +123,6 @@ pub fn kind_of(alloc: Global, tokens: &[Token], parts: &Parts) -> Result<Kind, N
         },
         Row::For => Kind::For { width },
         Row::If => Kind::If,
-        Row::Yield => Kind::Yield,
+        Row::Yield | Row::Other | Row::Generic => Kind::Yield,
     })
 }

@@ -1,21 +1,21 @@
 //! The head of an operation by what it means.
-ghost use Rattle.std.specs.Prelude.{◌≡◌, ◌++◌, IfOk};
+ghost use Rattle.std.specs.Prelude.{◌≡◌, ◌++◌, map, IfOk};
 ghost use Rattle.xf_grammar.specs.Tokens.{terminal_at};
-ghost use Rattle.xf_read_base.specs.Spelt.{Answers, begins_row, EndsWithin, head_of, head_spelt, stated_by, stopped};
+ghost use Rattle.xf_read_base.specs.Spelt.{Answers, begins_row, count_used, EndsWithin, head_of, head_spelt};
+ghost use Rattle.xf_read_base.specs.Spelt.{ref_used, stated_by, stopped};
 
 use crate::entries::attributes;
-use crate::expected::{Expected, HeadFault};
-use crate::heads::head_at;
+use crate::heads::Head;
 use crate::kinds::kind_of;
-use crate::parts::{Head, Literal, Parts};
-use crate::row::{Level, Opening, Row};
 use crate::stop::due_fault;
-use crate::word::opening_of;
 use std::alloc::Global;
+use xf_format::{
+    Expected, Level, Literal, Parts, Ref, RefList, Row, Stopped, Use, head_at, is_unread, row_of,
+};
 use xf_grammar::word_at;
 use xf_lex::{Token, TokenList};
 use xf_span::{Fault, ReadFault};
-use xf_type::{Duplicate, NoMemory, TypeList};
+use xf_type::{Duplicate, ListOf, NoMemory, TypeList};
 
 /// One list and then another. Refuses for want of memory alone.
 fn joined(alloc: Global, first: &TypeList, last: &TypeList) -> Result<TypeList, NoMemory>
@@ -40,19 +40,39 @@ fn stated_by(alloc: Global, parts: &Parts) -> Result<TypeList, NoMemory>
     }
 }
 
+/// The number of a use `%n#i`, and 0 of any other.
+pub fn count_used(number: Option<u32>) -> u32
+    ensures { result ≡ count_used number }
+{
+    match number {
+        Some(number) => number,
+        None => 0,
+    }
+}
+
+/// The names of the operands. Refuses for want of memory alone.
+fn refs_used(alloc: Global, uses: &[Use]) -> Result<RefList, NoMemory>
+    ensures { IfOk result (λ refs. refs ≡ map ref_used uses.now) }
+{
+    let mut refs = ListOf::new(alloc);
+    for name in uses {
+        refs.push(Ref {
+            token: name.token,
+            count: count_used(name.number),
+        })?;
+    }
+    Ok(refs)
+}
+
 /// The head with these parts, up to a token. Refuses for want of memory alone.
 fn head_of(alloc: Global, tokens: &[Token], parts: Parts, next: usize) -> Result<Head, NoMemory>
     ensures { IfOk result (λ head. head ≡ head_of tokens.now parts next) }
 {
     let kind = kind_of(alloc, tokens, &parts)?;
     let types = stated_by(alloc, &parts)?;
+    let uses = refs_used(alloc, parts.uses.as_slice())?;
     let (attrs, _twice) = attributes(alloc, tokens, parts.entries.as_slice())?;
-    let Parts {
-        defines,
-        args,
-        uses,
-        ..
-    } = parts;
+    let Parts { defines, args, .. } = parts;
     Ok(Head {
         kind,
         attrs,
@@ -68,7 +88,10 @@ fn head_of(alloc: Global, tokens: &[Token], parts: Parts, next: usize) -> Result
 fn begins_row(tokens: &[Token], at: usize) -> bool
     ensures { result ≡ begins_row (terminal_at tokens.now at) }
 {
-    matches!(opening_of(word_at(tokens, at)), Opening::Row(_))
+    match row_of(word_at(tokens, at)) {
+        Some(row) => !is_unread(row),
+        None => false,
+    }
 }
 
 /// The fault at a token that fits no head; none where no operation of this reader begins.
@@ -89,8 +112,9 @@ fn stopped(tokens: &[Token], at: usize, due: Expected) -> Option<Fault>
 ///
 /// It refuses with the fault at the first token that fits no head: out of profile where that token is
 /// listed as a form of MLIR that is not supported, too many at the item, name or string with which
-/// a list of the tree would have 2^32 entries, not built at a tensor type, and else of the syntax. It takes time in the number
-/// of its tokens and their bytes, and the logarithm of the number of its attributes.
+/// a list of the tree would have 2^32 entries, not built at a tensor type, and else of the syntax. It
+/// takes time in the number of its tokens and their bytes, and the logarithm of the number of its
+/// attributes.
 pub fn head(alloc: Global, tokens: &TokenList, at: usize) -> Result<Option<Head>, ReadFault>
     ensures answers { Answers result (head_spelt tokens.now at) }
     ensures within { IfOk result (λ head. EndsWithin tokens.now at head) }
@@ -98,8 +122,8 @@ pub fn head(alloc: Global, tokens: &TokenList, at: usize) -> Result<Option<Head>
     let tokens = tokens.as_slice();
     match head_at(alloc, tokens, Level::Any, at) {
         Ok((parts, next)) => Ok(Some(head_of(alloc, tokens, parts, next)?)),
-        Err(HeadFault::NoMemory) => Err(ReadFault::NoMemory),
-        Err(HeadFault::At(stop, due)) => match stopped(tokens, stop, due) {
+        Err(Stopped::NoMemory) => Err(ReadFault::NoMemory),
+        Err(Stopped::At(stop, due)) => match stopped(tokens, stop, due) {
             None => Ok(None),
             Some(fault) => Err(ReadFault::At(fault)),
         },

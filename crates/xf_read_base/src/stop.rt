@@ -2,8 +2,8 @@
 ghost use Rattle.std.specs.Prelude.{◌≡◌};
 ghost use Rattle.xf_read_base.specs.Stops.{stop_place, judged, due_fault};
 
-use crate::expected::Expected;
 use crate::verdict::{Verdict, judge};
+use xf_format::Expected;
 use xf_lex::Token;
 use xf_span::{Code, FIRST_PLACE, Fault, Place, place_after};
 
@@ -29,12 +29,14 @@ fn judged(verdict: Verdict, place: Place) -> Fault
         Verdict::OutOfProfile(number) => Fault::out_of_profile(place, number),
         Verdict::NotBuilt => Fault::at(Code::N1, place),
         Verdict::TooMany => Fault::at(Code::A7, place),
+        Verdict::TooDeep => Fault::at(Code::A5, place),
     }
 }
 
 /// The fault at the first token that fits nothing, by what was due there: out of profile where the
 /// token is listed as a form of MLIR that is not supported, not built where another reader's form
-/// stands, too many where it is one item too many or too long, and else of the syntax.
+/// stands, too many where it is one item or operation too many or too long, too deep where it opens a
+/// region inside as many as may be open, and else of the syntax.
 pub fn due_fault(tokens: &[Token], at: usize, due: Expected) -> Fault
     ensures { result ≡ due_fault tokens.now at due }
 {

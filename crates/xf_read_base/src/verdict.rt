@@ -1,10 +1,13 @@
 //! The code of the fault at the token that fits no head.
 ghost use Rattle.std.specs.Prelude.{◌≡◌, ◌+◌, length, drop};
 ghost use Rattle.xf_grammar.specs.Tokens.{terminal_at};
-ghost use Rattle.xf_read_base.specs.Verdicts.{number_if, one_of, divisions, loops, structured, floats, is_other_integer, attribute_words, begins, has_dot, dotted_number, word_number, all_digits, digits_behind, type_number, begins_attribute, begins_constant, anywhere, unnamed_number, operation_number, file_number, value_number, listed_number, is_not_built, listed, verdict};
+ghost use Rattle.xf_read_base.specs.Verdicts.{one_of, begins, has_dot, is_row, divisions, dotted_number, is_module};
+ghost use Rattle.xf_read_base.specs.Verdicts.{word_number, floats, all_digits, digits_behind, is_other_integer};
+ghost use Rattle.xf_read_base.specs.Verdicts.{type_number, attribute_words, begins_attribute, begins_constant};
+ghost use Rattle.xf_read_base.specs.Verdicts.{anywhere, number_if, unnamed_number, operation_number, file_number};
+ghost use Rattle.xf_read_base.specs.Verdicts.{value_number, is_function, listed_number, is_not_built, listed, verdict};
 
-use crate::expected::Expected;
-use crate::word::width_of;
+use xf_format::{Expected, Row, row_of, width_of};
 use xf_grammar::{looks, says, word_at};
 use xf_lex::{Token, TokenKind};
 
@@ -17,8 +20,11 @@ pub enum Verdict {
     OutOfProfile(u32),
     /// A form that is not built yet.
     NotBuilt,
-    /// The item, name or string with which a list of the tree would have 2^32 entries.
+    /// The item, name or string with which a list of the tree would have 2^32 entries, or an operation
+    /// behind as many as there may be.
     TooMany,
+    /// A region inside as many as may be open.
+    TooDeep,
 }
 
 fn is_division(word: &[u8]) -> bool
@@ -35,23 +41,11 @@ fn is_division(word: &[u8]) -> bool
         || word == b"arith.remf".as_slice()
 }
 
-fn is_loop(word: &[u8]) -> bool
-    ensures { result ≡ one_of loops word.now }
+/// Whether a word is that of an operation of payloads.
+fn is_row(word: &[u8]) -> bool
+    ensures { result ≡ is_row word.now }
 {
-    word == b"scf.for".as_slice() || word == b"scf.if".as_slice() || word == b"scf.yield".as_slice()
-}
-
-fn is_structured(word: &[u8]) -> bool
-    ensures { result ≡ one_of structured word.now }
-{
-    word == b"linalg.matmul".as_slice()
-        || word == b"linalg.batch_matmul".as_slice()
-        || word == b"linalg.matvec".as_slice()
-        || word == b"linalg.dot".as_slice()
-        || word == b"linalg.fill".as_slice()
-        || word == b"linalg.generic".as_slice()
-        || word == b"linalg.yield".as_slice()
-        || word == b"linalg.index".as_slice()
+    row_of(word).is_some()
 }
 
 fn is_float(word: &[u8]) -> bool
@@ -108,12 +102,12 @@ fn dotted_number(word: &[u8]) -> Option<u32>
         Some(6)
     } else if begins(b"cf.", word) {
         Some(7)
-    } else if begins(b"scf.", word) && !is_loop(word) {
+    } else if begins(b"scf.", word) && !is_row(word) {
         Some(8)
-    } else if begins(b"linalg.", word) && !is_structured(word) {
-        Some(9)
     } else if word == b"linalg.index".as_slice() {
         Some(10)
+    } else if begins(b"linalg.", word) && !is_row(word) {
+        Some(9)
     } else if has_dot(word) {
         Some(21)
     } else {
@@ -121,11 +115,28 @@ fn dotted_number(word: &[u8]) -> Option<u32>
     }
 }
 
+/// Whether a word is that of a module.
+fn is_module(word: &[u8]) -> bool
+    ensures { result ≡ is_module word.now }
+{
+    match row_of(word) {
+        Some(Row::Module) => true,
+        _ => word == b"builtin.module".as_slice(),
+    }
+}
+
+/// Whether a word is that of a function.
+fn is_function(word: &[u8]) -> bool
+    ensures { result ≡ is_function word.now }
+{
+    matches!(row_of(word), Some(Row::Function))
+}
+
 /// The number of a word in the place of an operation or a function.
 fn word_number(word: &[u8]) -> Option<u32>
     ensures { result ≡ word_number word.now }
 {
-    if word == b"module".as_slice() || word == b"builtin.module".as_slice() {
+    if is_module(word) {
         Some(15)
     } else {
         dotted_number(word)
@@ -272,10 +283,10 @@ fn listed_number(tokens: &[Token], at: usize, due: Expected) -> Option<u32>
             number_if(looks(tokens, at, TokenKind::Mark(b'{')), 13)
         }
         Expected::FunctionBody => number_if(
-            looks(tokens, at, TokenKind::Mark(b'}')) || says(tokens, at, b"func.func"),
+            looks(tokens, at, TokenKind::Mark(b'}')) || is_function(word),
             19,
         ),
-        Expected::OtherReader | Expected::ListEnd | Expected::Other => None,
+        Expected::OtherReader | Expected::ListEnd | Expected::NestLimit | Expected::Other => None,
     }
 }
 
@@ -303,8 +314,10 @@ fn behind(tokens: &[Token], at: usize) -> usize
 pub fn judge(tokens: &[Token], at: usize, due: Expected) -> Verdict
     ensures { result ≡ verdict due (terminal_at tokens.now at) (terminal_at tokens.now (at + 1)) }
 {
-    if due == Expected::ListEnd {
-        return Verdict::TooMany;
+    match due {
+        Expected::ListEnd => return Verdict::TooMany,
+        Expected::NestLimit => return Verdict::TooDeep,
+        _ => {}
     }
     if let Some(number) = anywhere(tokens, at, behind(tokens, at)) {
         return Verdict::OutOfProfile(number);

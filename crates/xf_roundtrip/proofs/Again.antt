@@ -4,7 +4,8 @@ use Rattle.std.specs.Prelude.{◌&&◌, ◌||◌, ◌==◌, map}
 use Rattle.std.proofs.lemmas.Bool.{eq-eqb}
 use Rattle.std.proofs.lemmas.List.{length-map}
 use Rattle.xf_type.specs.declared.payload_type.PayloadType.{PayloadType}
-use Rattle.xf_read_base.specs.Parts.{UseSaid, Said}
+use Rattle.xf_grammar.proofs.Basics.{and_is}
+use Rattle.xf_format.specs.Parts.{UseSaid, Said}
 use Rattle.xf_ir.specs.declared.kind.Attr.{Attr}
 use Rattle.xf_ir.specs.declared.kind.Kind.{Kind}
 use Rattle.xf_ir.specs.declared.kind.Kind.TheVariants as kind
@@ -17,83 +18,20 @@ use Rattle.xf_ir.specs.Renamed.{ops_renamed, regions_renamed}
 use Rattle.xf_read.specs.Meant.{joined, yield_tree}
 use Rattle.xf_read.specs.Names.{op_name}
 use Rattle.xf_read.specs.Scopes.{Meanings}
-use Rattle.xf_read.specs.Syntax.{ends_open}
+use Rattle.xf_format.specs.Format.{ends_open}
 use Rattle.xf_read.specs.Types.{operands_by, stated_by, fits}
-use Rattle.xf_read.specs.Written.{SaidNodes, node_said, SaidBodies, says_yield_last, operations, left_out, operations_inside}
-use Rattle.xf_ir.specs.PrintedNames.{Names, first_args, next_number, number_of, first_of, type_of}
-use Rattle.xf_ir.specs.PrintedForm.{is_empty_yield}
+use Rattle.xf_syntax.specs.Telling.{SaidNodes, node_said, SaidBodies, says_yield_last, operations, left_out, operations_inside}
+use Rattle.xf_printed.specs.Names.{Names, first_args, next_number, number_of, first_of, type_of}
+use Rattle.xf_printed.specs.PrintedForm.{is_empty_yield}
 use Rattle.xf_roundtrip.specs.Saying.{use_type, shape, result_types, argument_types, attrs_said, kind_said, with_arguments, with_defines, with_function, function_named}
 use Rattle.xf_roundtrip.specs.Saying.{inside as inside_said, behind as behind_said}
 use Rattle.xf_roundtrip.specs.SaidMeant.{yield_said, ops_said, regions_said}
 use Rattle.xf_roundtrip.specs.SaidWell.{entries_once, symbol_new, arguments_new, names_once, uses_fit, defines_fit, types_agree, head_well, nodes_well, bodies_well}
-use Rattle.xf_roundtrip.specs.Naming.{use_printed, defines_printed, arguments_printed}
-use Rattle.xf_roundtrip.specs.SaidPrinted.{head_by, ops_printed, regions_printed}
-use Rattle.xf_roundtrip.proofs.Names.{Knows, Clear, clear_more, HasEntry, IsFirst, knows_results, clear_results, results_new, knows_arguments, clear_arguments, arguments_are_new, uses_again}
-
--- ---- how much operations take
-
-abbrev mutual
-  pub ops_count : Ops → ℕ
-  ops_count no_ops = 0
-  ops_count (op n k ds os ts rs rest) = 1 + (regions_count rs + ops_count rest)
-
-  pub regions_count : Regions → ℕ
-  regions_count no_regions = 0
-  regions_count (region args ops rest) = ops_count ops + regions_count rest
-
--- the next numbers of results, and of arguments
-abbrev mutual
-  pub ops_number : ℕ → Ops → ℕ
-  ops_number k no_ops = k
-  ops_number k (op n kd ds os ts rs rest) = ops_number (regions_number (next_number k ts) rs) rest
-
-  pub regions_number : ℕ → Regions → ℕ
-  regions_number k no_regions = k
-  regions_number k (region args ops rest) = regions_number (ops_number k ops) rest
-
-abbrev mutual
-  pub ops_argument : ℕ → Ops → ℕ
-  ops_argument a no_ops = a
-  ops_argument a (op n kd ds os ts rs rest) = ops_argument (regions_argument (a + length (first_args rs)) rs) rest
-
-  pub regions_argument : ℕ → Regions → ℕ
-  regions_argument a no_regions = a
-  regions_argument a (region args ops rest) = regions_argument (ops_argument a ops) rest
-
-pub number_more : (k : ℕ) (ts : List PayloadType) → k ≤ next_number k ts
-number_more k [] = omega arith
-number_more k (t ∷ ts) = omega arith
-
-mutual
-  pub ops_number_more : (k : ℕ) (ops : Ops) → k ≤ ops_number k ops
-  ops_number_more k no_ops = omega arith
-  ops_number_more k (op n kd ds os ts rs rest) =
-      let p = number_more k ts in
-      let q = regions_number_more (next_number k ts) rs in
-      let r = ops_number_more (regions_number (next_number k ts) rs) rest in
-      omega (arith, p, q, r)
-
-  pub regions_number_more : (k : ℕ) (rs : Regions) → k ≤ regions_number k rs
-  regions_number_more k no_regions = omega arith
-  regions_number_more k (region args ops rest) =
-      let p = ops_number_more k ops in
-      let q = regions_number_more (ops_number k ops) rest in
-      omega (arith, p, q)
-
-mutual
-  pub ops_argument_more : (a : ℕ) (ops : Ops) → a ≤ ops_argument a ops
-  ops_argument_more a no_ops = omega arith
-  ops_argument_more a (op n kd ds os ts rs rest) =
-      let q = regions_argument_more (a + length (first_args rs)) rs in
-      let r = ops_argument_more (regions_argument (a + length (first_args rs)) rs) rest in
-      omega (arith, q, r)
-
-  pub regions_argument_more : (a : ℕ) (rs : Regions) → a ≤ regions_argument a rs
-  regions_argument_more a no_regions = omega arith
-  regions_argument_more a (region args ops rest) =
-      let p = ops_argument_more a ops in
-      let q = regions_argument_more (ops_argument a ops) rest in
-      omega (arith, p, q)
+use Rattle.xf_print_laws.specs.Naming.{use_printed, defines_printed, arguments_printed}
+use Rattle.xf_print_laws.specs.SaidPrinted.{head_by, ops_printed, regions_printed}
+use Rattle.xf_ir.specs.Count.{ops_count, regions_count}
+use Rattle.xf_print_laws.proofs.Entries.{ops_number, regions_number, ops_argument, regions_argument, number_more, ops_number_more, regions_number_more, ops_argument_more, regions_argument_more, HasEntry}
+use Rattle.xf_roundtrip.proofs.Names.{Knows, Clear, clear_more, IsFirst, knows_results, clear_results, results_new, knows_arguments, clear_arguments, arguments_are_new, uses_again}
 
 -- ---- what is known of operations
 
@@ -171,9 +109,6 @@ arguments_length : (a : ℕ) (ts : List PayloadType) → length (arguments_print
 arguments_length a [] = refl
 arguments_length a (t ∷ ts) = ap suc (arguments_length (suc a) ts)
 
-pub all_true : (a b : Bool) → a ≡ true → b ≡ true → (a && b) ≡ true
-all_true a b p q = rw (p, q) refl
-
 -- a head whose names are free, and that says what its operation is
 pub head_is_well : (names : Names) (renamed : OpName → OpName) (n k a : ℕ) (kd : Kind) (ds : List Attr) (os : List ValueName) (ts args : List PayloadType) (named : Option (List ℕ)) (ss : List Seen) (scope : Meanings)
     → SaysIt names (head_by names k a kd ds os ts args) kd ds os ts args named → k < 2 ^ 64 → a + length args < 2 ^ 64 → symbol_new scope named ≡ true → AllSeen ss os → Knows ss names renamed scope → Clear k a scope
@@ -184,13 +119,13 @@ head_is_well names renamed n k a kd ds os ts args named ss scope says lt room ne
     let symbol : symbol_new scope (function_named t.row t.symbol) ≡ true = ap (symbol_new scope) says.symbol ∙ new in
     let defines = results_new k a ts scope lt c in
     let arguments : arguments_new n 0 (argument_types t) t.args scope ≡ true = ap (λ xs. arguments_new n 0 xs (arguments_printed a args) scope) says.arguments ∙ arguments_are_new n 0 k a args args scope room c in
-    let names_are : names_once n t scope ≡ true = all_true _ _ says.once (all_true _ _ (all_true _ _ symbol defines) arguments) in
+    let names_are : names_once n t scope ≡ true = and_is _ _ says.once (and_is _ _ (and_is _ _ symbol defines) arguments) in
     let count : (length t.uses == operands_by t.row (shape t)) ≡ true = ap (λ l. l == operands_by t.row (shape t)) (length-map os (use_printed names)) ∙ says.count in
     let fit : uses_fit scope t 0 t.uses ≡ true = uses_fit_by scope t 0 t.uses ∙ ap (all_fit t 0) us.types ∙ says.fit in
     let results : defines_fit t.defines (result_types t) ≡ true = defines_fit_by k ts (result_types t) says.results in
     let lengths : (length t.args == length (argument_types t)) ≡ true = eq-eqb (length t.args) (length (argument_types t)) (arguments_length a args ∙ ap length (sym says.arguments)) in
-    let types : types_agree t scope ≡ true = all_true _ _ (all_true _ _ count fit) (all_true _ _ results lengths) in
-    all_true _ _ us.mean (all_true _ _ names_are types)
+    let types : types_agree t scope ≡ true = and_is _ _ (and_is _ _ count fit) (and_is _ _ results lengths) in
+    and_is _ _ us.mean (and_is _ _ names_are types)
 
 -- ---- yields that are left out
 
@@ -233,7 +168,7 @@ mutual
         let r = ops_counted names renamed rest (n + (1 + regions_count rs)) (regions_number (next_number k ts) rs) (regions_argument (a + length (first_args rs)) rs) s.1.1 in
         let u : operations (node_said h (regions_printed names rs) (ops_printed names rest)) ≡ 1 + (operations_inside h (regions_printed names rs) + operations (ops_printed names rest)) = refl in
         let e = ap one_if (ends_as kd ds os (ends_empty rest) s.0.shown) in
-        let v : ops_count (op m kd ds os ts rs rest) ≡ 1 + (regions_count rs + ops_count rest) = refl in
+        let v : ops_count (op m kd ds os ts rs rest) ≡ 1 + regions_count rs + ops_count rest = refl in
         let w : cond (ends_empty (op m kd ds os ts rs rest)) 1 0 ≡ cond (ends_empty rest) 1 0 = e in
         omega (arith, p, q, r, u, v, w)
   ]
@@ -279,7 +214,7 @@ node_again names renamed m n k a kd ds os ts rs rest ss scope s r w h scope_in s
     let us = uses_again names renamed ss scope os w h in
     let well_in : bodies_well (n + 1) t (inside_said n t scope) bs ≡ true = ap (λ names. bodies_well (n + 1) t names bs) e_in ∙ inner.well in
     let well_behind : nodes_well (n + (1 + operations_inside t bs)) (behind_said n t scope) ns ≡ true = (λ i. nodes_well (n + (1 + count i)) (e_behind i) ns) ∙ later.well in
-    let well : nodes_well n scope (node_said t bs ns) ≡ true = all_true _ _ (all_true _ _ head well_in) well_behind in
+    let well : nodes_well n scope (node_said t bs ns) ≡ true = and_is _ _ (and_is _ _ head well_in) well_behind in
     let x1 = sym r in
     let x2 = says.kind_is in
     let x3 = says.attrs in
@@ -347,4 +282,4 @@ mutual
       let xs = e ∙ sym so.0 in
       let ys = ap (joined (ops_said n scope (ops_printed names ops))) yields ∙ one.means in
       let zs = ap (λ j. regions_said j t scope (regions_printed names rest)) (sym number) ∙ later.means in
-      record { well = all_true _ _ one.well well_later; means = λ j. region (xs j) (ys j) (zs j) }
+      record { well = and_is _ _ one.well well_later; means = λ j. region (xs j) (ys j) (zs j) }

@@ -1,9 +1,7 @@
 -- Attributes are said again by their entries.
-use Rattle.std.proofs.Common.{◌≡◌, ◌⊎◌, inl, inr, ℕ, ◌+◌, ◌*◌, ◌/◌, ◌%◌, ◌<◌, Bool, true, false, List, [], ◌∷◌, ◌++◌, refl, sym, ap, subst, ◌∙◌, arith, append_assoc, append-nil}
+use Rattle.std.proofs.Common.{◌≡◌, ◌⊎◌, inl, inr, ℕ, ◌<◌, Bool, true, false, List, [], ◌∷◌, ◌++◌, refl, sym, ap, subst, ◌∙◌, arith, append_assoc, append-nil}
 use Rattle.std.proofs.Common.{Equal, Greater}
-use Rattle.std.specs.Prelude.{map, ◌&&◌, ◌==◌}
-use Rattle.std.specs.Char.{digit_value}
-use Rattle.std.specs.List.{flat_map}
+use Rattle.std.specs.Prelude.{map, ◌&&◌}
 use Rattle.std.specs.Cmp.{nat_cmp_is}
 use Rattle.std.specs.Cmp.Lexicographic.{slice_cmp}
 use Rattle.std.specs.Ordering.{nat_cmp, match_ordering}
@@ -13,7 +11,6 @@ use Rattle.std.proofs.lemmas.Bool.Decides.{nat_tests}
 use Rattle.std.proofs.lemmas.Slice.Eq.{bytes_eq-Decides}
 use Rattle.xf_type.specs.declared.attribute.AttrValue.{AttrValue}
 use Rattle.xf_type.specs.declared.attribute.AttrValue.TheVariants as attr
-use Rattle.xf_type.specs.Bytes.{is_hex}
 use Rattle.xf_ir.specs.declared.kind.Attr.{Attr}
 use Rattle.xf_ir.specs.Attributes.{bytes_before}
 use Rattle.xf_ir.specs.Lists.{Each, every}
@@ -21,61 +18,19 @@ use Rattle.xf_ir.specs.RuleAttributes.{value_fits, attributes_fit}
 use Rattle.xf_ir.specs.Words.{is_word}
 use Rattle.xf_ir.proofs.BytesOrder.{not_itself}
 use Rattle.xf_read_base.specs.Attributes.{also}
-use Rattle.xf_read_base.specs.Strings.{decoded}
 use Rattle.xf_read_base.specs.Values.{with_attr}
-use Rattle.xf_ir.specs.PrintedAttributes.{hex_digit, is_plain, byte_text, string_text}
-use Rattle.xf_roundtrip.specs.Printable.{HasBytes}
+use Rattle.xf_print_laws.specs.Stored.{HasBytes}
 use Rattle.xf_roundtrip.specs.Saying.{attr_value, attr_said, with_said, attrs_said}
 use Rattle.xf_roundtrip.specs.SaidWell.{entries_once}
-use Rattle.xf_roundtrip.specs.SaidPrinted.{value_printed, entry_printed}
-use Rattle.xf_roundtrip.proofs.Literals.{integer_again, fits_is}
-
--- ---- strings
-
-hex_is : (d : ℕ) → d < 16 → is_hex (hex_digit d) ≡ true
-hex_is d h = grind (arith, nat_tests)
-
-hex_value : (d : ℕ) → d < 16 → digit_value (hex_digit d) ≡ d
-hex_value d h = grind (arith, nat_tests)
-
-plain_apart : (b : ℕ) → is_plain b ≡ true → ((b == 34) ≡ false) × ((b == 92) ≡ false)
-plain_apart b h = (grind (arith, nat_tests), grind (arith, nat_tests))
-
--- the digits of a byte give the byte
-two_digits : (b : ℕ) → b < 256 → (digit_value (hex_digit (b / 16)) * 16 + digit_value (hex_digit (b % 16))) % 256 ≡ b
-two_digits b h =
-    let high : b / 16 < 16 = omega arith in
-    let low : b % 16 < 16 = omega arith in
-    let p = hex_value (b / 16) high in
-    let q = hex_value (b % 16) low in
-    rw (p, q) (omega arith)
-
--- what bytes behind a quote stand for
-abbrev read_on : List ℕ → List ℕ
-read_on bytes = decoded (34 ∷ bytes)
-
-one_byte : (plain : Bool) (b : ℕ) (rest : List ℕ) → is_plain b ≡ plain → b < 256 → read_on (byte_text b ++ rest) ≡ b ∷ read_on rest
-one_byte true b rest e h = let p = plain_apart b e in let q = p.0 in let r = p.1 in rw (e, q, r) refl
-one_byte false b rest e h =
-    let high : b / 16 < 16 = omega arith in
-    let p = hex_is (b / 16) high in
-    let q = two_digits b h in
-    rw (e, p) (ap (λ x. x ∷ read_on rest) q)
-
-decoded_bytes : (bytes : List ℕ) → Each (λ b. b < 256) bytes → read_on (flat_map byte_text bytes ++ 34 ∷ []) ≡ bytes
-decoded_bytes [] e = refl
-decoded_bytes (b ∷ bytes) e =
-    ap read_on (append_assoc (byte_text b) (flat_map byte_text bytes) (34 ∷ []))
-    ∙ (one_byte (is_plain b) b (flat_map byte_text bytes ++ 34 ∷ []) refl e.0 ∙ ap (λ xs. b ∷ xs) (decoded_bytes bytes e.1))
-
-pub string_again : (bytes : List ℕ) → Each (λ b. b < 256) bytes → decoded (string_text bytes) ≡ bytes
-string_again bytes e = decoded_bytes bytes e
+use Rattle.xf_print_laws.specs.SaidPrinted.{value_printed, entry_printed}
+use Rattle.xf_print_laws.proofs.Strings.{string_again}
+use Rattle.xf_roundtrip.proofs.Literals.{integer_again}
 
 -- ---- values
 
 value_again : (v : AttrValue) → value_fits v ≡ true → HasBytes v → attr_value (value_printed v) ≡ v
 value_again attr.Unit f b = refl
-value_again (attr.Int width bits) f b = integer_again width bits (fits_is width bits f)
+value_again (attr.Int width bits) f b = integer_again width bits f
 value_again (attr.Text bytes) f b = ap attr.Text (string_again bytes b)
 
 entry_again : (d : Attr) → value_fits d.value ≡ true → HasBytes d.value → attr_said (entry_printed d) ≡ d

@@ -5,7 +5,7 @@ use Rattle.std.specs.Str.{bytes_eq}
 use Rattle.std.proofs.lemmas.Bool.{eq-eqb, or_parts}
 use Rattle.std.proofs.lemmas.Slice.Eq.{bytes_eq-Decides}
 use Rattle.xf_type.specs.declared.payload_type.PayloadType.{PayloadType}
-use Rattle.xf_read_base.specs.Parts.{Said}
+use Rattle.xf_format.specs.Parts.{Said}
 use Rattle.xf_ir.specs.declared.kind.Attr.{Attr}
 use Rattle.xf_ir.specs.declared.kind.Kind.{Kind}
 use Rattle.xf_ir.specs.declared.kind.Kind.TheVariants as kind
@@ -15,23 +15,27 @@ use Rattle.xf_ir.specs.declared.op.Module.{Module}
 use Rattle.xf_ir.specs.Lists.{same_bytes, is_text_among, TextsOnce}
 use Rattle.xf_ir.specs.Places.{inside, AllSeen}
 use Rattle.xf_ir.specs.Tree.{Ops, no_ops, op, Regions, no_regions, region, cons}
-use Rattle.xf_ir.specs.Valid.{block_of, FunctionsSee, symbols_of, symbols_before}
+use Rattle.xf_ir.specs.Placed.{block_of}
+use Rattle.xf_ir.specs.Valid.{FunctionsSee, symbols_of, symbols_before}
 use Rattle.xf_read.specs.Meant.{joined, yield_tree}
 use Rattle.xf_read.specs.Names.{op_name, symbol_named}
 use Rattle.xf_read.specs.Scopes.{Meanings, no_names, with_name}
-use Rattle.xf_read.specs.Syntax.{ends_open}
-use Rattle.xf_read.specs.Written.{SaidNodes, no_nodes_said, node_said, SaidBodies, no_bodies_said, body_said, says_yield_last, operations, operations_inside}
-use Rattle.xf_ir.specs.PrintedNames.{Names, first_args, with_ops, number_of, first_of}
-use Rattle.xf_ir.specs.PrintedNames.{no_names as no_numbers}
+use Rattle.xf_format.specs.Format.{ends_open}
+use Rattle.xf_syntax.specs.Telling.{SaidNodes, no_nodes_said, node_said, SaidBodies, no_bodies_said, body_said, says_yield_last, operations, operations_inside}
+use Rattle.xf_printed.specs.Names.{Names, first_args, with_ops, number_of, first_of}
+use Rattle.xf_printed.specs.Names.{no_names as no_numbers}
 use Rattle.xf_ir.specs.Renamed.{value_renamed, ops_renamed, regions_renamed, tree_renamed}
 use Rattle.xf_roundtrip.specs.Saying.{use_value, with_arguments, with_function, with_defines, function_named, result_types}
 use Rattle.xf_roundtrip.specs.Saying.{inside as inside_said, behind as behind_said}
 use Rattle.xf_roundtrip.specs.SaidMeant.{ops_said, regions_said, said_meant}
 use Rattle.xf_roundtrip.specs.SaidWell.{symbol_new, nodes_well, bodies_well, said_well}
-use Rattle.xf_roundtrip.specs.Naming.{use_printed, defines_printed, arguments_printed}
-use Rattle.xf_roundtrip.specs.SaidPrinted.{head_by, regions_printed, functions_printed, printed_said}
-use Rattle.xf_roundtrip.proofs.Again.{regions_count, SaysIt, RegionsSo, all_true, head_is_well, regions_counted, regions_again}
-use Rattle.xf_roundtrip.proofs.Names.{Knows, Clear, clear_more, HasEntry, IsFirst, knows_arguments, clear_arguments}
+use Rattle.xf_print_laws.specs.Naming.{use_printed, defines_printed, arguments_printed}
+use Rattle.xf_print_laws.specs.SaidPrinted.{head_by, regions_printed, functions_printed, printed_said}
+use Rattle.xf_grammar.proofs.Basics.{and_is}
+use Rattle.xf_ir.specs.Count.{regions_count}
+use Rattle.xf_print_laws.proofs.Entries.{HasEntry}
+use Rattle.xf_roundtrip.proofs.Again.{SaysIt, RegionsSo, head_is_well, regions_counted, regions_again}
+use Rattle.xf_roundtrip.proofs.Names.{Knows, Clear, clear_more, IsFirst, knows_arguments, clear_arguments}
 
 -- what a function names its values by
 abbrev pub numbers_of : OpName → Kind → List Attr → List ValueName → List PayloadType → Regions → Names
@@ -59,7 +63,7 @@ FunctionsSo renamed n (op m k ds os ts rs rest) =
 -- ---- symbols
 
 -- no function's symbol is visible
-abbrev pub SymbolsFree : Meanings → List (List ℕ) → Type 0
+abbrev SymbolsFree : Meanings → List (List ℕ) → Type 0
 SymbolsFree scope [] = Unit {0}
 SymbolsFree scope (s ∷ ss) = (scope (64 ∷ s) ≡ None) × SymbolsFree scope ss
 
@@ -94,7 +98,7 @@ behind_is n t ts scope symbol d e f =
 values_none : (names : Names) (renamed : OpName → OpName) (os : List ValueName) (scope : Meanings) → os ≡ [] → map (use_value scope) (map (use_printed names) os) ≡ map (value_renamed renamed) os
 values_none names renamed os scope e = subst (λ xs. map (use_value scope) (map (use_printed names) xs) ≡ map (value_renamed renamed) xs) (sym e) refl
 
-pub record FunctionsAgain (renamed : OpName → OpName) (n : ℕ) (scope : Meanings) (fs : Ops) : Type 0 where
+record FunctionsAgain (renamed : OpName → OpName) (n : ℕ) (scope : Meanings) (fs : Ops) : Type 0 where
   pub well : nodes_well n scope (functions_printed fs) ≡ true
   pub means : ops_said n scope (functions_printed fs) ≡ ops_renamed renamed fs
 
@@ -111,7 +115,7 @@ symbols_are : (k : Kind) (more : List (List ℕ)) (s : List ℕ) → symbols_bef
 symbols_are (kind.Func symbol private results) more s e = let p : symbol ≡ s = cc in ap (λ x. x ∷ more) p
 symbols_are k more s e = absurd cc
 
-pub functions_again : (renamed : OpName → OpName) (fs : Ops) (n : ℕ) (scope : Meanings) → FunctionsSo renamed n fs → FunctionsSee fs → Clear 0 0 scope → TextsOnce (symbols_of fs) → SymbolsFree scope (symbols_of fs) → FunctionsAgain renamed n scope fs
+functions_again : (renamed : OpName → OpName) (fs : Ops) (n : ℕ) (scope : Meanings) → FunctionsSo renamed n fs → FunctionsSee fs → Clear 0 0 scope → TextsOnce (symbols_of fs) → SymbolsFree scope (symbols_of fs) → FunctionsAgain renamed n scope fs
 functions_again renamed no_ops n scope so h c o f = record { well = refl; means = refl }
 functions_again renamed (op m k ds os ts rs rest) n scope so h c o f =
     let symbol : List ℕ = so.1.0 in
@@ -143,7 +147,7 @@ functions_again renamed (op m k ds os ts rs rest) n scope so h c o f =
     let p = function_printed_is m k ds os ts rs rest s.entry in
     let well_in : bodies_well (n + 1) t (inside_said n t scope) bs ≡ true = ap (λ names. bodies_well (n + 1) t names bs) e_in ∙ inner.well in
     let well_behind : nodes_well (n + (1 + operations_inside t bs)) (behind_said n t scope) ns ≡ true = (λ i. nodes_well (n + (1 + count i)) (e_behind i) ns) ∙ later.well in
-    let well : nodes_well n scope (node_said t bs ns) ≡ true = all_true _ _ (all_true _ _ head well_in) well_behind in
+    let well : nodes_well n scope (node_said t bs ns) ≡ true = and_is _ _ (and_is _ _ head well_in) well_behind in
     let x1 = sym so.0 in
     let x2 = says.kind_is in
     let x3 = says.attrs in
@@ -212,6 +216,6 @@ module_again renamed m so =
     let y2 = ap (λ b. cond b (cons (yield_tree (1 + operations ns)) no_ops) no_ops) (so.closed ns) in
     let x5 : regions_said (0 + 1) t scope bs ≡ regions_renamed renamed m.root.regions = (λ i. region (y1 i) (joined (means_in i) (y2 i)) no_regions) ∙ ap (λ us. region [] us no_regions) (joined_none (ops_renamed renamed fs)) ∙ ap (regions_renamed renamed) (sym so.regions) in
     record {
-      well = ap said_well p ∙ all_true _ _ head (all_true _ _ well_in refl);
+      well = ap said_well p ∙ and_is _ _ head (and_is _ _ well_in refl);
       means = ap (λ x. (said_meant x).root) p ∙ (λ i. record { name = x0 i; kind = x1 i; attrs = x2 i; operands = x3 i; results = x4 i; regions = x5 i });
     }

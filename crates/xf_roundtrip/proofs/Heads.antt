@@ -1,7 +1,7 @@
 -- What the tokens of a head mean is what they say in bytes.
-use Rattle.std.proofs.Common.{◌≡◌, ℕ, ◌+◌, Bool, true, false, List, [], ◌∷◌, drop, Option, Some, None, refl, sym, ap, ◌∙◌, slice_get, cond}
+use Rattle.std.proofs.Common.{◌≡◌, ℕ, ◌+◌, true, List, [], ◌∷◌, drop, Option, Some, None, refl, sym, ap, ◌∙◌, slice_get, cond}
 use Rattle.std.proofs.lemmas.Bool.{and_parts}
-use Rattle.std.specs.Prelude.{All, map, is_some, option_map}
+use Rattle.std.specs.Prelude.{All, map, option_map}
 use Rattle.std.proofs.lemmas.List.Elements.{All-head, All-tail}
 use Rattle.xf_type.specs.declared.attribute.AttrValue.TheVariants as attr
 use Rattle.xf_type.specs.declared.payload_type.PayloadType.{PayloadType}
@@ -10,17 +10,18 @@ use Rattle.xf_type.specs.Integers.{wrapped}
 use Rattle.xf_lex.specs.declared.token.Token.{Token}
 use Rattle.xf_lex.specs.declared.token.TokenKind.{TokenKind}
 use Rattle.xf_lex.specs.declared.token.TokenKind.TheVariants as kind_of
-use Rattle.xf_grammar.specs.Tokens.{Terminal, the_end, terminal, terminal_at, terminal_of, telling, is_kind, digits_of, number_of, number_at, is_index_at}
-use Rattle.xf_read_base.specs.declared.parts.AttrEntry.{AttrEntry}
-use Rattle.xf_read_base.specs.declared.parts.EntryValue.{EntryValue}
-use Rattle.xf_read_base.specs.declared.parts.EntryValue.TheVariants as value
-use Rattle.xf_read_base.specs.declared.parts.Literal.{Literal}
-use Rattle.xf_read_base.specs.declared.parts.Literal.TheVariants as literal
-use Rattle.xf_read_base.specs.declared.parts.Parts.{Parts}
-use Rattle.xf_read_base.specs.declared.parts.Ref.{Ref}
-use Rattle.xf_read_base.specs.declared.row.Row.{Row}
-use Rattle.xf_read_base.specs.declared.row.Row.TheVariants as row
-use Rattle.xf_read_base.specs.Parts.{text_of, text_at, number_if, use_said, define_said, arg_said, literal_said, value_said, entry_said, said}
+use Rattle.xf_grammar.specs.Tokens.{Terminal, the_end, terminal, terminal_at, terminal_of, telling, is_kind, digits_of, number_of, number_at}
+use Rattle.xf_format.specs.declared.parts.AttrEntry.{AttrEntry}
+use Rattle.xf_format.specs.declared.parts.EntryValue.{EntryValue}
+use Rattle.xf_format.specs.declared.parts.EntryValue.TheVariants as value
+use Rattle.xf_format.specs.declared.parts.Literal.{Literal}
+use Rattle.xf_format.specs.declared.parts.Literal.TheVariants as literal
+use Rattle.xf_format.specs.declared.parts.Parts.{Parts}
+use Rattle.xf_format.specs.declared.parts.Ref.{Ref}
+use Rattle.xf_format.specs.declared.parts.Use.{Use}
+use Rattle.xf_format.specs.declared.row.Row.{Row}
+use Rattle.xf_format.specs.declared.row.Row.TheVariants as row
+use Rattle.xf_format.specs.Parts.{text_of, text_at, use_said, define_said, arg_said, literal_said, value_said, entry_said, said}
 use Rattle.xf_ir.specs.declared.kind.Attr.{Attr}
 use Rattle.xf_ir.specs.declared.kind.Kind.TheVariants as kind
 use Rattle.xf_read.specs.Meant.{operands_of}
@@ -28,11 +29,12 @@ use Rattle.xf_read.specs.Names.{argument_named, with_args, results_named, with_r
 use Rattle.xf_read.specs.Names.{inside as inside_tokens, behind as behind_tokens}
 use Rattle.xf_read_base.specs.Values.{bytes_of, text}
 use Rattle.xf_read.specs.Scopes.{Meanings, has_values, with_name, has_use, means, value_in, type_in, value_used, type_used}
+use Rattle.xf_read_base.specs.Spelt.{count_used}
 use Rattle.xf_read.specs.Types.{results_by, args_by, operands_by, stated_by}
-use Rattle.xf_read_base.specs.Strings.{decoded}
+use Rattle.xf_format.specs.Strings.{decoded}
 use Rattle.xf_read_base.specs.Values.{signed, integer_bits, literal_bits, value_of_entry, attr_of, with_attr, with_entries, attrs_of, symbol_of, symbol_or, width_at, kind_by}
-use Rattle.xf_read.proofs.OfKind.{IsOf, SymbolOf, LiteralOf, ValueOf, EntryOf, NameOf, UseOf, Inside}
-use Rattle.xf_roundtrip.specs.Saying.{index_or, use_means, use_value, use_type, shape, attr_value, attr_said, with_said, attrs_said, bits_said, word_said, kind_said, with_arguments, with_defines, function_named, with_function, inside, behind}
+use Rattle.xf_format.proofs.OfKind.{IsOf, SymbolOf, LiteralOf, ValueOf, EntryOf, NameOf, UseOf, Inside}
+use Rattle.xf_roundtrip.specs.Saying.{use_means, use_value, use_type, shape, attr_value, attr_said, with_said, attrs_said, bits_said, word_said, kind_said, with_arguments, with_defines, function_named, with_function, inside, behind}
 
 -- ---- bytes
 
@@ -89,34 +91,16 @@ number_is all at e = ap number_of (digits_are (terminal_at all at) e)
 
 -- ---- uses
 
-index_is : (b : Bool) (n : ℕ) → (b ≡ false → n ≡ 0) → n ≡ index_or (number_if b n)
-index_is true n f = refl
-index_is false n f = f refl
+pub means_is : (all : List Token) (scope : Meanings) (u : Use) → UseOf all u → means all scope u ≡ use_means scope (use_said all u)
+means_is all scope u w = ap (λ name. has_use u.number (scope name)) (name_is all u.token w)
 
-indexed_is : (b : Bool) (n : ℕ) → b ≡ is_some (number_if b n)
-indexed_is true n = refl
-indexed_is false n = refl
+value_is : (all : List Token) (scope : Meanings) (u : Use) → UseOf all u → value_used all scope u ≡ use_value scope (use_said all u)
+value_is all scope u w = ap (λ name. value_in (scope name) (count_used u.number)) (name_is all u.token w)
 
-pub means_is : (all : List Token) (scope : Meanings) (r : Ref) → UseOf all r → means all scope r ≡ use_means scope (use_said all r)
-means_is all scope r w =
-    let a = indexed_is (is_index_at all (r.token + 1)) r.count in
-    let b = index_is (is_index_at all (r.token + 1)) r.count w.1 in
-    let c = name_is all r.token w.0 in
-    λ i. has_use (a i) (b i) (scope (c i))
+pub type_is : (all : List Token) (scope : Meanings) (u : Use) → UseOf all u → type_used all scope u ≡ use_type scope (use_said all u)
+type_is all scope u w = ap (λ name. type_in (scope name) (count_used u.number)) (name_is all u.token w)
 
-value_is : (all : List Token) (scope : Meanings) (r : Ref) → UseOf all r → value_used all scope r ≡ use_value scope (use_said all r)
-value_is all scope r w =
-    let b = index_is (is_index_at all (r.token + 1)) r.count w.1 in
-    let c = name_is all r.token w.0 in
-    λ i. value_in (scope (c i)) (b i)
-
-pub type_is : (all : List Token) (scope : Meanings) (r : Ref) → UseOf all r → type_used all scope r ≡ use_type scope (use_said all r)
-type_is all scope r w =
-    let b = index_is (is_index_at all (r.token + 1)) r.count w.1 in
-    let c = name_is all r.token w.0 in
-    λ i. type_in (scope (c i)) (b i)
-
-pub operands_are : (all : List Token) (scope : Meanings) (us : List Ref) → All (UseOf all) us → operands_of all scope us ≡ map (use_value scope) (map (use_said all) us)
+pub operands_are : (all : List Token) (scope : Meanings) (us : List Use) → All (UseOf all) us → operands_of all scope us ≡ map (use_value scope) (map (use_said all) us)
 operands_are all scope [] w = refl
 operands_are all scope (u ∷ us) w =
     let p = value_is all scope u (All-head (UseOf all) u us w) in
@@ -125,46 +109,21 @@ operands_are all scope (u ∷ us) w =
 
 -- ---- types
 
+-- the results, the arguments and the operands of a row are by the types that are stated
 pub results_are : (r : Row) (all : List Token) (p : Parts) → results_by r p ≡ results_by r (shape (said all p))
 results_are row.Module all p = refl
-results_are row.Function all p = refl
-results_are row.Return all p = refl
-results_are row.Call all p = refl
-results_are row.Constant all p = refl
-results_are (row.Binary k) all p = refl
-results_are row.Compare all p = refl
-results_are row.Select all p = refl
-results_are (row.Convert k) all p = refl
-results_are row.For all p = refl
-results_are row.If all p = refl
-results_are row.Yield all p = refl
+results_are r all p = refl
 
 pub args_are : (r : Row) (all : List Token) (p : Parts) → args_by r p ≡ args_by r (shape (said all p))
-args_are row.Function all p = refl
-args_are row.For all p = refl
+args_are row.Module all p = refl
 args_are r all p = refl
 
 pub operands_by_are : (r : Row) (all : List Token) (p : Parts) → operands_by r p ≡ operands_by r (shape (said all p))
-operands_by_are row.Return all p = refl
-operands_by_are row.Call all p = refl
-operands_by_are (row.Binary k) all p = refl
-operands_by_are row.Compare all p = refl
-operands_by_are row.Select all p = refl
-operands_by_are (row.Convert k) all p = refl
-operands_by_are row.For all p = refl
-operands_by_are row.If all p = refl
-operands_by_are row.Yield all p = refl
+operands_by_are row.Module all p = refl
 operands_by_are r all p = refl
 
 pub stated_are : (r : Row) (all : List Token) (p : Parts) (i : ℕ) → stated_by r p i ≡ stated_by r (shape (said all p)) i
-stated_are row.Return all p i = refl
-stated_are row.Call all p i = refl
-stated_are (row.Binary k) all p i = refl
-stated_are row.Compare all p i = refl
-stated_are row.Select all p i = refl
-stated_are (row.Convert k) all p i = refl
-stated_are row.For all p i = refl
-stated_are row.Yield all p i = refl
+stated_are row.Module all p i = refl
 stated_are r all p i = refl
 
 -- ---- attributes
@@ -205,18 +164,11 @@ symbol_word_is all None w = refl
 symbol_word_is all (Some at) w = ap (drop 1) (symbol_is all at (and_parts _ _ w).0)
 
 pub kind_is : (r : Row) (all : List Token) (p : Parts) → Inside all p → kind_by all r p ≡ kind_said r (said all p)
-kind_is row.Module all p w = ap kind.Module (module_name_is all p.symbol w.0)
-kind_is row.Function all p w = ap (λ s. kind.Func s p.private p.results) (symbol_word_is all p.symbol w.0)
-kind_is row.Call all p w = ap kind.Call (symbol_word_is all p.symbol w.0)
-kind_is row.Constant all p w = ap (kind.Constant (width_at p 0)) (bits_are all (width_at p 0) p.literal w.1.0)
-kind_is row.Return all p w = refl
-kind_is (row.Binary k) all p w = refl
-kind_is row.Compare all p w = refl
-kind_is row.Select all p w = refl
-kind_is (row.Convert k) all p w = refl
-kind_is row.For all p w = refl
-kind_is row.If all p w = refl
-kind_is row.Yield all p w = refl
+kind_is row.Module all p w = ap kind.Module (module_name_is all p.symbol w.symbol)
+kind_is row.Function all p w = ap (λ s. kind.Func s p.private p.results) (symbol_word_is all p.symbol w.symbol)
+kind_is row.Call all p w = ap kind.Call (symbol_word_is all p.symbol w.symbol)
+kind_is row.Constant all p w = ap (kind.Constant (width_at p 0)) (bits_are all (width_at p 0) p.literal w.literal)
+kind_is r all p w = refl
 
 -- ---- scopes
 
@@ -238,17 +190,7 @@ SymbolNamed all (Some at) s = s ≡ Some (text all at)
 pub function_is : (r : Row) (all : List Token) (s : Option ℕ) → SymbolOf all s → SymbolNamed all (function_symbol r s) (function_named r (option_map (text_at all) s))
 function_is row.Function all None w = refl
 function_is row.Function all (Some at) w = ap Some (sym (symbol_is all at (and_parts _ _ w).0))
-function_is row.Module all s w = refl
-function_is row.Return all s w = refl
-function_is row.Call all s w = refl
-function_is row.Constant all s w = refl
-function_is (row.Binary k) all s w = refl
-function_is row.Compare all s w = refl
-function_is row.Select all s w = refl
-function_is (row.Convert k) all s w = refl
-function_is row.For all s w = refl
-function_is row.If all s w = refl
-function_is row.Yield all s w = refl
+function_is r all s w = refl
 
 with_symbol_is : (all : List Token) (at : Option ℕ) (s : Option (List ℕ)) (scope : Meanings) → SymbolNamed all at s → with_symbol all at scope ≡ with_function s scope
 with_symbol_is all None s scope e = ap (λ x. with_function x scope) (sym e)
@@ -256,11 +198,11 @@ with_symbol_is all (Some at) s scope e = ap (λ x. with_function x scope) (sym e
 
 pub inside_is : (all : List Token) (n : ℕ) (p : Parts) (scope : Meanings) → Inside all p → inside_tokens all n p scope ≡ inside n (said all p) scope
 inside_is all n p scope w =
-    with_args_are all n 0 (args_by p.row p) p.args scope w.1.1.1.1.0 ∙ ap (λ ts. with_arguments n 0 ts (map (arg_said all) p.args) scope) (args_are p.row all p)
+    with_args_are all n 0 (args_by p.row p) p.args scope w.args ∙ ap (λ ts. with_arguments n 0 ts (map (arg_said all) p.args) scope) (args_are p.row all p)
 
 pub behind_is : (all : List Token) (n : ℕ) (p : Parts) (scope : Meanings) → Inside all p → behind_tokens all n p scope ≡ behind n (said all p) scope
 behind_is all n p scope w =
-    let a = with_results_are all n (results_by p.row p) p.defines (with_symbol all (function_symbol p.row p.symbol) scope) w.1.1.1.0 in
+    let a = with_results_are all n (results_by p.row p) p.defines (with_symbol all (function_symbol p.row p.symbol) scope) w.defines in
     let b = results_are p.row all p in
-    let c = with_symbol_is all (function_symbol p.row p.symbol) (function_named p.row (option_map (text_at all) p.symbol)) scope (function_is p.row all p.symbol w.0) in
+    let c = with_symbol_is all (function_symbol p.row p.symbol) (function_named p.row (option_map (text_at all) p.symbol)) scope (function_is p.row all p.symbol w.symbol) in
     a ∙ (λ i. with_defines n (b i) (map (define_said all) p.defines) (c i))

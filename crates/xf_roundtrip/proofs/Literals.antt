@@ -1,141 +1,60 @@
 -- Numbers of a width are said again by their digits.
-use Rattle.std.proofs.Common.{◌≡◌, ◌⊎◌, inl, inr, ℕ, suc, ◌-◌, ◌^◌, ◌<◌, ◌≤◌, true, false, Some, ap, ◌∙◌, arith}
-use Rattle.std.specs.Prelude.{pos, negsuc, min}
-use Rattle.std.specs.Fmt.{decimal}
-use Rattle.std.specs.Str.Parse.{digits_value}
+use Rattle.std.proofs.Common.{◌≡◌, ℕ, suc, ◌^◌, ◌<◌, true, cond, Some, ap, ◌∙◌, arith}
+use Rattle.std.specs.Prelude.{ℤ, pos, negsuc, neg_ℤ, ◌-◌}
 use Rattle.std.proofs.lemmas.Bool.{ltb-true}
 use Rattle.std.proofs.lemmas.Bool.Decides.{nat_tests}
-use Rattle.std.proofs.lemmas.Int.{ints}
-use Rattle.std.proofs.lemmas.Fmt.{decimal_is_IsNumeral}
 use Rattle.xf_type.specs.declared.attribute.AttrValue.TheVariants as attr
 use Rattle.xf_type.specs.declared.payload_type.Width.{Width}
 use Rattle.xf_type.specs.declared.payload_type.Width.TheVariants.{I1, I8, I16, I32, I64, Index}
 use Rattle.xf_type.specs.Integers.{bits_of, signed_value, wrapped}
+use Rattle.xf_type.proofs.LawLemmas.{wrapped-signed_value}
 use Rattle.xf_grammar.specs.Tokens.{number_of}
-use Rattle.xf_read_base.specs.Parts.{number, number_value}
+use Rattle.xf_format.specs.Parts.{number, number_value}
 use Rattle.xf_ir.specs.RuleAttributes.{fits_bits}
 use Rattle.xf_read_base.specs.Values.{signed, truth_bits, integer_bits}
+use Rattle.xf_printed.specs.Fills.{has_minus, digits_of, is_set}
+use Rattle.xf_print_laws.specs.SaidPrinted.{signed_said, literal_printed, integer_printed}
+use Rattle.xf_print_laws.proofs.Signed.{IsShort, roomy}
+use Rattle.xf_print_laws.proofs.Single.{number_is}
 use Rattle.xf_roundtrip.specs.Saying.{bits_said, attr_value}
-use Rattle.xf_roundtrip.specs.SaidPrinted.{signed_said, is_set, literal_printed, integer_printed}
 
--- the digits of a number below 2 ^ 64 write it
-decimal_value : (n : ℕ) → n < 2 ^ 64 → digits_value 10 (decimal n) ≡ n
-decimal_value n h = (decimal_is_IsNumeral n h).1
-
-least : (n : ℕ) → n < 2 ^ 64 → min n (2 ^ 64 - 1) ≡ n
-least n h = grind (arith, nat_tests)
-
-pub decimal_number : (n : ℕ) → n < 2 ^ 64 → number_of (decimal n) ≡ n
-decimal_number n h = ap (λ d. min d (2 ^ 64 - 1)) (decimal_value n h) ∙ least n h
-
-pub truth_again : (bits : ℕ) → bits < 2 → truth_bits (is_set bits) ≡ bits
+truth_again : (bits : ℕ) → bits < 2 → truth_bits (is_set bits) ≡ bits
 truth_again bits h = grind (arith, nat_tests)
 
--- the two halves of the numbers of a width
-low_or_high : (h n : ℕ) → (n < h) ⊎ (h ≤ n)
-low_or_high h n = grind arith
+below : (w : Width) (n : ℕ) → fits_bits w n ≡ true → n < 2 ^ bits_of w
+below w n e = ltb-true n (2 ^ bits_of w) e
 
-signed_low : (w : Width) (n : ℕ) → n < 2 ^ (bits_of w - 1) → signed_value w n ≡ pos n
-signed_low I1 n h = grind (arith, nat_tests)
-signed_low I8 n h = grind (arith, nat_tests)
-signed_low I16 n h = grind (arith, nat_tests)
-signed_low I32 n h = grind (arith, nat_tests)
-signed_low I64 n h = grind (arith, nat_tests)
-signed_low Index n h = grind (arith, nat_tests)
+-- the sign and the digits of an integer are those of the integer
+signed_again : (z : ℤ) → IsShort z → signed (has_minus z) (number_of (digits_of z)) ≡ z
+signed_again (pos n) h = ap pos (number_is n h)
+signed_again (negsuc n) h = ap (λ d. neg_ℤ (pos d)) (number_is (suc n) h)
 
-signed_high : (w : Width) (n : ℕ) → 2 ^ (bits_of w - 1) ≤ n → n < 2 ^ bits_of w → signed_value w n ≡ negsuc (2 ^ bits_of w - 1 - n)
-signed_high I1 n l h = grind (arith, nat_tests, ints)
-signed_high I8 n l h = grind (arith, nat_tests, ints)
-signed_high I16 n l h = grind (arith, nat_tests, ints)
-signed_high I32 n l h = grind (arith, nat_tests, ints)
-signed_high I64 n l h = grind (arith, nat_tests, ints)
-signed_high Index n l h = grind (arith, nat_tests, ints)
+wrapped_again : (w : Width) (n : ℕ) → fits_bits w n ≡ true → wrapped w (signed (has_minus (signed_value w n)) (number_of (digits_of (signed_value w n)))) ≡ n
+wrapped_again w n f = ap (wrapped w) (signed_again (signed_value w n) (roomy w n f).short) ∙ wrapped-signed_value w n (below w n f)
 
-wrapped_low : (w : Width) (n : ℕ) → n < 2 ^ bits_of w → wrapped w (signed false n) ≡ n
-wrapped_low I1 n h = grind (arith, nat_tests)
-wrapped_low I8 n h = grind (arith, nat_tests)
-wrapped_low I16 n h = grind (arith, nat_tests)
-wrapped_low I32 n h = grind (arith, nat_tests)
-wrapped_low I64 n h = grind (arith, nat_tests)
-wrapped_low Index n h = grind (arith, nat_tests)
+-- for which there is room
+bits_again : (w : Width) (n : ℕ) → fits_bits w n ≡ true → bits_said w (Some (signed_said number (signed_value w n))) ≡ n
+bits_again w n f =
+    let z : ℤ = signed_value w n in
+    let d : ℕ = number_of (digits_of z) in
+    let r : integer_bits w (has_minus z) d ≡ wrapped w (signed (has_minus z) d) = ap (λ b. cond b (wrapped w (signed (has_minus z) d)) (cond (has_minus z) (2 ^ 128 - d) d)) (roomy w n f).here in
+    r ∙ wrapped_again w n f
 
-wrapped_high : (w : Width) (n : ℕ) → n < 2 ^ bits_of w → wrapped w (signed true (suc (2 ^ bits_of w - 1 - n))) ≡ n
-wrapped_high I1 n h = grind (arith, nat_tests)
-wrapped_high I8 n h = grind (arith, nat_tests)
-wrapped_high I16 n h = grind (arith, nat_tests)
-wrapped_high I32 n h = grind (arith, nat_tests)
-wrapped_high I64 n h = grind (arith, nat_tests)
-wrapped_high Index n h = grind (arith, nat_tests)
+value_again : (w : Width) (n : ℕ) → fits_bits w n ≡ true → attr_value (signed_said (λ negative digits. number_value negative digits w) (signed_value w n)) ≡ attr.Int w n
+value_again w n f = ap (attr.Int w) (wrapped_again w n f)
 
-bits_low : (w : Width) (n : ℕ) → n < 2 ^ bits_of w → integer_bits w false n ≡ wrapped w (signed false n)
-bits_low I1 n h = grind (arith, nat_tests)
-bits_low I8 n h = grind (arith, nat_tests)
-bits_low I16 n h = grind (arith, nat_tests)
-bits_low I32 n h = grind (arith, nat_tests)
-bits_low I64 n h = grind (arith, nat_tests)
-bits_low Index n h = grind (arith, nat_tests)
+pub literal_again : (w : Width) (n : ℕ) → fits_bits w n ≡ true → bits_said w (Some (literal_printed w n)) ≡ n
+literal_again I1 n f = truth_again n (below I1 n f)
+literal_again I8 n f = bits_again I8 n f
+literal_again I16 n f = bits_again I16 n f
+literal_again I32 n f = bits_again I32 n f
+literal_again I64 n f = bits_again I64 n f
+literal_again Index n f = bits_again Index n f
 
-bits_high : (w : Width) (n : ℕ) → 2 ^ (bits_of w - 1) ≤ n → n < 2 ^ bits_of w → integer_bits w true (suc (2 ^ bits_of w - 1 - n)) ≡ wrapped w (signed true (suc (2 ^ bits_of w - 1 - n)))
-bits_high I1 n l h = grind (arith, nat_tests)
-bits_high I8 n l h = grind (arith, nat_tests)
-bits_high I16 n l h = grind (arith, nat_tests)
-bits_high I32 n l h = grind (arith, nat_tests)
-bits_high I64 n l h = grind (arith, nat_tests)
-bits_high Index n l h = grind (arith, nat_tests)
-
--- ---- what is said of a number
-
-below_64 : (w : Width) (n : ℕ) → n < 2 ^ bits_of w → n < 2 ^ 64
-below_64 I1 n h = omega arith
-below_64 I8 n h = omega arith
-below_64 I16 n h = omega arith
-below_64 I32 n h = omega arith
-below_64 I64 n h = omega arith
-below_64 Index n h = omega arith
-
-above_64 : (w : Width) (n : ℕ) → n < 2 ^ bits_of w → 2 ^ (bits_of w - 1) ≤ n → suc (2 ^ bits_of w - 1 - n) < 2 ^ 64
-above_64 I1 n h l = omega arith
-above_64 I8 n h l = omega arith
-above_64 I16 n h l = omega arith
-above_64 I32 n h l = omega arith
-above_64 I64 n h l = omega arith
-above_64 Index n h l = omega arith
-
--- a number of a width by its sign and digits
-pub bits_again : (w : Width) (n : ℕ) → n < 2 ^ bits_of w → bits_said w (Some (signed_said number (signed_value w n))) ≡ n
-bits_again w n h = elim (low_or_high (2 ^ (bits_of w - 1)) n) [
-  | inl l ↦ ap (λ z. bits_said w (Some (signed_said number z))) (signed_low w n l) ∙ (ap (integer_bits w false) (decimal_number n (below_64 w n h)) ∙ (bits_low w n h ∙ wrapped_low w n h))
-  | inr l ↦
-      let m : ℕ = 2 ^ bits_of w - 1 - n in
-      ap (λ z. bits_said w (Some (signed_said number z))) (signed_high w n l h) ∙ (ap (integer_bits w true) (decimal_number (suc m) (above_64 w n h l)) ∙ (bits_high w n l h ∙ wrapped_high w n h))
-]
-
-pub wrapped_again : (w : Width) (n : ℕ) → n < 2 ^ bits_of w → attr_value (signed_said (λ negative digits. number_value negative digits w) (signed_value w n)) ≡ attr.Int w n
-wrapped_again w n h = elim (low_or_high (2 ^ (bits_of w - 1)) n) [
-  | inl l ↦
-      ap (λ z. attr_value (signed_said (λ negative digits. number_value negative digits w) z)) (signed_low w n l)
-      ∙ (ap (λ d. attr.Int w (wrapped w (signed false d))) (decimal_number n (below_64 w n h)) ∙ ap (attr.Int w) (wrapped_low w n h))
-  | inr l ↦
-      let m : ℕ = 2 ^ bits_of w - 1 - n in
-      ap (λ z. attr_value (signed_said (λ negative digits. number_value negative digits w) z)) (signed_high w n l h)
-      ∙ (ap (λ d. attr.Int w (wrapped w (signed true d))) (decimal_number (suc m) (above_64 w n h l)) ∙ ap (attr.Int w) (wrapped_high w n h))
-]
-
-pub literal_again : (w : Width) (n : ℕ) → n < 2 ^ bits_of w → bits_said w (Some (literal_printed w n)) ≡ n
-literal_again I1 n h = truth_again n (omega (arith, h))
-literal_again I8 n h = bits_again I8 n h
-literal_again I16 n h = bits_again I16 n h
-literal_again I32 n h = bits_again I32 n h
-literal_again I64 n h = bits_again I64 n h
-literal_again Index n h = bits_again Index n h
-
-pub integer_again : (w : Width) (n : ℕ) → n < 2 ^ bits_of w → attr_value (integer_printed w n) ≡ attr.Int w n
-integer_again I1 n h = ap (attr.Int I1) (truth_again n (omega (arith, h)))
-integer_again I8 n h = wrapped_again I8 n h
-integer_again I16 n h = wrapped_again I16 n h
-integer_again I32 n h = wrapped_again I32 n h
-integer_again I64 n h = wrapped_again I64 n h
-integer_again Index n h = wrapped_again Index n h
-
-pub fits_is : (w : Width) (n : ℕ) → fits_bits w n ≡ true → n < 2 ^ bits_of w
-fits_is w n e = ltb-true n (2 ^ bits_of w) e
+pub integer_again : (w : Width) (n : ℕ) → fits_bits w n ≡ true → attr_value (integer_printed w n) ≡ attr.Int w n
+integer_again I1 n f = ap (attr.Int I1) (truth_again n (below I1 n f))
+integer_again I8 n f = value_again I8 n f
+integer_again I16 n f = value_again I16 n f
+integer_again I32 n f = value_again I32 n f
+integer_again I64 n f = value_again I64 n f
+integer_again Index n f = value_again Index n f

@@ -2,7 +2,7 @@
 use Rattle.std.proofs.Common.{◌≡◌, ℕ, ◌+◌, ◌<◌, ◌≤◌, Bool, true, false, cond, List, [], ◌∷◌, ◌++◌, refl, sym, ap, subst, ◌∙◌, arith, append_assoc}
 use Rattle.std.specs.Prelude.{◌&&◌, not}
 use Rattle.std.proofs.lemmas.Bool.{ne_eqb, or_from}
-use Rattle.xf_read_base.specs.Parts.{Said}
+use Rattle.xf_format.specs.Parts.{Said}
 use Rattle.xf_ir.specs.declared.name.OpName.{OpName}
 use Rattle.xf_ir.specs.Lists.{Each, Once, same_name, is_among}
 use Rattle.xf_ir.specs.Tree.{Ops, no_ops, op, cons}
@@ -12,9 +12,9 @@ use Rattle.xf_ir.proofs.Lists.{not_both, each_both, each_map}
 use Rattle.xf_read.specs.Meant.{joined, yield_tree}
 use Rattle.xf_read.specs.Names.{op_name}
 use Rattle.xf_read.specs.Scopes.{Meanings, no_names}
-use Rattle.xf_read.specs.Syntax.{ends_open}
-use Rattle.xf_read.specs.Written.{SaidNodes, no_nodes_said, node_said, SaidBodies, no_bodies_said, body_said, says_yield_last, operations, left_out, operations_inside, bodies_said}
-use Rattle.xf_read_base.specs.Parts.{said}
+use Rattle.xf_format.specs.Format.{ends_open}
+use Rattle.xf_syntax.specs.Telling.{SaidNodes, no_nodes_said, node_said, SaidBodies, no_bodies_said, body_said, says_yield_last, operations, left_out, operations_inside, bodies_said}
+use Rattle.xf_format.specs.Parts.{said}
 use Rattle.xf_roundtrip.specs.AgainLaws.{SpeltIsNamedOnce}
 use Rattle.xf_roundtrip.specs.Saying.{inside, behind}
 use Rattle.xf_roundtrip.specs.SaidMeant.{yield_said, ops_said, regions_said, root_said}

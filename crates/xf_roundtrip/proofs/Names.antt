@@ -10,7 +10,8 @@ use Rattle.std.proofs.lemmas.Slice.Eq.{bytes_eq-Decides}
 use Rattle.xf_type.specs.declared.payload_type.PayloadType.{PayloadType}
 use Rattle.xf_type.specs.Bytes.{is_digit}
 use Rattle.xf_lex.proofs.Stays.{Digits, decimal_digits}
-use Rattle.xf_read_base.specs.Parts.{UseSaid}
+use Rattle.xf_grammar.proofs.Basics.{both_true}
+use Rattle.xf_format.specs.Parts.{UseSaid}
 use Rattle.xf_ir.specs.declared.name.OpName.{OpName}
 use Rattle.xf_ir.specs.declared.name.ValueName.{ValueName}
 use Rattle.xf_ir.specs.declared.name.ValueName.TheVariants.{Result, Arg, Free}
@@ -19,12 +20,14 @@ use Rattle.xf_ir.specs.Places.{Seen, done, inside, results_of, args_of, below, s
 use Rattle.xf_ir.specs.Renamed.{value_renamed}
 use Rattle.xf_read.specs.declared.scope.Named.{Named}
 use Rattle.xf_read.specs.Names.{op_name, argument_number, argument_named, results_named}
+use Rattle.xf_read_base.specs.Spelt.{count_used}
 use Rattle.xf_read.specs.Scopes.{Meanings, beside, with_name, has_value, has_use, value_in, type_in, value_of}
 use Rattle.xf_read.specs.Types.{one_type}
-use Rattle.xf_ir.specs.PrintedNames.{DefinedValues, Names, argument_text, next_number, type_of}
-use Rattle.xf_roundtrip.specs.Saying.{index_or, use_means, use_value, use_type, with_arguments, with_defines}
+use Rattle.xf_printed.specs.Names.{DefinedValues, Names, argument_text, next_number, type_of}
+use Rattle.xf_print_laws.proofs.Entries.{HasEntry}
+use Rattle.xf_roundtrip.specs.Saying.{use_means, use_value, use_type, with_arguments, with_defines}
 use Rattle.xf_roundtrip.specs.SaidWell.{is_new, defines_new, arguments_new}
-use Rattle.xf_roundtrip.specs.Naming.{number_name, part_said, result_use, argument_use, use_or, use_printed, defines_printed, arguments_printed}
+use Rattle.xf_print_laws.specs.Naming.{number_name, part_said, result_use, argument_use, use_or, use_printed, defines_printed, arguments_printed}
 
 -- ---- names that differ
 
@@ -57,9 +60,9 @@ number_argument j k h e = digits_differ (decimal j) (114 ∷ 103 ∷ decimal k) 
 pub record Stands (scope : Meanings) (u : UseSaid) (v : ValueName) (t : Option PayloadType) : Type 0 where
   pub named : Named
   pub is : scope u.name ≡ Some named
-  pub has : has_value (is_some u.number) (index_or u.number) named ≡ true
-  pub value : value_of named.definer (index_or u.number) ≡ v
-  pub type_is : slice_get named.types (index_or u.number) ≡ t
+  pub has : has_value u.number named ≡ true
+  pub value : value_of named.definer (count_used u.number) ≡ v
+  pub type_is : slice_get named.types (count_used u.number) ≡ t
 
 -- each visible value is what its printed name stands for
 pub record Knows (ss : List Seen) (names : Names) (renamed : OpName → OpName) (scope : Meanings) : Type 0 where
@@ -90,7 +93,7 @@ still_stands b x scope u v t free s = record { named = s.named; is = other_name 
 
 -- ---- results
 
-pub seen_or : (o : Option ℕ) (b : Bool) → (is_some o || b) ≡ true → (is_some o ≡ true) ⊎ (b ≡ true)
+seen_or : (o : Option ℕ) (b : Bool) → (is_some o || b) ≡ true → (is_some o ≡ true) ⊎ (b ≡ true)
 seen_or (Some i) b e = inl refl
 seen_or None b e = inr e
 
@@ -98,7 +101,7 @@ below_is : (b : Bool) (num count : ℕ) → nat_lt num count ≡ b → is_some (
 below_is true num count e s = ltb-true num count e
 below_is false num count e s = absurd cc
 
-pub result_seen : (b : Bool) (num count : ℕ) → is_some (cond b (below num count) None) ≡ true → (b ≡ true) × (num < count)
+result_seen : (b : Bool) (num count : ℕ) → is_some (cond b (below num count) None) ≡ true → (b ≡ true) × (num < count)
 result_seen true num count s = (refl, below_is (nat_lt num count) num count refl s)
 result_seen false num count s = absurd cc
 
@@ -114,9 +117,9 @@ result_stands n k num (t ∷ []) scope e p q free lt =
     record {
       named = results_named n 1 (t ∷ []);
       is = ap (λ j. with_name (number_name k) (results_named n 1 (t ∷ [])) scope (number_name j)) p ∙ this_name (number_name k) (results_named n 1 (t ∷ [])) scope free;
-      has = ap (λ o. has_value (is_some o) (index_or o) (results_named n 1 (t ∷ []))) i;
-      value = ap (λ o. Result (op_name n) (index_or o)) i ∙ ap (Result (op_name n)) z;
-      type_is = ap (λ o. slice_get (t ∷ []) (index_or o)) i ∙ ap (slice_get (t ∷ [])) z;
+      has = ap (λ o. has_value o (results_named n 1 (t ∷ []))) i;
+      value = ap (λ o. Result (op_name n) (count_used o)) i ∙ ap (Result (op_name n)) z;
+      type_is = ap (λ o. slice_get (t ∷ []) (count_used o)) i ∙ ap (slice_get (t ∷ [])) z;
     }
 result_stands n k num (t ∷ (s ∷ ts)) scope e p q free lt =
     let count : ℕ = length (t ∷ (s ∷ ts)) in
@@ -124,23 +127,14 @@ result_stands n k num (t ∷ (s ∷ ts)) scope e p q free lt =
     record {
       named = results_named n count (t ∷ (s ∷ ts));
       is = ap (λ j. with_name (number_name k) (results_named n count (t ∷ (s ∷ ts))) scope (number_name j)) p ∙ this_name (number_name k) (results_named n count (t ∷ (s ∷ ts))) scope free;
-      has = ap (λ o. has_value (is_some o) (index_or o) (results_named n count (t ∷ (s ∷ ts)))) i ∙ lt-ltb num count lt;
-      value = ap (λ o. Result (op_name n) (index_or o)) i;
-      type_is = ap (λ o. slice_get (t ∷ (s ∷ ts)) (index_or o)) i;
+      has = ap (λ o. has_value o (results_named n count (t ∷ (s ∷ ts)))) i ∙ lt-ltb num count lt;
+      value = ap (λ o. Result (op_name n) (count_used o)) i;
+      type_is = ap (λ o. slice_get (t ∷ (s ∷ ts)) (count_used o)) i;
     }
 
 still_by_results : (n k a : ℕ) (ts : List PayloadType) (scope : Meanings) (u : UseSaid) (v : ValueName) (t : Option PayloadType) → k < 2 ^ 64 → Clear k a scope → Stands scope u v t → Stands (with_defines n ts (defines_printed k ts) scope) u v t
 still_by_results n k a [] scope u v t lt c s = s
 still_by_results n k a (x ∷ ts) scope u v t lt c s = still_stands (number_name k) (results_named n (length (x ∷ ts)) (x ∷ ts)) scope u v t (c.numbers k (omega arith) lt) s
-
--- what the numbers of an operation are
-pub record HasEntry (names : Names) (m : OpName) (k a : ℕ) (ts args : List PayloadType) : Type 0 where
-  pub entry : DefinedValues
-  pub is : names.entry m.0 ≡ Some entry
-  pub number : entry.number ≡ k
-  pub results : entry.results ≡ ts
-  pub first : entry.first ≡ a
-  pub arguments : entry.args ≡ args
 
 new_result : (names : Names) (renamed : OpName → OpName) (m o : OpName) (n k a num : ℕ) (ts args : List PayloadType) (scope : Meanings) → HasEntry names m k a ts args → renamed m ≡ op_name n → o ≡ m → scope (number_name k) ≡ None → num < length ts
     → Stands (with_defines n ts (defines_printed k ts) scope) (use_printed names (Result o num)) (Result (renamed o) num) (type_of names (Result o num))
@@ -261,10 +255,6 @@ first_number : (i q count : ℕ) (ts : List PayloadType) → IsFirst i ts → q 
 first_number i q count ts (inl z) e lt = e ∙ z
 first_number i q count ts (inr z) e lt = let l : length ts ≡ 0 = ap length z in absurd (omega (arith, l, lt))
 
-both_true : (a b : Bool) → (a && b) ≡ true → (a ≡ true) × (b ≡ true)
-both_true true b e = (refl, e)
-both_true false b e = absurd cc
-
 new_argument : (names : Names) (renamed : OpName → OpName) (m o : OpName) (n k a q num : ℕ) (ts args : List PayloadType) (scope : Meanings) → HasEntry names m k a ts args → renamed m ≡ op_name n → o ≡ m → q ≡ 0 → num < length args
     → a + length args < 2 ^ 64 → length args ≤ 2 ^ 32 → (k' : ℕ) → Clear k' a scope
     → Stands (with_arguments n 0 args (arguments_printed a args) scope) (use_printed names (Arg o q num)) (Arg (renamed o) q num) (type_of names (Arg o q num))
@@ -306,7 +296,7 @@ pub record UsesAgain (scope : Meanings) (us : List UseSaid) (os : List ValueName
 
 use_again : (scope : Meanings) (u : UseSaid) (v : ValueName) (t : Option PayloadType) → Stands scope u v t → (use_means scope u ≡ true) × ((use_value scope u ≡ v) × (use_type scope u ≡ t))
 use_again scope u v t s =
-    (ap (has_use (is_some u.number) (index_or u.number)) s.is ∙ s.has, (ap (λ o. value_in o (index_or u.number)) s.is ∙ s.value, ap (λ o. type_in o (index_or u.number)) s.is ∙ s.type_is))
+    (ap (has_use u.number) s.is ∙ s.has, (ap (λ o. value_in o (count_used u.number)) s.is ∙ s.value, ap (λ o. type_in o (count_used u.number)) s.is ∙ s.type_is))
 
 pub uses_again : (names : Names) (renamed : OpName → OpName) (ss : List Seen) (scope : Meanings) (os : List ValueName) → Knows ss names renamed scope → AllSeen ss os
     → UsesAgain scope (map (use_printed names) os) (map (value_renamed renamed) os) (map (type_of names) os)

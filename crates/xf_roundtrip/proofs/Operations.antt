@@ -1,9 +1,8 @@
 -- What the printed form of a module that is valid says is right, and means the module again, with names in preorder.
-use Rattle.std.proofs.Common.{◌≡◌, ◌⊎◌, inl, inr, ℕ, suc, ◌+◌, ◌^◌, ◌<◌, Bool, true, false, cond, List, [], ◌∷◌, length, Option, Some, None, refl, sym, ap, subst, ◌∙◌, arith, slice_get}
+use Rattle.std.proofs.Common.{◌≡◌, inl, inr, ℕ, suc, ◌+◌, ◌^◌, ◌<◌, Bool, true, false, cond, List, [], ◌∷◌, length, Option, Some, None, refl, sym, ap, subst, ◌∙◌, arith, slice_get}
 use Rattle.std.specs.Prelude.{◌&&◌, ◌||◌, ◌==◌, map, is_some, nat_lt, option_and_then}
-use Rattle.std.proofs.lemmas.Bool.{cases_Bool, and_parts, or_parts, eqb-true, lt-ltb}
+use Rattle.std.proofs.lemmas.Bool.{cases_Bool, and_parts, eqb-true}
 use Rattle.xf_type.specs.declared.payload_type.PayloadType.{PayloadType}
-use Rattle.xf_type.specs.declared.payload_type.PayloadType.TheVariants.{Scalar}
 use Rattle.xf_ir.specs.declared.kind.Attr.{Attr}
 use Rattle.xf_ir.specs.declared.kind.Kind.{Kind}
 use Rattle.xf_ir.specs.declared.kind.Kind.TheVariants as kind
@@ -11,27 +10,27 @@ use Rattle.xf_ir.specs.declared.name.OpName.{OpName}
 use Rattle.xf_ir.specs.declared.name.ValueName.{ValueName}
 use Rattle.xf_ir.specs.declared.name.ValueName.TheVariants.{Result, Arg, Free}
 use Rattle.xf_ir.specs.Calls.{Signatures}
-use Rattle.xf_ir.specs.Kinds.{is_container, is_module, is_function}
-use Rattle.xf_ir.specs.Lists.{is_empty}
+use Rattle.xf_ir.specs.Kinds.{is_container}
 use Rattle.xf_ir.specs.Places.{done, inside, numbering_of, below, sees, AllSeen}
 use Rattle.xf_ir.specs.Placed.{Typed, type_or, type_at, Holder, holder_of}
-use Rattle.xf_ir.specs.RuleBlocks.{block_args, are_blocks, is_one, block_ends, blocks_end, stands_at_end}
+use Rattle.xf_ir.specs.RuleBlocks.{block_ends, blocks_end, stands_at_end}
 use Rattle.xf_ir.specs.Tree.{Ops, no_ops, op, Regions, no_regions, region}
 use Rattle.xf_ir.specs.Valid.{OpsInner, RegionsInner, OpsSee, RegionsSee}
 use Rattle.xf_ir.specs.Walk.{ops_names, regions_names}
 use Rattle.xf_ir_laws.proofs.Obeys.{OpsObey, RegionsObey}
 use Rattle.xf_ir_laws.proofs.SeenTypes.{seen_of}
 use Rattle.xf_read.specs.Names.{op_name}
-use Rattle.xf_ir.specs.PrintedNames.{DefinedValues, Names, first_args, next_number, type_of}
-use Rattle.xf_ir.specs.PrintedForm.{is_empty_yield}
-use Rattle.xf_roundtrip.specs.SaidPrinted.{head_by}
-use Rattle.xf_roundtrip.proofs.Again.{ops_count, regions_count, ops_number, regions_number, ops_argument, regions_argument, number_more, ops_number_more, regions_number_more, ops_argument_more, regions_argument_more, SaysIt, OpsSo, RegionsSo}
-use Rattle.xf_roundtrip.proofs.Entries.{Counts, counts_left, counts_right, ops_names_count, regions_names_count, Entered, RegionsEntered}
-use Rattle.xf_roundtrip.proofs.Fits.{lists_are}
-use Rattle.xf_roundtrip.proofs.Names.{HasEntry, IsFirst}
-use Rattle.xf_roundtrip.proofs.Numbers.{first_short}
-use Rattle.xf_roundtrip.proofs.Says.{Keeps, symbol_named, says_it}
-use Rattle.xf_roundtrip.proofs.Yields.{Good, keeps_it, stands_there, last_there, holds_blocks, block_yields}
+use Rattle.xf_printed.specs.Names.{DefinedValues, Names, first_args, next_number, type_of}
+use Rattle.xf_printed.specs.PrintedForm.{is_empty_yield}
+use Rattle.xf_print_laws.specs.SaidPrinted.{head_by}
+use Rattle.xf_ir.specs.Count.{ops_count, regions_count}
+use Rattle.xf_print_laws.proofs.Entries.{ops_number, regions_number, ops_argument, regions_argument, number_more, ops_number_more, regions_number_more, ops_argument_more, regions_argument_more, HasEntry, Entered, RegionsEntered}
+use Rattle.xf_print_laws.proofs.Numbers.{first_short}
+use Rattle.xf_roundtrip.proofs.Again.{SaysIt, OpsSo, RegionsSo}
+use Rattle.xf_roundtrip.proofs.Places.{Counts, counts_left, counts_right, ops_names_count, regions_names_count}
+use Rattle.xf_roundtrip.proofs.Blocks.{ArgsSo, args_so}
+use Rattle.xf_roundtrip.proofs.Says.{symbol_named, says_it}
+use Rattle.xf_roundtrip.proofs.Yields.{Good, keeps_it, stands_there, last_there, block_yields}
 
 -- ---- types of visible values
 
@@ -41,9 +40,6 @@ pub record KnowsTypes (env : Typed) (names : Names) : Type 0 where
 
 same_op_name : (o m : OpName) → (o.0 == m.0) ≡ true → o ≡ m
 same_op_name o m e = let p = eqb-true o.0 m.0 e in λ i. record { 0 = p i }
-
-below_some : (num count : ℕ) → num < count → below num count ≡ Some num
-below_some num count lt = let e = lt-ltb num count lt in rw e refl
 
 -- the value of a place, or an older one
 value_type : (o : Option ℕ) (ts : List PayloadType) (known older : Option PayloadType) (old : Bool) → ((i : ℕ) → o ≡ Some i → known ≡ slice_get ts i) → (old ≡ true → known ≡ older) → (is_some o || old) ≡ true → known ≡ type_or o ts older
@@ -62,7 +58,7 @@ place_result true num count i e = (refl, below_is num count i e)
     below_is num count i e = below_by (nat_lt num count) num i e
 place_result false num count i e = absurd cc
 
-pub knows_more_results : (env : Typed) (names : Names) (m : OpName) (k a : ℕ) (ts args : List PayloadType) → HasEntry names m k a ts args → KnowsTypes env names → KnowsTypes ((done m (length ts), ts) ∷ env) names
+knows_more_results : (env : Typed) (names : Names) (m : OpName) (k a : ℕ) (ts args : List PayloadType) → HasEntry names m k a ts args → KnowsTypes env names → KnowsTypes ((done m (length ts), ts) ∷ env) names
 knows_more_results env names m k a ts args h w = record { by = at }
   where
     at : (v : ValueName) → sees (seen_of ((done m (length ts), ts) ∷ env)) v ≡ true → type_of names v ≡ type_at ((done m (length ts), ts) ∷ env) v
@@ -75,7 +71,7 @@ knows_more_results env names m k a ts args h w = record { by = at }
     at (Arg o r num) s = w.by (Arg o r num) s
     at (Free num) s = w.by (Free num) s
 
-pub knows_more_arguments : (env : Typed) (names : Names) (m : OpName) (k a j : ℕ) (ts args : List PayloadType) → HasEntry names m k a ts args → KnowsTypes env names → KnowsTypes ((inside m j (length args), args) ∷ env) names
+knows_more_arguments : (env : Typed) (names : Names) (m : OpName) (k a j : ℕ) (ts args : List PayloadType) → HasEntry names m k a ts args → KnowsTypes env names → KnowsTypes ((inside m j (length args), args) ∷ env) names
 knows_more_arguments env names m k a j ts args h w = record { by = at }
   where
     at : (v : ValueName) → sees (seen_of ((inside m j (length args), args) ∷ env)) v ≡ true → type_of names v ≡ type_at ((inside m j (length args), args) ∷ env) v
@@ -96,69 +92,11 @@ types_known env names (v ∷ os) w h =
     let q = types_known env names os w h.1 in
     λ i. p i ∷ q i
 
--- ---- blocks of an operation
-
--- the arguments of each block, where only the first has any
-abbrev pub ArgsSo : ℕ → List PayloadType → Regions → Type 0
-ArgsSo i first no_regions = Unit {0}
-ArgsSo i first (region args ops rest) = (args ≡ first) × (IsFirst i first × ArgsSo (suc i) first rest)
-
--- an operation holds blocks of its kind, or none
-pub record Blocks (k : Kind) (rs : Regions) : Type 0 where
-  pub args : ArgsSo 0 (first_args rs) rs
-  pub holds : (holds_blocks k ≡ true) ⊎ (rs ≡ no_regions)
-
-one_block : (rs : Regions) → is_one (block_args rs) ≡ true → ArgsSo 0 (first_args rs) rs
-one_block no_regions e = tt
-one_block (region args ops no_regions) e = (refl, (inl refl, tt))
-one_block (region args ops (region args' ops' rest)) e = absurd cc
-
-two_blocks : (rs : Regions) → block_args rs ≡ [] ∷ ([] ∷ []) → ArgsSo 0 (first_args rs) rs
-two_blocks no_regions e = tt
-two_blocks (region args ops no_regions) e = (refl, (inl refl, tt))
-two_blocks (region args ops (region args' ops' no_regions)) e = let p : args ≡ [] = cc in let q : args' ≡ [] = cc in (refl, (inl refl, (q ∙ sym p, (inr p, tt))))
-two_blocks (region args ops (region args' ops' (region args'' ops'' rest))) e = absurd cc
-
-one_listed : (rs : Regions) (x : List PayloadType) → block_args rs ≡ x ∷ [] → ArgsSo 0 (first_args rs) rs
-one_listed rs x e = one_block rs (ap is_one e)
-
-either_true : (a b : Bool) → (a || b) ≡ true → (a ≡ true) ⊎ (b ≡ true)
-either_true true b e = inl refl
-either_true false b e = inr e
-
-chosen_blocks : (ts : List PayloadType) (rs : Regions) → ((is_empty ts && are_blocks (block_args rs) ([] ∷ [])) || are_blocks (block_args rs) ([] ∷ ([] ∷ []))) ≡ true → ArgsSo 0 (first_args rs) rs
-chosen_blocks ts rs e = elim (either_true (is_empty ts && are_blocks (block_args rs) ([] ∷ [])) (are_blocks (block_args rs) ([] ∷ ([] ∷ []))) e) [
-  | inl p ↦ one_listed rs [] (lists_are (block_args rs) ([] ∷ []) (and_parts (is_empty ts) (are_blocks (block_args rs) ([] ∷ [])) p).1)
-  | inr q ↦ two_blocks rs (lists_are (block_args rs) ([] ∷ ([] ∷ [])) q)
-]
-
-no_block : (k : Kind) (rs : Regions) → is_empty (block_args rs) ≡ true → Blocks k rs
-no_block k no_regions e = record { args = tt; holds = inr refl }
-no_block k (region args ops rest) e = absurd cc
-
-pub blocks_are : (sigs : Signatures) (gives : List PayloadType) (k : Kind) (ds : List Attr) (types : List (Option PayloadType)) (ts : List PayloadType) (rs : Regions) → is_module k ≡ false → Keeps sigs gives k ds types ts rs → Blocks k rs
-blocks_are sigs gives (kind.Module symbol) ds types ts rs m w = absurd cc
-blocks_are sigs gives (kind.Func symbol private results) ds types ts rs m w = record { args = one_block rs w.regions; holds = inl refl }
-blocks_are sigs gives (kind.For width) ds types ts rs m w = record { args = one_listed rs (Scalar width ∷ ts) (lists_are (block_args rs) ((Scalar width ∷ ts) ∷ []) w.regions); holds = inl refl }
-blocks_are sigs gives kind.If ds types ts rs m w = record { args = chosen_blocks ts rs w.regions; holds = inl refl }
-blocks_are sigs gives kind.Return ds types ts rs m w = no_block kind.Return rs w.regions
-blocks_are sigs gives (kind.Call callee) ds types ts rs m w = no_block (kind.Call callee) rs w.regions
-blocks_are sigs gives (kind.Constant width bits) ds types ts rs m w = no_block (kind.Constant width bits) rs w.regions
-blocks_are sigs gives (kind.Binary which width) ds types ts rs m w = no_block (kind.Binary which width) rs w.regions
-blocks_are sigs gives (kind.Compare which width) ds types ts rs m w = no_block (kind.Compare which width) rs w.regions
-blocks_are sigs gives (kind.Select width) ds types ts rs m w = no_block (kind.Select width) rs w.regions
-blocks_are sigs gives (kind.Convert which from to) ds types ts rs m w = no_block (kind.Convert which from to) rs w.regions
-blocks_are sigs gives kind.Yield ds types ts rs m w = no_block kind.Yield rs w.regions
-blocks_are sigs gives k ds types ts rs m w = absurd (let r = w.row in cc)
-
-pub inner_module : (k : Kind) → is_container k ≡ false → is_module k ≡ false
-inner_module k e = (or_parts (is_module k) (is_function k) e).0
+-- ---- operations
 
 inner_symbol : (k : Kind) → is_container k ≡ false → symbol_named k ≡ None
 inner_symbol (kind.Func symbol private results) e = absurd cc
 inner_symbol k e = refl
-
--- ---- operations
 
 abbrev pub named_by : (OpName → ℕ) → OpName → OpName
 named_by g o = op_name (g o)
@@ -179,7 +117,7 @@ mutual
       let types = types_known env names os w see.0 in
       let says = says_it sigs h.gives names k a kd ds os (map (type_at env) os) ts rs keeps types in
       let says_none : SaysIt names (head_by names k a kd ds os ts first) kd ds os ts first None = subst (λ s. SaysIt names (head_by names k a kd ds os ts first) kd ds os ts first s) (inner_symbol kd inner.0) says in
-      let blocks = blocks_are sigs h.gives kd ds (map (type_at env) os) ts rs (inner_module kd inner.0) keeps in
+      let args = args_so kd (map (type_at env) os) ts rs keeps.regions in
       let ends = (and_parts (blocks_end kd rs) (stands_at_end h.kind kd rest) good.0.blocks).0 in
       let l1 = number_more k ts in
       let l2 = regions_number_more k' rs in
@@ -191,7 +129,7 @@ mutual
       let count = regions_names_count rs in
       let z1 : suc n ≡ n + 1 = omega arith in
       let z2 : suc n + length (regions_names rs) ≡ n + (1 + regions_count rs) = omega (arith, count) in
-      let inside_so = regions_so rs sigs kd (map (type_at env) os) ts env names g m (n + 1) k' a' k a 0 first ds os blocks.holds blocks.args ends good.1.0 see.1.0 w e.0 e.1.0 (subst (λ i. Counts g i (regions_names rs)) z1 c_in) inner.1.0 (omega (arith, l3, lk)) (omega (arith, l5, la)) in
+      let inside_so = regions_so rs sigs kd (map (type_at env) os) ts env names g m (n + 1) k' a' k a 0 first ds os args ends good.1.0 see.1.0 w e.0 e.1.0 (subst (λ i. Counts g i (regions_names rs)) z1 c_in) inner.1.0 (omega (arith, l3, lk)) (omega (arith, l5, la)) in
       let rest_so = ops_so rest sigs h ((done m (length ts), ts) ∷ env) names g (n + (1 + regions_count rs)) k'' a'' good.1.1 see.1.1 (knows_more_results env names m k a ts first e.0 w) e.1.1
       (subst (λ i. Counts g i (ops_names rest)) z2 c_rest) inner.1.1 lk la in (
         number,
@@ -206,13 +144,12 @@ mutual
       )
 
   pub regions_so : (rs : Regions) (sigs : Signatures) (kd : Kind) (types : List (Option PayloadType)) (ts : List PayloadType) (env : Typed) (names : Names) (g : OpName → ℕ) (m : OpName) (n k a k0 a0 i : ℕ) (first : List PayloadType) (ds : List Attr) (os : List ValueName)
-      → (holds_blocks kd ≡ true) ⊎ (rs ≡ no_regions) → ArgsSo i first rs → blocks_end kd rs ≡ true → RegionsObey (Good sigs) (holder_of kd types ts) env m i rs → RegionsSee (seen_of env) m i rs → KnowsTypes env names → HasEntry names m k0 a0 ts first
+      → ArgsSo i first rs → blocks_end kd rs ≡ true → RegionsObey (Good sigs) (holder_of kd types ts) env m i rs → RegionsSee (seen_of env) m i rs → KnowsTypes env names → HasEntry names m k0 a0 ts first
       → RegionsEntered names k a rs → Counts g n (regions_names rs) → RegionsInner rs → regions_number k rs < 2 ^ 64 → regions_argument a rs < 2 ^ 64 → RegionsSo names (named_by g) n k a i (head_by names k0 a0 kd ds os ts first) first rs
-  regions_so no_regions sigs kd types ts env names g m n k a k0 a0 i first ds os holds args ends good see w entry e c inner lk la = tt
-  regions_so (region xs ops rest) sigs kd types ts env names g m n k a k0 a0 i first ds os holds args ends good see w entry e c inner lk la =
-      let held : holds_blocks kd ≡ true = elim holds [ inl h ↦ h | inr z ↦ absurd cc ] in
+  regions_so no_regions sigs kd types ts env names g m n k a k0 a0 i first ds os args ends good see w entry e c inner lk la = tt
+  regions_so (region xs ops rest) sigs kd types ts env names g m n k a k0 a0 i first ds os args ends good see w entry e c inner lk la =
       let b = and_parts (block_ends kd ops) (blocks_end kd rest) ends in
-      let yields = block_yields names sigs kd types ts ((inside m i (length xs), xs) ∷ env) ops held good.0 b.0 in
+      let yields = block_yields names sigs kd types ts ((inside m i (length xs), xs) ∷ env) ops good.0 b.0 in
       let entry_xs : HasEntry names m k0 a0 ts xs = subst (λ ys. HasEntry names m k0 a0 ts ys) (sym args.0) entry in
       let l1 = regions_number_more (ops_number k ops) rest in
       let l2 = regions_argument_more (ops_argument a ops) rest in
@@ -221,5 +158,5 @@ mutual
       let count = ops_names_count ops in
       let z : n + length (ops_names ops) ≡ n + ops_count ops = omega (arith, count) in
       let c_rest = subst (λ j. Counts g j (regions_names rest)) z (counts_right g n (ops_names ops) (regions_names rest) c) in
-      let later = regions_so rest sigs kd types ts env names g m (n + ops_count ops) (ops_number k ops) (ops_argument a ops) k0 a0 (suc i) first ds os (inl held) args.1.1 b.1 good.1 see.1 w entry e.1 c_rest inner.1 lk la in
+      let later = regions_so rest sigs kd types ts env names g m (n + ops_count ops) (ops_number k ops) (ops_argument a ops) k0 a0 (suc i) first ds os args.1.1 b.1 good.1 see.1 w entry e.1 c_rest inner.1 lk la in
       (args.0, (args.1.0, (yields, (one, later))))

@@ -11,48 +11,55 @@ use Rattle.xf_ir.specs.declared.op.Module.{Module}
 use Rattle.xf_ir.specs.Calls.{Signatures, signatures, has_its_callee}
 use Rattle.xf_ir.specs.Kinds.{is_module, is_function}
 use Rattle.xf_ir.specs.Lists.{Each, Once, TextsOnce, is_among}
-use Rattle.xf_ir.specs.Placed.{type_at, Holder, Placed, placed, root_holder}
+use Rattle.xf_ir.specs.Placed.{type_at, block_of, Holder, Placed, placed, root_holder}
 use Rattle.xf_ir.specs.RuleAttributes.{has_its_attributes}
 use Rattle.xf_ir.specs.RuleBlocks.{blocks_end, stands_at_end, has_its_regions, ends_its_blocks}
 use Rattle.xf_ir.specs.RuleTypes.{takes_gives, has_its_types}
 use Rattle.xf_ir.specs.RuleTypes.{row_of as type_row}
 use Rattle.xf_ir.specs.Tree.{Ops, no_ops, op, Regions, no_regions, region}
-use Rattle.xf_ir.specs.Types.{have_types, same_types}
-use Rattle.xf_ir.specs.Valid.{FunctionsAlone, BlocksAlone, FunctionsSee, block_of, symbols_before, symbols_of, symbols_in}
+use Rattle.xf_type.specs.Equal.{same_types}
+use Rattle.xf_ir.specs.Types.{have_types}
+use Rattle.xf_ir.specs.Valid.{FunctionsAlone, BlocksAlone, FunctionsSee, symbols_before, symbols_of, symbols_in}
 use Rattle.xf_ir.specs.Walk.{ops_names, regions_names, tree_names}
 use Rattle.xf_ir.proofs.ShortPlaced.{IsShortThere, short_placed}
 use Rattle.xf_ir.proofs.Lists.{not_left, once_left, once_right}
 use Rattle.xf_ir_laws.proofs.Obeys.{FunctionsObey, BlocksObey, blocks_obey}
 use Rattle.xf_ir.proofs.Root.{one_block}
 use Rattle.xf_read.specs.Names.{op_name}
-use Rattle.xf_read.specs.Syntax.{ends_open}
-use Rattle.xf_read.specs.Written.{says_yield_last}
-use Rattle.xf_ir.specs.PrintedNames.{Names, first_args, next_number}
-use Rattle.xf_ir.specs.PrintedNames.{no_names as no_numbers}
+use Rattle.xf_format.specs.Format.{ends_open}
+use Rattle.xf_syntax.specs.Telling.{says_yield_last}
+use Rattle.xf_printed.specs.Names.{Names, first_args, next_number}
+use Rattle.xf_printed.specs.Names.{no_names as no_numbers}
 use Rattle.xf_roundtrip.specs.Laws.{PrintedSaysTheModule}
-use Rattle.xf_roundtrip.specs.Printable.{AllBytes, FunctionsNumber, IsPrintable}
-use Rattle.xf_roundtrip.specs.SaidPrinted.{head_by, has_row, row_of, results_printed}
-use Rattle.xf_roundtrip.proofs.Again.{regions_count, regions_number, regions_argument, regions_argument_more, SaysIt, RegionsSo}
-use Rattle.xf_roundtrip.proofs.Entries.{index_of, same_place, Counts, all_counted, counts_left, counts_right, regions_names_count, ops_entered, number_after, argument_after}
-use Rattle.xf_roundtrip.proofs.Fits.{types_are, have_is}
+use Rattle.xf_print_laws.specs.Core.{is_core}
+use Rattle.xf_print_laws.specs.SaidPrinted.{head_by, row_of, results_printed}
+use Rattle.xf_print_laws.specs.Stored.{AllBytes}
+use Rattle.xf_print_laws.specs.Naming.{FunctionsNumber}
+use Rattle.xf_roundtrip.specs.Printable.{IsPrintable}
+use Rattle.xf_ir.specs.Count.{regions_count}
+use Rattle.xf_print_laws.proofs.Entries.{regions_number, regions_argument, regions_argument_more, number_after, argument_after, ops_entered}
+use Rattle.xf_print_laws.proofs.Numbers.{first_short}
+use Rattle.xf_roundtrip.proofs.Again.{SaysIt, RegionsSo}
+use Rattle.xf_roundtrip.proofs.Places.{index_of, same_place, Counts, all_counted, counts_left, counts_right, regions_names_count}
+use Rattle.xf_type.proofs.EqualTypes.{types_are}
+use Rattle.xf_roundtrip.proofs.Fits.{have_is}
 use Rattle.xf_roundtrip.proofs.Functions.{numbers_of, FunctionsSo, ModuleSo, module_again}
-use Rattle.xf_roundtrip.proofs.Numbers.{first_short}
-use Rattle.xf_roundtrip.proofs.Operations.{KnowsTypes, types_known, blocks_are, named_by, regions_so}
+use Rattle.xf_roundtrip.proofs.Blocks.{args_so}
+use Rattle.xf_roundtrip.proofs.Operations.{KnowsTypes, types_known, named_by, regions_so}
 use Rattle.xf_roundtrip.proofs.Says.{symbol_named, says_it}
 use Rattle.xf_roundtrip.proofs.Yields.{Good, keeps_it}
 
 -- ---- functions
 
 -- what a function is by its kind
-pub record IsFunctionBy (k : Kind) : Type 0 where
+record IsFunctionBy (k : Kind) : Type 0 where
   pub symbol : List ℕ
   pub before : symbols_before k [] ≡ symbol ∷ []
   pub named : symbol_named k ≡ Some (64 ∷ symbol)
-  pub other : is_module k ≡ false
   pub row : (sigs : Signatures) (gives : List PayloadType) (types : List (Option PayloadType)) (ts : List PayloadType) → type_row sigs gives k types ts ≡ takes_gives [] [] types ts
 
-pub function_by : (k : Kind) → is_function k ≡ true → IsFunctionBy k
-function_by (kind.Func symbol private results) e = record { symbol = symbol; before = refl; named = refl; other = refl; row = λ sigs gives types ts. refl }
+function_by : (k : Kind) → is_function k ≡ true → IsFunctionBy k
+function_by (kind.Func symbol private results) e = record { symbol = symbol; before = refl; named = refl; row = λ sigs gives types ts. refl }
 function_by k e = absurd cc
 
 no_operands : (os : List ValueName) (f : ValueName → Option PayloadType) → map f os ≡ [] → os ≡ []
@@ -69,10 +76,10 @@ bare os f ts e =
     let p = and_parts (have_types (map f os) []) (same_types ts []) e in
     record { operands = no_operands os f (have_is (map f os) [] p.0); results = types_are ts [] p.1 }
 
-pub nothing_seen : (names : Names) → KnowsTypes [] names
+nothing_seen : (names : Names) → KnowsTypes [] names
 nothing_seen names = record { by = λ v s. absurd (let z : false ≡ true = s in cc) }
 
-pub same_entries : (names : Names) (ns : List OpName) → Each (λ (m : OpName). names.entry m.0 ≡ names.entry m.0) ns
+same_entries : (names : Names) (ns : List OpName) → Each (λ (m : OpName). names.entry m.0 ≡ names.entry m.0) ns
 same_entries names [] = tt
 same_entries names (m ∷ ns) = (refl, same_entries names ns)
 
@@ -93,7 +100,7 @@ functions_so (op m k ds os ts rs rest) sigs h g n good alone see once c numbers 
     let known = types_known [] names os (nothing_seen names) see.0 in
     let says = says_it sigs h.gives names 0 0 k ds os types ts rs keeps known in
     let says_named = subst (λ s. SaysIt names (head_by names 0 0 k ds os ts first) k ds os ts first s) f.named says in
-    let blocks = blocks_are sigs h.gives k ds types ts rs f.other keeps in
+    let args = args_so k types ts rs keeps.regions in
     let ends = (and_parts (blocks_end k rs) (stands_at_end h.kind k rest) good.0.blocks).0 in
     let number : regions_number (next_number 0 ts) rs < 2 ^ 64 = subst (λ i. i < 2 ^ 64) (number_after no_numbers one) numbers.0 in
     let argument : regions_argument (0 + length first) rs < 2 ^ 64 = subst (λ i. i < 2 ^ 64) (argument_after no_numbers one) numbers.1.0 in
@@ -103,7 +110,7 @@ functions_so (op m k ds os ts rs rest) sigs h g n good alone see once c numbers 
     let z2 : suc n + length inner ≡ n + (1 + regions_count rs) = omega (arith, count) in
     let c_in = subst (λ i. Counts g i inner) z1 (counts_left g (suc n) inner (ops_names rest) c.1) in
     let c_rest = subst (λ i. Counts g i (ops_names rest)) z2 (counts_right g (suc n) inner (ops_names rest) c.1) in
-    let so = regions_so rs sigs k types ts [] names g m (n + 1) (next_number 0 ts) (0 + length first) 0 0 0 first ds os blocks.holds blocks.args ends good.1.0 see.1.0 (nothing_seen names) entered.0 entered.1.0 c_in alone.1.0 number argument in
+    let so = regions_so rs sigs k types ts [] names g m (n + 1) (next_number 0 ts) (0 + length first) 0 0 0 first ds os args ends good.1.0 see.1.0 (nothing_seen names) entered.0 entered.1.0 c_in alone.1.0 number argument in
     let k0 : next_number 0 ts ≡ 0 = ap (next_number 0) b.results in
     let a0 : 0 + length first ≡ length first = omega arith in
     let t = head_by names 0 0 k ds os ts first in
@@ -135,10 +142,10 @@ module_by (kind.Module symbol) e = record { named = refl; closed = λ ts b. refl
 module_by k e = absurd cc
 
 -- all rules at once
-pub all_good : (sigs : Signatures) (ps : List Placed) → Each (λ p. has_its_regions p ≡ true) ps → Each (λ p. ends_its_blocks p ≡ true) ps → Each (λ p. has_its_types sigs p ≡ true) ps → Each (λ p. has_its_callee sigs p ≡ true) ps
-    → Each (λ p. has_its_attributes p ≡ true) ps → Each (λ (p : Placed). has_row p.tree.kind ≡ true) ps → Each AllBytes ps → Each IsShortThere ps → Each (Good sigs) ps
+all_good : (sigs : Signatures) (ps : List Placed) → Each (λ p. has_its_regions p ≡ true) ps → Each (λ p. ends_its_blocks p ≡ true) ps → Each (λ p. has_its_types sigs p ≡ true) ps → Each (λ p. has_its_callee sigs p ≡ true) ps
+    → Each (λ p. has_its_attributes p ≡ true) ps → Each (λ (p : Placed). is_core p.tree.kind ≡ true) ps → Each AllBytes ps → Each IsShortThere ps → Each (Good sigs) ps
 all_good sigs [] a b c d e f g h = tt
-all_good sigs (p ∷ ps) a b c d e f g h = (record { regions = a.0; blocks = b.0; types = c.0; callee = d.0; attributes = e.0; row = f.0; bytes = g.0; short = h.0 }, all_good sigs ps a.1 b.1 c.1 d.1 e.1 f.1 g.1 h.1)
+all_good sigs (p ∷ ps) a b c d e f g h = (record { regions = a.0; blocks = b.0; types = c.0; callee = d.0; attributes = e.0; core = f.0; bytes = g.0; short = h.0 }, all_good sigs ps a.1 b.1 c.1 d.1 e.1 f.1 g.1 h.1)
 
 module_so : (m : Module) → IsPrintable m → ModuleSo (named_by (λ o. index_of o (tree_names m.root))) m
 module_so m x =

@@ -1,27 +1,49 @@
--- The printed form of a valid module is laid out of tokens that the grammar writes.
-use Rattle.std.proofs.Common.{ℕ, zero, suc, List, [], ◌∷◌, sym, subst, arith}
-use Rattle.std.specs.Str.{IsAscii, IsUtf8}
-use Rattle.std.proofs.lemmas.Bool.{ltb-true}
-use Rattle.std.proofs.lemmas.Str.{IsUtf8-from_ascii}
-use Rattle.xf_read.specs.Written.{IsWritten}
-use Rattle.xf_roundtrip.specs.Printing.{module_printed}
+-- The printed form of a valid module is laid out of tokens that the format of payloads writes.
+use Rattle.std.proofs.Common.{◌≡◌, inl, ℕ, true, List, [], ◌∷◌, ◌++◌, Option, refl, sym, subst, ◌∙◌}
+use Rattle.std.specs.Prelude.{map, codes}
+use Rattle.xf_type.specs.declared.payload_type.PayloadType.{PayloadType}
+use Rattle.xf_grammar.specs.Tokens.{Terminal, the_end, is_word}
+use Rattle.xf_grammar.specs.Grammar.{line, Spaced, tokens_of, begun, written, first_seen}
+use Rattle.xf_grammar.specs.Tree.{Blocks, no_blocks, a_block, docs_written}
+use Rattle.xf_format.specs.declared.row.Level.TheVariants as level
+use Rattle.xf_format.specs.Format.{format}
+use Rattle.xf_format.specs.Rules.{language, head_rule, row_rule}
+use Rattle.xf_ir.specs.declared.kind.Kind.{Kind}
+use Rattle.xf_ir.specs.declared.kind.Kind.TheVariants as kind
+use Rattle.xf_ir.specs.declared.op.Module.{Module}
+use Rattle.xf_ir.specs.Calls.{signatures}
+use Rattle.xf_ir.specs.Kinds.{is_module}
+use Rattle.xf_ir.specs.Placed.{type_at, functions_of}
+use Rattle.xf_ir.specs.Valid.{IsValid}
+use Rattle.xf_printed.specs.Fills.{head_fill}
+use Rattle.xf_printed.specs.Names.{no_names}
+use Rattle.xf_printed.specs.PrintedForm.{word_of, head_of, slots_of, header_of, tail_of, functions_docs, module_docs}
+use Rattle.xf_print_laws.specs.SaidPrinted.{printed_said}
+use Rattle.xf_print_laws.proofs.LayoutDocs.{printed_has_layout as laid_out}
+use Rattle.xf_print_laws.proofs.Printed.{printed_fits, printed_says_heads, printed_has_few}
+use Rattle.xf_syntax.specs.Written.{AreFilled, IsWritten}
 use Rattle.xf_roundtrip.specs.PrintedLaws.{PrintedHasLayout}
-use Rattle.xf_roundtrip.proofs.Fitted.{module_fits}
-use Rattle.xf_roundtrip.proofs.Lays.{Low}
-use Rattle.xf_roundtrip.proofs.Limits.{module_nests, module_few}
-use Rattle.xf_roundtrip.proofs.Lines.{module_reads, module_low}
-use Rattle.xf_roundtrip.proofs.Written.{module_written}
+use Rattle.xf_roundtrip.proofs.Printed.{module_by, bare}
 
-low_is_ascii : (bs : List ℕ) → Low bs → IsAscii bs
-low_is_ascii [] h i = omega arith
-low_is_ascii (b ∷ bs) h zero = ltb-true b 128 h.0
-low_is_ascii (b ∷ bs) h (suc i) = low_is_ascii bs h.1 i
+begins_by : (k : Kind) (i : ℕ) (ts : List PayloadType) (rest : List Spaced) → is_module k ≡ true → ts ≡ [] → is_word (codes "module") (first_seen (tokens_of (begun (line 0) (written language (head_rule level.File) (head_fill i ts (word_of k))) ++ rest)) the_end) ≡ true
+unfolding head_rule row_rule
+begins_by (kind.Module symbol) i [] rest e r = refl
+begins_by (kind.Module symbol) i (t ∷ ts) rest e r = absurd cc
+begins_by k i ts rest e r = absurd cc
+
+begins : (m : Module) → IsValid m → is_word (codes "module") (first_seen (tokens_of (docs_written format level.File 0 (module_docs m))) the_end) ≡ true
+begins m v =
+    let types : List (Option PayloadType) = map (type_at []) m.root.operands in
+    let by = module_by m.root.kind v.functions.root in
+    let b = bare m.root.operands (type_at []) m.root.results (sym (by.row (signatures m) [] types m.root.results) ∙ v.types.0) in
+    begins_by m.root.kind _ m.root.results _ v.functions.root b.results
 
 pub printed_has_layout : PrintedHasLayout
 printed_has_layout m v core st within =
-    let f = module_fits m v core st within.number in
-    let nest = module_nests m v within.nesting in
-    let few = module_few m v core st within.number in
-    let r = module_reads m f in
-    let utf8 = IsUtf8-from_ascii _ (low_is_ascii _ (module_low m f)) in
-    (r.pieces, (r.tail, (r.text_is, (r.stay, (subst IsUtf8 (sym r.text_is) utf8, subst (λ ts. IsWritten ts (module_printed m)) (sym r.tokens_are) (module_written m f nest few))))))
+    let t = m.root in
+    let l = laid_out m v core st within in
+    let xs : List Terminal = tokens_of (docs_written format level.File 0 (module_docs m)) in
+    let filled : AreFilled 0 (module_docs m) xs (printed_said m) = record { tokens = refl; fit = printed_fits m v core st within; says = printed_says_heads m v core st within } in
+    let block : Blocks = a_block (header_of no_names t) (functions_docs (functions_of m)) no_blocks in
+    let written : IsWritten xs (printed_said m) = record { tokens = inl (begins m v, (head_of no_names t, (slots_of no_names t, (block, (tail_of no_names t, filled))))); number = printed_has_few m v core st within } in
+    (l.0, (l.1.0, (l.1.1.0, (l.1.1.1.0, (l.1.1.1.1.0, subst (λ ys. IsWritten ys (printed_said m)) (sym l.1.1.1.1.1) written)))))

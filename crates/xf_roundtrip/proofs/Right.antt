@@ -6,10 +6,11 @@ use Rattle.std.proofs.lemmas.List.{length-map}
 use Rattle.std.proofs.lemmas.List.Elements.{All-head, All-tail}
 use Rattle.xf_type.specs.declared.payload_type.PayloadType.{PayloadType}
 use Rattle.xf_lex.specs.declared.token.Token.{Token}
-use Rattle.xf_read_base.specs.declared.parts.AttrEntry.{AttrEntry}
-use Rattle.xf_read_base.specs.declared.parts.Parts.{Parts}
-use Rattle.xf_read_base.specs.declared.parts.Ref.{Ref}
-use Rattle.xf_read_base.specs.Parts.{text_at, use_said, define_said, arg_said, entry_said, said}
+use Rattle.xf_format.specs.declared.parts.AttrEntry.{AttrEntry}
+use Rattle.xf_format.specs.declared.parts.Parts.{Parts}
+use Rattle.xf_format.specs.declared.parts.Ref.{Ref}
+use Rattle.xf_format.specs.declared.parts.Use.{Use}
+use Rattle.xf_format.specs.Parts.{text_at, use_said, define_said, arg_said, entry_said, said}
 use Rattle.xf_ir.specs.Lists.{every}
 use Rattle.xf_read.specs.declared.faults.Faults.{Faults}
 use Rattle.xf_read_base.specs.Attributes.{also, entries_twice}
@@ -17,14 +18,14 @@ use Rattle.xf_read.specs.Names.{earlier, no_faults, with_faults, yield_count, no
 use Rattle.xf_read.specs.Names.{inside as inside_tokens, behind as behind_tokens}
 use Rattle.xf_read_base.specs.Values.{text}
 use Rattle.xf_read.specs.Scopes.{Meanings, has_values, with_name, means}
-use Rattle.xf_read.specs.Tree.{Nodes, no_nodes, node, Bodies, no_bodies, body}
+use Rattle.xf_syntax.specs.Telling.{Nodes, no_nodes, node, Bodies, no_bodies, body}
 use Rattle.xf_read.specs.Types.{results_by, args_by, fits}
-use Rattle.xf_read.specs.Written.{nodes_said, bodies_said}
-use Rattle.xf_read.proofs.OfKind.{EntryOf, NameOf, UseOf, Inside, NodesOf, FunctionsOf}
+use Rattle.xf_syntax.specs.Telling.{nodes_said, bodies_said}
+use Rattle.xf_format.proofs.OfKind.{EntryOf, NameOf, UseOf, Inside}
 use Rattle.xf_roundtrip.specs.Saying.{use_means, result_types, function_named}
 use Rattle.xf_roundtrip.specs.SaidWell.{entries_once, is_new, symbol_new, defines_new, arguments_new, names_once, uses_fit, defines_fit, types_agree, head_well, nodes_well, bodies_well}
 use Rattle.xf_roundtrip.proofs.Heads.{word_is, name_is, means_is, type_is, results_are, args_are, operands_by_are, stated_are, SymbolNamed, function_is, inside_is, behind_is}
-use Rattle.xf_roundtrip.proofs.Meaning.{bodies_counted, body_counted, open_bodies}
+use Rattle.xf_roundtrip.proofs.Meaning.{bodies_counted, body_counted, NodesOf, BodiesOf}
 
 -- ---- no fault
 
@@ -88,13 +89,13 @@ free_unless false o at = refl
 
 -- ---- uses
 
-uses_free : (all : List Token) (scope : Meanings) (us : List Ref) → All (UseOf all) us → free (undefined_in all scope us) ≡ every (use_means scope) (map (use_said all) us)
+uses_free : (all : List Token) (scope : Meanings) (us : List Use) → All (UseOf all) us → free (undefined_in all scope us) ≡ every (use_means scope) (map (use_said all) us)
 unfolding free
 uses_free all scope [] w = refl
-uses_free all scope (r ∷ rs) w =
-    let a = means_is all scope r (All-head (UseOf all) r rs w) in
-    let b = uses_free all scope rs (All-tail (UseOf all) r rs w) in
-    free_if (means all scope r) (undefined_in all scope rs) r.token ∙ (λ i. a i && b i)
+uses_free all scope (u ∷ us) w =
+    let a = means_is all scope u (All-head (UseOf all) u us w) in
+    let b = uses_free all scope us (All-tail (UseOf all) u us w) in
+    free_if (means all scope u) (undefined_in all scope us) u.token ∙ (λ i. a i && b i)
 
 -- ---- names
 
@@ -143,17 +144,17 @@ args_free all n j ts (r ∷ rs) scope w =
 
 twice_free : (all : List Token) (n : ℕ) (p : Parts) (scope : Meanings) → Inside all p → free (twice all n p scope) ≡ names_once n (said all p) scope
 twice_free all n p scope w =
-    let es = entries_free all (λ name. false) p.entries w.1.1.0 in
-    let s = symbol_free all scope (function_symbol p.row p.symbol) (function_named p.row (option_map (text_at all) p.symbol)) (function_is p.row all p.symbol w.0) in
-    let ds = results_free all scope p.defines w.1.1.1.0 in
-    let args = args_free all n 0 (args_by p.row p) p.args scope w.1.1.1.1.0 ∙ ap (λ ts. arguments_new n 0 ts (map (arg_said all) p.args) scope) (args_are p.row all p) in
+    let es = entries_free all (λ name. false) p.entries w.entries in
+    let s = symbol_free all scope (function_symbol p.row p.symbol) (function_named p.row (option_map (text_at all) p.symbol)) (function_is p.row all p.symbol w.symbol) in
+    let ds = results_free all scope p.defines w.defines in
+    let args = args_free all n 0 (args_by p.row p) p.args scope w.args ∙ ap (λ ts. arguments_new n 0 ts (map (arg_said all) p.args) scope) (args_are p.row all p) in
     let a = free_earlier (symbol_twice all scope (function_symbol p.row p.symbol)) (results_twice all scope p.defines) ∙ (λ i. s i && ds i) in
     let b = free_earlier (names_twice all p scope) (args_twice all n 0 (args_by p.row p) p.args scope) ∙ (λ i. a i && args i) in
     free_earlier (entries_twice all (λ name. false) p.entries) (earlier (names_twice all p scope) (args_twice all n 0 (args_by p.row p) p.args scope)) ∙ (λ i. es i && b i)
 
 -- ---- types
 
-uses_fit_are : (all : List Token) (scope : Meanings) (p : Parts) (k : ℕ) (us : List Ref) → All (UseOf all) us → operands_fit all scope p.row p k us ≡ uses_fit scope (said all p) k (map (use_said all) us)
+uses_fit_are : (all : List Token) (scope : Meanings) (p : Parts) (k : ℕ) (us : List Use) → All (UseOf all) us → operands_fit all scope p.row p k us ≡ uses_fit scope (said all p) k (map (use_said all) us)
 uses_fit_are all scope p k [] w = refl
 uses_fit_are all scope p k (u ∷ us) w =
     let a = stated_are p.row all p k in
@@ -169,7 +170,7 @@ agrees_is : (all : List Token) (p : Parts) (scope : Meanings) → Inside all p �
 agrees_is all p scope w =
     let a = sym (length-map p.uses (use_said all)) in
     let b = operands_by_are p.row all p in
-    let c = uses_fit_are all scope p 0 p.uses w.1.1.1.1.1 in
+    let c = uses_fit_are all scope p 0 p.uses w.uses in
     let d = defines_fit_are all p.defines (results_by p.row p) (result_types (said all p)) (results_are p.row all p) in
     let e = sym (length-map p.args (arg_said all)) in
     let f = args_are p.row all p in
@@ -180,7 +181,7 @@ agrees_is all p scope w =
 pub head_faultless : (all : List Token) (n first : ℕ) (p : Parts) (scope : Meanings) → Inside all p → faultless (head_faults all n first p scope) ≡ head_well n (said all p) scope
 unfolding free faultless
 head_faultless all n first p scope w =
-    let a = uses_free all scope p.uses w.1.1.1.1.1 in
+    let a = uses_free all scope p.uses w.uses in
     let b = twice_free all n p scope w in
     let c = agree (agrees all p scope) first ∙ agrees_is all p scope w in
     λ i. a i && (b i && c i)
@@ -193,9 +194,9 @@ mutual
   pub nodes_faultless : (all : List Token) (ns : Nodes) (n : ℕ) (scope : Meanings) → NodesOf all ns → faultless (nodes_faults all n scope ns) ≡ nodes_well n scope (nodes_said all ns)
   nodes_faultless all no_nodes n scope w = nothing_faultless
   nodes_faultless all (node first p bs rest) n scope w =
-      let s = w.1.0 in
+      let s = w.1.0.1 in
       let h = head_faultless all n first p scope s in
-      let inner = bodies_faultless all bs (n + 1) p (inside_tokens all n p scope) (open_bodies all bs w.1.1.0) ∙ ap (λ names. bodies_well (n + 1) (said all p) names (bodies_said all bs)) (inside_is all n p scope s) in
+      let inner = bodies_faultless all bs (n + 1) p (inside_tokens all n p scope) w.1.1.0 ∙ ap (λ names. bodies_well (n + 1) (said all p) names (bodies_said all bs)) (inside_is all n p scope s) in
       let count = bodies_counted all p bs in
       let names = behind_is all n p scope s in
       let more = nodes_faultless all rest (n + (1 + bodies_count p bs)) (behind_tokens all n p scope) w.1.1.1 ∙ (λ i. nodes_well (n + (1 + count i)) (names i) (nodes_said all rest)) in
@@ -204,12 +205,12 @@ mutual
       let one = faultless_both f g ∙ (λ i. h i && inner i) in
       faultless_both (with_faults f g) (nodes_faults all (n + (1 + bodies_count p bs)) (behind_tokens all n p scope) rest) ∙ (λ i. one i && more i)
 
-  pub bodies_faultless : (all : List Token) (bs : Bodies) (n : ℕ) (p : Parts) (scope : Meanings) → FunctionsOf all bs → faultless (bodies_faults all n p scope bs) ≡ bodies_well n (said all p) scope (bodies_said all bs)
+  pub bodies_faultless : (all : List Token) (bs : Bodies) (n : ℕ) (p : Parts) (scope : Meanings) → BodiesOf all bs → faultless (bodies_faults all n p scope bs) ≡ bodies_well n (said all p) scope (bodies_said all bs)
   bodies_faultless all no_bodies n p scope w = nothing_faultless
   bodies_faultless all (body ns close rest) n p scope w =
       let inner = nodes_faultless all ns n scope w.0 in
       let count = body_counted all p ns in
-      let more = bodies_faultless all rest (n + (nodes_count ns + yield_count p ns)) p scope (open_bodies all rest w.1) ∙ ap (λ k. bodies_well (n + k) (said all p) scope (bodies_said all rest)) count in
+      let more = bodies_faultless all rest (n + (nodes_count ns + yield_count p ns)) p scope w.1.1 ∙ ap (λ k. bodies_well (n + k) (said all p) scope (bodies_said all rest)) count in
       faultless_both (nodes_faults all n scope ns) (bodies_faults all (n + (nodes_count ns + yield_count p ns)) p scope rest) ∙ (λ i. inner i && more i)
 
 pub both_faultless : (f g : Faults) (a b : Bool) → faultless f ≡ a → faultless g ≡ b → faultless (with_faults f g) ≡ a && b

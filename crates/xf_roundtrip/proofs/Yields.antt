@@ -4,8 +4,8 @@ use Rattle.std.specs.Prelude.{◌&&◌, ◌||◌, ◌==◌, map}
 use Rattle.std.proofs.lemmas.Bool.Decides.{nat_tests}
 use Rattle.std.proofs.lemmas.Bool.{and_parts}
 use Rattle.xf_type.specs.declared.payload_type.PayloadType.{PayloadType}
-use Rattle.xf_read_base.specs.declared.row.Row.TheVariants as row
-use Rattle.xf_read_base.specs.Parts.{Said}
+use Rattle.xf_format.specs.declared.row.Row.TheVariants as row
+use Rattle.xf_format.specs.Parts.{Said}
 use Rattle.xf_ir.specs.declared.kind.Attr.{Attr}
 use Rattle.xf_ir.specs.declared.kind.Kind.{Kind}
 use Rattle.xf_ir.specs.declared.kind.Kind.TheVariants as kind
@@ -13,22 +13,25 @@ use Rattle.xf_ir.specs.declared.name.ValueName.{ValueName}
 use Rattle.xf_ir.specs.Bounds.{HasShortLists}
 use Rattle.xf_ir.specs.Calls.{Signatures, has_its_callee}
 use Rattle.xf_ir.specs.Kinds.{is_terminator, ends_for, is_endless}
-use Rattle.xf_ir.specs.Lists.{is_empty}
 use Rattle.xf_ir.specs.Placed.{Typed, type_at, Holder, holder_of, Placed}
 use Rattle.xf_ir.specs.RuleAttributes.{has_its_attributes, kind_fits, attributes_fit}
 use Rattle.xf_ir.specs.RuleBlocks.{block_args, blocks_fit, is_end, block_ends, blocks_end, stands_at_end, has_its_regions, ends_its_blocks}
 use Rattle.xf_ir.specs.RuleTypes.{has_its_types}
 use Rattle.xf_ir.specs.RuleTypes.{row_of as type_row}
-use Rattle.xf_ir.specs.Tree.{Ops, no_ops, op, Regions, no_regions, region}
-use Rattle.xf_ir.specs.Types.{have_types, same_types}
+use Rattle.xf_ir.specs.Tree.{Ops, no_ops, op, Regions}
+use Rattle.xf_type.specs.Equal.{same_types}
+use Rattle.xf_ir.specs.Types.{have_types}
 use Rattle.xf_ir_laws.proofs.Obeys.{OpsObey}
-use Rattle.xf_read.specs.Syntax.{ends_open, is_yield}
-use Rattle.xf_read.specs.Written.{SaidNodes, no_nodes_said, node_said, SaidBodies, says_yield_last}
-use Rattle.xf_ir.specs.PrintedNames.{Names}
-use Rattle.xf_ir.specs.PrintedForm.{is_empty_yield}
-use Rattle.xf_roundtrip.specs.Printable.{AllBytes}
-use Rattle.xf_roundtrip.specs.SaidPrinted.{has_row, row_of, results_printed, ops_printed}
+use Rattle.xf_format.specs.Format.{ends_open}
+use Rattle.xf_format.specs.Rows.{is_yield}
+use Rattle.xf_syntax.specs.Telling.{SaidNodes, no_nodes_said, node_said, SaidBodies, says_yield_last}
+use Rattle.xf_printed.specs.Names.{Names}
+use Rattle.xf_printed.specs.PrintedForm.{is_empty_yield}
+use Rattle.xf_print_laws.specs.Core.{is_core}
+use Rattle.xf_print_laws.specs.SaidPrinted.{row_of, results_printed, ops_printed}
+use Rattle.xf_print_laws.specs.Stored.{AllBytes}
 use Rattle.xf_roundtrip.proofs.Again.{LastYield, ends_empty}
+use Rattle.xf_roundtrip.proofs.Blocks.{no_body}
 use Rattle.xf_roundtrip.proofs.Says.{Keeps}
 
 -- what is known of an operation where it stands
@@ -38,14 +41,14 @@ pub record Good (sigs : Signatures) (p : Placed) : Type 0 where
   pub types : has_its_types sigs p ≡ true
   pub callee : has_its_callee sigs p ≡ true
   pub attributes : has_its_attributes p ≡ true
-  pub row : has_row p.tree.kind ≡ true
+  pub core : is_core p.tree.kind ≡ true
   pub bytes : AllBytes p
   pub short : HasShortLists p.tree
 
 pub keeps_it : (sigs : Signatures) (p : Placed) → Good sigs p → Keeps sigs p.holder.gives p.tree.kind p.tree.attrs p.types p.tree.results p.tree.regions
 keeps_it sigs p g =
     let a = and_parts (kind_fits p.tree.kind) (attributes_fit p.tree.attrs) g.attributes in
-    record { row = g.row; regions = g.regions; fits = g.types; callee = g.callee; kind_fit = a.0; attrs = a.1; bytes = g.bytes }
+    record { core = g.core; regions = g.regions; fits = g.types; callee = g.callee; kind_fit = a.0; attrs = a.1; bytes = g.bytes }
 
 pub stands_there : (sigs : Signatures) (p : Placed) → Good sigs p → stands_at_end p.holder.kind p.tree.kind p.after ≡ true
 stands_there sigs p g = (and_parts (blocks_end p.tree.kind p.tree.regions) (stands_at_end p.holder.kind p.tree.kind p.after) g.blocks).1
@@ -61,10 +64,6 @@ empty_is k ds os e = absurd cc
 none_left : (rest : Ops) → is_end rest ≡ true → rest ≡ no_ops
 none_left no_ops e = refl
 none_left (op m k ds os ts rs rest) e = absurd cc
-
-no_regions_left : (rs : Regions) → is_empty (block_args rs) ≡ true → rs ≡ no_regions
-no_regions_left no_regions e = refl
-no_regions_left (region args ops rest) e = absurd cc
 
 no_types_left : (ts : List PayloadType) → same_types ts [] ≡ true → ts ≡ []
 no_types_left [] e = refl
@@ -82,7 +81,7 @@ last_there sigs h k ds os types ts rs rest e w s =
       attrs = p.1.0;
       operands = p.1.1;
       results = no_types_left ts (and_parts (have_types types h.gives) (same_types ts []) fits).1;
-      regions = no_regions_left rs blocks;
+      regions = no_body kind.Yield types ts rs refl blocks;
       last = none_left rest (and_parts (is_end rest) (ends_for h.kind kind.Yield) ending).0;
     }
 
@@ -98,16 +97,6 @@ no_end_no_yield k ds os e = refl
 
 no_end_no_row : (k : Kind) → is_terminator k ≡ false → is_yield (row_of k) ≡ false
 no_end_no_row kind.Yield e = absurd cc
-no_end_no_row kind.Return e = refl
-no_end_no_row (kind.Func symbol private results) e = refl
-no_end_no_row (kind.Call callee) e = refl
-no_end_no_row (kind.Constant width bits) e = refl
-no_end_no_row (kind.Binary which width) e = refl
-no_end_no_row (kind.Compare which width) e = refl
-no_end_no_row (kind.Select width) e = refl
-no_end_no_row (kind.Convert which from to) e = refl
-no_end_no_row (kind.For width) e = refl
-no_end_no_row kind.If e = refl
 no_end_no_row k e = refl
 
 behind_other : (t : Said) (bs : SaidBodies) (ns : SaidNodes) → is_yield t.row ≡ false → says_yield_last (node_said t bs ns) ≡ says_yield_last ns
@@ -171,13 +160,6 @@ ends_otherwise sigs h env (op m k ds os us rs rest) e g =
 
 -- ---- all blocks
 
--- the kinds of operations that hold blocks
-abbrev pub holds_blocks : Kind → Bool
-holds_blocks (kind.Func symbol private results) = true
-holds_blocks (kind.For width) = true
-holds_blocks kind.If = true
-holds_blocks _ = false
-
 not_not : (b : Bool) → not (not b) ≡ b
 not_not true = refl
 not_not false = refl
@@ -194,9 +176,8 @@ open_block : (names : Names) (sigs : Signatures) (h : Holder) (env : Typed) (ts 
 open_block names sigs h env [] ops e n f g b = ap not (yields_last names sigs h env ops n f g b) ∙ not_not (ends_empty ops)
 open_block names sigs h env (t ∷ ts) ops e n f g b = ap (λ c. c && not (says_yield_last (ops_printed names ops))) (some_not_none (length ts)) ∙ sym (gives_some sigs h env t ts ops e g)
 
-pub block_yields : (names : Names) (sigs : Signatures) (k : Kind) (types : List (Option PayloadType)) (ts : List PayloadType) (env : Typed) (ops : Ops) → holds_blocks k ≡ true → OpsObey (Good sigs) (holder_of k types ts) env ops → block_ends k ops ≡ true
+pub block_yields : (names : Names) (sigs : Signatures) (k : Kind) (types : List (Option PayloadType)) (ts : List PayloadType) (env : Typed) (ops : Ops) → OpsObey (Good sigs) (holder_of k types ts) env ops → block_ends k ops ≡ true
     → (ends_open (row_of k) (results_printed k ts) && not (says_yield_last (ops_printed names ops))) ≡ ends_empty ops
-block_yields names sigs (kind.Func symbol private results) types ts env ops e g b = sym (ends_otherwise sigs (holder_of (kind.Func symbol private results) types ts) env ops refl g)
-block_yields names sigs (kind.For width) types ts env ops e g b = open_block names sigs (holder_of (kind.For width) types ts) env ts ops refl refl (λ k p. yield_ends k p) g b
-block_yields names sigs kind.If types ts env ops e g b = open_block names sigs (holder_of kind.If types ts) env ts ops refl refl (λ k p. yield_ends k p) g b
-block_yields names sigs k types ts env ops e g b = absurd cc
+block_yields names sigs (kind.For width) types ts env ops g b = open_block names sigs (holder_of (kind.For width) types ts) env ts ops refl refl (λ k p. yield_ends k p) g b
+block_yields names sigs kind.If types ts env ops g b = open_block names sigs (holder_of kind.If types ts) env ts ops refl refl (λ k p. yield_ends k p) g b
+block_yields names sigs k types ts env ops g b = sym (ends_otherwise sigs (holder_of k types ts) env ops refl g)

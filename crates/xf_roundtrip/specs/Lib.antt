@@ -1,12 +1,7 @@
 pub mod AgainLaws
 pub mod Laws
-pub mod Naming
-pub mod Plain
 pub mod Printable
 pub mod PrintedLaws
-pub mod Printing
 pub mod SaidMeant
-pub mod SaidPrinted
 pub mod SaidWell
 pub mod Saying
-pub mod Stored

@@ -1,15 +1,18 @@
--- Whether names and types are right in what a text says: each use stands for a value, no name stands twice, and the types and
--- numbers that are stated are those of the values.
-use Rattle.std.specs.Prelude.{ℕ, ◌+◌, ◌==◌, ◌&&◌, List, [], ◌∷◌, length, Option, Some, None, Bool, true, false, not, is_some, slice_get, if◌then◌else◌}
+-- Whether names and types are right in what a text says: each use stands for a value, no name stands twice, and the
+-- types and numbers that are stated are those of the values.
+use Rattle.std.specs.Prelude.{ℕ, ◌+◌, ◌==◌, ◌&&◌, List, [], ◌∷◌, length, Option, Some, None, Bool, true, false, not}
+use Rattle.std.specs.Prelude.{is_some, slice_get, if◌then◌else◌}
 use Rattle.xf_type.specs.declared.payload_type.PayloadType.{PayloadType}
-use Rattle.xf_read_base.specs.Parts.{UseSaid, DefineSaid, EntrySaid, Said}
+use Rattle.xf_format.specs.Parts.{UseSaid, DefineSaid, EntrySaid, Said}
 use Rattle.xf_ir.specs.Lists.{every}
 use Rattle.xf_read_base.specs.Attributes.{also}
 use Rattle.xf_read.specs.Names.{argument_named}
 use Rattle.xf_read.specs.Scopes.{Meanings, has_values, no_names, with_name}
 use Rattle.xf_read.specs.Types.{operands_by, stated_by, fits}
-use Rattle.xf_read.specs.Written.{SaidNodes, no_nodes_said, node_said, SaidBodies, no_bodies_said, body_said, operations, left_out, operations_inside}
-use Rattle.xf_roundtrip.specs.Saying.{use_means, use_type, shape, result_types, argument_types, function_named, inside, behind}
+use Rattle.xf_syntax.specs.Telling.{SaidNodes, no_nodes_said, node_said, SaidBodies, no_bodies_said, body_said}
+use Rattle.xf_syntax.specs.Telling.{operations, left_out, operations_inside}
+use Rattle.xf_roundtrip.specs.Saying.{use_means, use_type, shape, result_types, argument_types, function_named}
+use Rattle.xf_roundtrip.specs.Saying.{inside, behind}
 
 -- ---- names that stand once
 
@@ -32,11 +35,15 @@ defines_new scope (d ∷ ds) = if has_values d.count then is_new scope d.name el
 -- the arguments from argument j on, each with the names of those before
 abbrev pub arguments_new : ℕ → ℕ → List PayloadType → List (List ℕ) → Meanings → Bool
 arguments_new n j ts [] scope = true
-arguments_new n j ts (name ∷ names) scope = is_new scope name && arguments_new n (j + 1) ts names (with_name name (argument_named n j (slice_get ts j)) scope)
+arguments_new n j ts (name ∷ names) scope =
+    is_new scope name
+    && arguments_new n (j + 1) ts names (with_name name (argument_named n j (slice_get ts j)) scope)
 
 abbrev pub names_once : ℕ → Said → Meanings → Bool
 names_once n t scope =
-    entries_once (λ name. false) t.entries && ((symbol_new scope (function_named t.row t.symbol) && defines_new scope t.defines) && arguments_new n 0 (argument_types t) t.args scope)
+    entries_once (λ name. false) t.entries
+    && ((symbol_new scope (function_named t.row t.symbol) && defines_new scope t.defines)
+    && arguments_new n 0 (argument_types t) t.args scope)
 
 -- ---- types and numbers that are stated
 
@@ -52,7 +59,8 @@ defines_fit (d ∷ ds) ts = d.count == length ts
 
 abbrev pub types_agree : Said → Meanings → Bool
 types_agree t scope =
-    ((length t.uses == operands_by t.row (shape t)) && uses_fit scope t 0 t.uses) && (defines_fit t.defines (result_types t) && (length t.args == length (argument_types t)))
+    ((length t.uses == operands_by t.row (shape t)) && uses_fit scope t 0 t.uses)
+    && (defines_fit t.defines (result_types t) && (length t.args == length (argument_types t)))
 
 -- ---- all operations
 
@@ -64,11 +72,13 @@ abbrev mutual
   pub nodes_well : ℕ → Meanings → SaidNodes → Bool
   nodes_well n scope no_nodes_said = true
   nodes_well n scope (node_said t bs rest) =
-      (head_well n t scope && bodies_well (n + 1) t (inside n t scope) bs) && nodes_well (n + (1 + operations_inside t bs)) (behind n t scope) rest
+      (head_well n t scope && bodies_well (n + 1) t (inside n t scope) bs)
+      && nodes_well (n + (1 + operations_inside t bs)) (behind n t scope) rest
 
   pub bodies_well : ℕ → Said → Meanings → SaidBodies → Bool
   bodies_well n t scope no_bodies_said = true
-  bodies_well n t scope (body_said ns rest) = nodes_well n scope ns && bodies_well (n + (operations ns + left_out t ns)) t scope rest
+  bodies_well n t scope (body_said ns rest) =
+      nodes_well n scope ns && bodies_well (n + (operations ns + left_out t ns)) t scope rest
 
 -- the module is the first operation, and the only one
 abbrev pub said_well : SaidNodes → Bool

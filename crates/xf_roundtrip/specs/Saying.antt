@@ -1,5 +1,6 @@
 -- What heads mean by what they say in bytes, where some names are visible: without tokens and their numbers.
-use Rattle.std.specs.Prelude.{ℕ, ◌+◌, List, [], ◌∷◌, drop, Option, Some, None, Bool, is_some, option_map, slice_get, if◌then◌else◌}
+use Rattle.std.specs.Prelude.{ℕ, ◌+◌, List, [], ◌∷◌, drop, Option, Some, None, Bool, option_map, slice_get}
+use Rattle.std.specs.Prelude.{if◌then◌else◌}
 use Rattle.xf_type.specs.declared.attribute.AttrValue.{AttrValue}
 use Rattle.xf_type.specs.declared.attribute.AttrValue.TheVariants as attr
 use Rattle.xf_type.specs.declared.payload_type.PayloadType.{PayloadType}
@@ -7,10 +8,11 @@ use Rattle.xf_type.specs.declared.payload_type.Width.{Width}
 use Rattle.xf_type.specs.declared.payload_type.Width.TheVariants.{I1}
 use Rattle.xf_type.specs.Integers.{wrapped}
 use Rattle.xf_grammar.specs.Tokens.{number_of}
-use Rattle.xf_read_base.specs.declared.parts.Parts.{Parts}
-use Rattle.xf_read_base.specs.declared.row.Row.{Row}
-use Rattle.xf_read_base.specs.declared.row.Row.TheVariants as row
-use Rattle.xf_read_base.specs.Parts.{no_parts, UseSaid, DefineSaid, LiteralSaid, truth, number, ValueSaid, no_value, truth_value, number_value, text_value, EntrySaid, Said}
+use Rattle.xf_format.specs.declared.parts.Parts.{Parts}
+use Rattle.xf_format.specs.declared.row.Row.{Row}
+use Rattle.xf_format.specs.declared.row.Row.TheVariants as row
+use Rattle.xf_format.specs.Parts.{no_parts, UseSaid, DefineSaid, LiteralSaid, truth, number, ValueSaid, no_value}
+use Rattle.xf_format.specs.Parts.{truth_value, number_value, text_value, EntrySaid, Said}
 use Rattle.xf_ir.specs.declared.kind.Attr.{Attr}
 use Rattle.xf_ir.specs.declared.kind.Kind.{Kind}
 use Rattle.xf_ir.specs.declared.kind.Kind.TheVariants as kind
@@ -18,26 +20,22 @@ use Rattle.xf_ir.specs.declared.name.ValueName.{ValueName}
 use Rattle.xf_read.specs.Names.{argument_named, results_named, symbol_named}
 use Rattle.xf_read.specs.Scopes.{Meanings, has_values, with_name, has_use, value_in, type_in}
 use Rattle.xf_read.specs.Types.{results_by, args_by}
-use Rattle.xf_read_base.specs.Strings.{decoded}
+use Rattle.xf_format.specs.Strings.{decoded}
+use Rattle.xf_read_base.specs.Spelt.{count_used}
 use Rattle.xf_read_base.specs.Values.{signed, truth_bits, integer_bits, with_attr, width_at, predicate_or}
 
 -- ---- uses
 
--- %n is value 0 of its name
-abbrev pub index_or : Option ℕ → ℕ
-index_or None = 0
-index_or (Some i) = i
-
 -- whether a use stands for a value; %n stands for the one value of its name, and %n#0 for the first of one or several
 abbrev pub use_means : Meanings → UseSaid → Bool
-use_means scope u = has_use (is_some u.number) (index_or u.number) (scope u.name)
+use_means scope u = has_use u.number (scope u.name)
 
 -- the value that a use stands for, and its type
 abbrev pub use_value : Meanings → UseSaid → ValueName
-use_value scope u = value_in (scope u.name) (index_or u.number)
+use_value scope u = value_in (scope u.name) (count_used u.number)
 
 abbrev pub use_type : Meanings → UseSaid → Option PayloadType
-use_type scope u = type_in (scope u.name) (index_or u.number)
+use_type scope u = type_in (scope u.name) (count_used u.number)
 
 -- ---- types
 
@@ -98,17 +96,22 @@ kind_said (row.Convert k) t = kind.Convert k (width_said t 0) (width_said t 1)
 kind_said row.For t = kind.For (width_said t 0)
 kind_said row.If t = kind.If
 kind_said row.Yield t = kind.Yield
+-- any of an operation that is not read yet
+kind_said row.Other t = kind.Yield
+kind_said row.Generic t = kind.Yield
 
 -- ---- scopes
 
 -- with the names of the arguments of operation n, from argument j on
 abbrev pub with_arguments : ℕ → ℕ → List PayloadType → List (List ℕ) → Meanings → Meanings
 with_arguments n j ts [] scope = scope
-with_arguments n j ts (name ∷ names) scope = with_arguments n (j + 1) ts names (with_name name (argument_named n j (slice_get ts j)) scope)
+with_arguments n j ts (name ∷ names) scope =
+    with_arguments n (j + 1) ts names (with_name name (argument_named n j (slice_get ts j)) scope)
 
 abbrev pub with_defines : ℕ → List PayloadType → List DefineSaid → Meanings → Meanings
 with_defines n ts [] scope = scope
-with_defines n ts (d ∷ ds) scope = if has_values d.count then with_name d.name (results_named n d.count ts) scope else scope
+with_defines n ts (d ∷ ds) scope =
+    if has_values d.count then with_name d.name (results_named n d.count ts) scope else scope
 
 -- the symbol that stands for a function from then on
 abbrev pub function_named : Row → Option (List ℕ) → Option (List ℕ)
@@ -124,4 +127,5 @@ abbrev pub inside : ℕ → Said → Meanings → Meanings
 inside n t scope = with_arguments n 0 (argument_types t) t.args scope
 
 abbrev pub behind : ℕ → Said → Meanings → Meanings
-behind n t scope = with_defines n (result_types t) t.defines (with_function (function_named t.row t.symbol) scope)
+behind n t scope =
+    with_defines n (result_types t) t.defines (with_function (function_named t.row t.symbol) scope)

@@ -1,5 +1,6 @@
 //! What holds of all texts.
-ghost use Rattle.xf_roundtrip.specs.Laws.{TokensMeanWhatTheySay, TokensAreRightAsTheySay, TextsMeanWhatTheySay, PrintedSaysTheModule, PiecesSayTheModule};
+ghost use Rattle.xf_roundtrip.specs.Laws.{TokensMeanWhatTheySay, TokensAreRightAsTheySay};
+ghost use Rattle.xf_roundtrip.specs.Laws.{TextsMeanWhatTheySay, PrintedSaysTheModule};
 
 /// The tokens of a text mean the module that they say in bytes, and its names and types are right
 /// exactly where those that they say are.
@@ -15,9 +16,7 @@ pub fn texts_mean_what_they_say()
 {}
 
 /// What the printed form of a valid module of builtin, func, arith and scf says, head by head, is
-/// right in its names and types, and means the module again up to the names of operations; so do the
-/// pieces of the rows that it is made of.
+/// right in its names and types, and means the module again up to the names of operations.
 pub fn printed_modules_say_themselves()
-    ensures heads { PrintedSaysTheModule }
-    ensures pieces { PiecesSayTheModule }
+    ensures { PrintedSaysTheModule }
 {}

@@ -1,4 +1,4 @@
-pub mod SameTypes
+pub mod Operands
 pub mod BlockLemmas
 pub mod Greatest
 pub mod Ascending

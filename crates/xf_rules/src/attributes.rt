@@ -8,9 +8,10 @@ ghost use Rattle.xf_type.specs.Bytes.{is_letter, is_word_byte};
 ghost use Rattle.xf_ir.specs.Words.{is_word};
 ghost use Rattle.xf_rules.specs.Attributes.{attribute_fits, follows, names_ascend};
 
-use crate::types::same_width;
 use xf_ir::Attr;
-use xf_type::{AttrValue, ByteList, ConvKind, Width, bits, greatest, is_letter, is_word_byte};
+use xf_type::{
+    AttrValue, ByteList, ConvKind, Width, bits, greatest, is_letter, is_word_byte, same_width,
+};
 
 /// Whether each of the bytes may stand in a word behind its first.
 fn are_word_bytes(bytes: &[u8]) -> bool
@@ -144,7 +145,8 @@ fn names_ascend(attrs: &[Attr]) -> bool
     true
 }
 
-/// Whether discardable attributes are in the strict order of their names' bytes, each name a word and each value one that fits.
+/// Whether discardable attributes are in the strict order of their names' bytes, each name a word and each value one
+/// that fits.
 ///
 /// Takes time in the length of the attributes: each name is compared with the one before it.
 #[tactic(auto, using(crate::proofs::Ascending::fit_by_neighbours))]

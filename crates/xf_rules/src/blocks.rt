@@ -1,15 +1,17 @@
 //! Regions, the arguments of their blocks, and the ends of blocks.
-ghost use Rattle.std.specs.Prelude.{◌≡◌, ◌&&◌, ◌||◌, not, ◌∷◌, []};
+ghost use Rattle.std.specs.Prelude.{◌≡◌, ◌&&◌, ◌||◌, not, ◌∷◌, map};
 ghost use Rattle.xf_ir.specs.Kinds.{is_terminator, ends_for, is_endless, is_generic, is_arith, is_return, is_yield, is_linalg_yield};
-ghost use Rattle.xf_ir.specs.RuleBlocks.{block_args, blocks_fit, block_ends, blocks_end, are_blocks, is_body};
-ghost use Rattle.xf_ir.specs.Types.{same_types};
+ghost use Rattle.xf_ir.specs.RuleBlocks.{block_args, element_type, args_fit, else_fits, blocks_fit, block_ends, blocks_end};
+ghost use Rattle.xf_type.specs.Equal.{same_types};
+ghost use Rattle.xf_ir.specs.Lists.{every};
+ghost use Rattle.xf_ir.specs.Types.{known, have_types};
 ghost use Rattle.xf_ir.specs.View.{ops_of, regions_of};
 ghost use Rattle.xf_type.specs.declared.payload_type.PayloadType.TheVariants.{Scalar};
 ghost use Rattle.xf_rules.specs.OperandTypes.{operand_types};
 
-use crate::types::{are_elements, are_known, is_scalar, same_types};
+use crate::types::{are_elements, are_known, is_scalar};
 use xf_ir::{Block, Kind, Op};
-use xf_type::{PayloadType, Width};
+use xf_type::{PayloadType, Width, same_types};
 
 /// Whether the arguments of a loop's block are the induction value of this width, and one for each result.
 fn are_loop_args(args: &[PayloadType], width: Width, results: &[PayloadType]) -> bool
@@ -21,56 +23,48 @@ fn are_loop_args(args: &[PayloadType], width: Width, results: &[PayloadType]) ->
     }
 }
 
-/// Whether there is one block, without arguments.
-#[tactic(auto, using(crate::proofs::BlockLemmas::not_one_block))]
-fn is_plain_block(regions: &[Block]) -> bool
-    ensures { result ≡ are_blocks (block_args (regions_of regions.now)) ([] ∷ []) }
-{
-    match regions {
-        [block] => block.args.as_slice().is_empty(),
-        _ => false,
-    }
-}
-
-/// Whether there are two blocks, without arguments.
-#[tactic(auto, using(crate::proofs::BlockLemmas::less_than_two, crate::proofs::BlockLemmas::more_than_two))]
-fn are_plain_blocks(regions: &[Block]) -> bool
-    ensures { result ≡ are_blocks (block_args (regions_of regions.now)) ([] ∷ ([] ∷ [])) }
-{
-    match regions {
-        [first, second] => { first.args.as_slice().is_empty() && second.args.as_slice().is_empty() }
-        _ => false,
-    }
-}
-
-/// Whether there is one block, a loop's.
-#[tactic(auto, using(crate::proofs::BlockLemmas::not_one_block))]
-fn is_loop_block(regions: &[Block], width: Width, results: &[PayloadType]) -> bool
-    ensures { result ≡ are_blocks (block_args (regions_of regions.now)) ((Scalar width ∷ results.now) ∷ []) }
-{
-    match regions {
-        [block] => are_loop_args(block.args.as_slice(), width, results),
-        _ => false,
-    }
-}
-
-/// Whether there is one block, with one argument for each operand, of its element type; where an operand is not visible, its
+/// Whether the arguments of a body of linalg are one element of each operand; where an operand is not visible, its
 /// visibility alone is asked for.
-#[tactic(auto, using(crate::proofs::BlockLemmas::not_one_body))]
-fn is_body(types: &[Option<&PayloadType>], regions: &[Block]) -> bool
-    ensures { result ≡ is_body (operand_types types.now) (block_args (regions_of regions.now)) }
+fn are_body_args(types: &[Option<&PayloadType>], args: &[PayloadType]) -> bool
+    ensures { result ≡ (not (every known (operand_types types.now))
+        || have_types (map element_type (operand_types types.now)) args.now) }
 {
-    match regions {
-        [block] => !are_known(types) || are_elements(types, block.args.as_slice()),
-        _ => false,
+    !are_known(types) || are_elements(types, args)
+}
+
+/// Whether the arguments of the first block are those that belong to the kind.
+fn args_fit(
+    kind: &Kind,
+    types: &[Option<&PayloadType>],
+    results: &[PayloadType],
+    args: &[PayloadType],
+) -> bool
+    ensures { result ≡ args_fit kind.now (operand_types types.now) results.now args.now }
+{
+    match kind {
+        Kind::Func { .. } => true,
+        Kind::For { width } => are_loop_args(args, *width, results),
+        Kind::Generic { .. } => are_body_args(types, args),
+        _ => args.is_empty(),
     }
 }
 
-/// Whether an operation whose operands and results have these types has the regions that belong to its kind, each with the block
-/// arguments that belong to it.
+/// Whether there is a block of else, without arguments, where there may be one.
+#[tactic(auto, using(crate::proofs::BlockLemmas::no_blocks))]
+fn else_fits(kind: &Kind, results: &[PayloadType], rest: &[Block]) -> bool
+    ensures { result ≡ else_fits kind.now results.now (block_args (regions_of rest.now)) }
+{
+    match rest {
+        [] => !kind.has_else() || results.is_empty(),
+        [block, more @ ..] => kind.has_else()
+            && (block.args.as_slice().is_empty() && more.is_empty()),
+    }
+}
+
+/// Whether an operation whose operands and results have these types has the regions that belong to its kind, each with
+/// the block arguments that belong to it.
 ///
 /// Takes time in the number of operands, results and block arguments.
-#[tactic(auto, using(crate::proofs::BlockLemmas::no_blocks, crate::proofs::BlockLemmas::one_block))]
 pub fn regions_fit(
     kind: &Kind,
     types: &[Option<&PayloadType>],
@@ -79,13 +73,13 @@ pub fn regions_fit(
 ) -> bool
     ensures { result ≡ blocks_fit kind.now (operand_types types.now) results.now (block_args (regions_of regions.now)) }
 {
-    match kind {
-        Kind::Module { .. } => is_plain_block(regions),
-        Kind::Func { .. } => regions.len() == 1,
-        Kind::For { width } => is_loop_block(regions, *width, results),
-        Kind::If => (results.is_empty() && is_plain_block(regions)) || are_plain_blocks(regions),
-        Kind::Generic { .. } => is_body(types, regions),
-        _ => regions.is_empty(),
+    match regions {
+        [] => !kind.has_body(),
+        [block, rest @ ..] => {
+            kind.has_body()
+                && (args_fit(kind, types, results, block.args.as_slice())
+                    && else_fits(kind, results, rest))
+        }
     }
 }
 
@@ -159,7 +153,8 @@ fn block_ends(holder: &Kind, ops: &[Op]) -> bool
     }
 }
 
-/// Whether each block that an operation of the holder's kind holds ends in the holder's terminator; a module's block needs none.
+/// Whether each block that an operation of the holder's kind holds ends in the holder's terminator; a module's block
+/// needs none.
 ///
 /// Takes time in the number of regions.
 pub fn blocks_end(holder: &Kind, regions: &[Block]) -> bool
@@ -173,7 +168,8 @@ pub fn blocks_end(holder: &Kind, regions: &[Block]) -> bool
     true
 }
 
-/// Whether an operation that stands in a block of the holder is no terminator, or is the holder's and the last of its block.
+/// Whether an operation that stands in a block of the holder is no terminator, or is the holder's and the last of its
+/// block.
 pub fn stands_at_end(holder: &Kind, kind: &Kind, is_last: bool) -> bool
     ensures { result ≡ (not (is_terminator kind.now) || (is_last && ends_for holder.now kind.now)) }
 {
@@ -195,8 +191,8 @@ fn is_arith(kind: &Kind) -> bool
     }
 }
 
-/// Whether an operation that stands in a block of the holder may stand there: a body of linalg holds operations of arith and its
-/// yield alone.
+/// Whether an operation that stands in a block of the holder may stand there: a body of linalg holds operations of
+/// arith and its yield alone.
 pub fn fits_body(holder: &Kind, kind: &Kind) -> bool
     ensures { result ≡ (not (is_generic holder.now) || (is_arith kind.now || is_linalg_yield kind.now)) }
 {

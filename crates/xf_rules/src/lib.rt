@@ -1,6 +1,6 @@
-//! The rules of a valid module as tests of one operation where it stands: its kind, its attributes, the types of its operands
-//! and results, and its regions. Here stand those of builtin, func, arith and scf, and what they share with those of tensor and
-//! linalg. What the rules need to know of other operations is given by the caller.
+//! The rules of a valid module as tests of one operation where it stands: its kind, its attributes, the types of its
+//! operands and results, and its regions. Here stand those of builtin, func, arith and scf, and what they share with
+//! those of tensor and linalg. What the rules need to know of other operations is given by the caller.
 #![tactic(auto)]
 
 mod attributes;
@@ -15,5 +15,5 @@ pub use given::Yielded;
 pub use rows::{are_inputs, callee_agrees, gives_row, is_bare, loop_row, scalar_row};
 pub use types::{
     are_scalars, behind_first, element_of, first_type, has_no_operands, have_scalars,
-    is_scalar_operand, is_tensor_of, last_type, same_width,
+    is_scalar_operand, is_tensor_of, last_type,
 };

@@ -10,10 +10,9 @@ ghost use Rattle.xf_rules.specs.OperandTypes.{operand_types, scalars};
 use crate::given::Yielded;
 use crate::types::{
     are_scalars, has_no_operands, has_no_results, have_scalars, have_types, is_scalar_operand,
-    same_types,
 };
 use xf_ir::{Kind, Signature};
-use xf_type::{PayloadType, Width};
+use xf_type::{PayloadType, Width, same_types};
 
 /// Whether there are no operands and no results.
 pub fn is_bare(types: &[Option<&PayloadType>], results: &[PayloadType]) -> bool
@@ -66,10 +65,12 @@ pub fn scalar_row(
     have_scalars(types, takes) && are_scalars(results, gives)
 }
 
-/// Whether a loop takes its bounds and its step, of the width of its induction value, and then what its results begin as.
-#[tactic(auto, using(crate::proofs::SameTypes::few_for_loop))]
+/// Whether a loop takes its bounds and its step, of the width of its induction value, and then what its results begin
+/// as.
+#[tactic(auto, using(crate::proofs::Operands::few_for_loop))]
 pub fn loop_row(width: Width, types: &[Option<&PayloadType>], results: &[PayloadType]) -> bool
-    ensures { result ≡ have_types (operand_types types.now) (Scalar width ∷ (Scalar width ∷ (Scalar width ∷ results.now))) }
+    ensures { result ≡ have_types (operand_types types.now)
+        (Scalar width ∷ (Scalar width ∷ (Scalar width ∷ results.now))) }
 {
     match types {
         [lower, upper, step, rest @ ..] => {

@@ -1,43 +1,13 @@
 //! Tests of types.
 ghost use Rattle.std.specs.Prelude.{◌≡◌, ◌∷◌, [], map};
 ghost use Rattle.xf_ir.specs.Lists.{every, behind_first};
-ghost use Rattle.xf_ir.specs.Types.{same_width, same_shape, same_type, same_types, known, has_type, have_types, first_type, last_type, element_of};
+ghost use Rattle.xf_type.specs.Equal.{same_type, same_types};
+ghost use Rattle.xf_ir.specs.Types.{known, has_type, have_types, first_type, last_type, element_of};
 ghost use Rattle.xf_ir.specs.RuleBlocks.{element_type};
 ghost use Rattle.xf_type.specs.declared.payload_type.PayloadType.TheVariants.{Scalar, Tensor};
 ghost use Rattle.xf_rules.specs.OperandTypes.{operand_type, operand_types, scalars};
 
-use xf_type::{Equals, PayloadType, Shape, Width};
-
-/// Whether two widths are equal.
-#[tactic(auto, using(crate::proofs::SameTypes::same_width_by))]
-pub fn same_width(a: Width, b: Width) -> bool
-    ensures { result ≡ same_width a b }
-{
-    a == b
-}
-
-/// Whether two types are equal.
-pub fn same_type(a: &PayloadType, b: &PayloadType) -> bool
-    ensures { result ≡ same_type a.now b.now }
-{
-    a.equals(b)
-}
-
-/// Whether the types are these, one for one.
-#[tactic(auto, using(crate::proofs::SameTypes::unequal_lengths))]
-pub fn same_types(types: &[PayloadType], wanted: &[PayloadType]) -> bool
-    ensures { result ≡ same_types types.now wanted.now }
-{
-    if types.len() != wanted.len() {
-        return false;
-    }
-    for at in 0..types.len() {
-        if !same_type(&types[at], &wanted[at]) {
-            return false;
-        }
-    }
-    true
-}
+use xf_type::{PayloadType, Shape, Width, same_shape, same_type, same_width};
 
 /// Whether an operand is visible and has this type.
 pub fn has_type(ty: Option<&PayloadType>, wanted: &PayloadType) -> bool
@@ -50,7 +20,7 @@ pub fn has_type(ty: Option<&PayloadType>, wanted: &PayloadType) -> bool
 }
 
 /// Whether the operands have these types, one for one.
-#[tactic(auto, using(crate::proofs::SameTypes::unequal_types))]
+#[tactic(auto, using(crate::proofs::Operands::unequal_types))]
 pub fn have_types(types: &[Option<&PayloadType>], wanted: &[PayloadType]) -> bool
     ensures { result ≡ have_types (operand_types types.now) wanted.now }
 {
@@ -111,7 +81,7 @@ pub fn is_element(ty: Option<&PayloadType>, wanted: &PayloadType) -> bool
 }
 
 /// Whether the types are those of one element of each operand, one for one.
-#[tactic(auto, using(crate::proofs::SameTypes::unequal_elements))]
+#[tactic(auto, using(crate::proofs::Operands::unequal_elements))]
 pub fn are_elements(types: &[Option<&PayloadType>], wanted: &[PayloadType]) -> bool
     ensures { result ≡ have_types (map element_type (operand_types types.now)) wanted.now }
 {
@@ -137,7 +107,7 @@ pub fn is_scalar_operand(ty: Option<&PayloadType>, width: Width) -> bool
 }
 
 /// Whether the operands are scalars of these widths, one for one.
-#[tactic(auto, using(crate::proofs::SameTypes::unequal_scalars))]
+#[tactic(auto, using(crate::proofs::Operands::unequal_scalars))]
 pub fn have_scalars(types: &[Option<&PayloadType>], widths: &[Width]) -> bool
     ensures { result ≡ have_types (operand_types types.now) (scalars widths.now) }
 {
@@ -153,7 +123,7 @@ pub fn have_scalars(types: &[Option<&PayloadType>], widths: &[Width]) -> bool
 }
 
 /// Whether the types are scalars of these widths, one for one.
-#[tactic(auto, using(crate::proofs::SameTypes::unequal_widths))]
+#[tactic(auto, using(crate::proofs::Operands::unequal_widths))]
 pub fn are_scalars(types: &[PayloadType], widths: &[Width]) -> bool
     ensures { result ≡ same_types types.now (scalars widths.now) }
 {
@@ -178,13 +148,6 @@ pub fn is_tensor_of(types: &[PayloadType], shape: &Shape) -> bool
     }
 }
 
-/// Whether two shapes are equal.
-fn same_shape(a: &Shape, b: &Shape) -> bool
-    ensures { result ≡ same_shape a.now b.now }
-{
-    a.equals(b)
-}
-
 /// The type of the first operand, where there is one and it is visible.
 pub fn first_type<'a>(types: &[Option<&'a PayloadType>]) -> Option<&'a PayloadType>
     ensures { operand_type result ≡ first_type (operand_types types.now) }
@@ -206,7 +169,7 @@ pub fn behind_first<'a, 'b>(types: &'a [Option<&'b PayloadType>]) -> &'a [Option
 }
 
 /// The type of the last operand, where there is one and it is visible.
-#[tactic(auto, using(crate::proofs::SameTypes::last_operand))]
+#[tactic(auto, using(crate::proofs::Operands::last_operand))]
 pub fn last_type<'a>(types: &[Option<&'a PayloadType>]) -> Option<&'a PayloadType>
     ensures { operand_type result ≡ last_type (operand_types types.now) }
 {
@@ -217,7 +180,7 @@ pub fn last_type<'a>(types: &[Option<&'a PayloadType>]) -> Option<&'a PayloadTyp
 }
 
 /// Whether there are no operands.
-#[tactic(auto, using(crate::proofs::SameTypes::some_operands))]
+#[tactic(auto, using(crate::proofs::Operands::some_operands))]
 pub fn has_no_operands(types: &[Option<&PayloadType>]) -> bool
     ensures { result ≡ have_types (operand_types types.now) [] }
 {

@@ -11,9 +11,11 @@ use Rattle.xf_type.specs.declared.payload_type.Width.TheVariants.{Index}
 use Rattle.xf_type.specs.declared.payload_type.Dim.{Dim}
 use Rattle.xf_ir.specs.Lists.{every, is_empty, behind_first}
 use Rattle.xf_ir.specs.RuleTypes.{dims_cast}
-use Rattle.xf_ir.specs.Types.{are_indices, has_type, have_types, same_items}
+use Rattle.xf_type.specs.Equal.{same_items}
+use Rattle.xf_ir.specs.Types.{are_indices, has_type, have_types}
 use Rattle.xf_rules.specs.OperandTypes.{operand_types, is_index_type}
-use Rattle.xf_rules.proofs.SameTypes.{unequal_items, unequal_operands, operands_length, type_itself}
+use Rattle.xf_type.proofs.EqualTypes.{unequal_items, type_itself}
+use Rattle.xf_rules.proofs.Operands.{unequal_operands, operands_length}
 
 and_true : (a : Bool) → (a && true) ≡ a
 and_true true = refl

@@ -12,7 +12,8 @@ use Rattle.xf_ir.specs.Lists.{every, some}
 use Rattle.xf_ir.specs.RuleLinalg.{counted, named_maps, named_iterators, parallels, is_number_among, numbers_once, is_projection, has_rank, have_ranks, are_covered, maps_fit, last_results, iterators_fit}
 use Rattle.xf_rules_shape.specs.Dims.{named_ranks, are_ranks}
 use Rattle.xf_rules.specs.OperandTypes.{operand_types}
-use Rattle.xf_rules.proofs.SameTypes.{unequal_behind, operands_length}
+use Rattle.xf_type.proofs.EqualTypes.{unequal_behind}
+use Rattle.xf_rules.proofs.Operands.{operands_length}
 
 -- ---- lists of other lengths
 

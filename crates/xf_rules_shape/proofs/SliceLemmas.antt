@@ -3,7 +3,7 @@ use Rattle.std.proofs.Common.{◌≡◌, ◌≢◌, suc, List, [], ◌∷◌, le
 use Rattle.xf_type.specs.declared.payload_type.Dim.{Dim}
 use Rattle.xf_ir.specs.declared.kind.SliceIndex.{SliceIndex}
 use Rattle.xf_ir.specs.RuleSlices.{size_fits, sizes_fit}
-use Rattle.xf_rules.proofs.SameTypes.{unequal_behind}
+use Rattle.xf_type.proofs.EqualTypes.{unequal_behind}
 
 pub unequal_sizes : (xs : List SliceIndex) (ds : List Dim) → length xs ≢ length ds → sizes_fit xs ds ≡ false
 unequal_sizes [] [] n = absurd (n refl)

@@ -6,8 +6,8 @@ ghost use Rattle.xf_ir.specs.Types.{is_scalar, is_tensor_with, last_type};
 ghost use Rattle.xf_rules.specs.OperandTypes.{operand_type, operand_types};
 
 use xf_ir::NamedKind;
-use xf_rules::{element_of, first_type, is_tensor_of, last_type, same_width};
-use xf_type::{PayloadType, Width};
+use xf_rules::{element_of, first_type, is_tensor_of, last_type};
+use xf_type::{PayloadType, Width, same_width};
 
 /// Whether the last operand, the out, is a tensor, and the one result has its type.
 pub fn out_row(types: &[Option<&PayloadType>], results: &[PayloadType]) -> bool
@@ -82,7 +82,7 @@ fn fill_fits(kind: NamedKind, types: &[Option<&PayloadType>]) -> bool
 }
 
 /// Whether there are as many operands as the kind takes, all of the out's element type, and the result has the out's type.
-#[tactic(auto, using(xf_rules::proofs::SameTypes::operands_length))]
+#[tactic(auto, using(xf_rules::proofs::Operands::operands_length))]
 pub fn named_row(kind: NamedKind, types: &[Option<&PayloadType>], results: &[PayloadType]) -> bool
     ensures { result ≡ named_row kind (operand_types types.now) results.now }
 {

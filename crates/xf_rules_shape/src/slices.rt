@@ -5,8 +5,8 @@ ghost use Rattle.xf_ir.specs.RuleSlices.{is_at_least_zero, size_fits, sizes_fit,
 ghost use Rattle.xf_rules.specs.OperandTypes.{operand_type, operand_types};
 
 use xf_ir::{Kind, SliceIndex};
-use xf_rules::{behind_first, first_type, same_width};
-use xf_type::{Dim, PayloadType, Shape};
+use xf_rules::{behind_first, first_type};
+use xf_type::{Dim, PayloadType, Shape, same_width};
 
 /// Whether an offset or a size that is a number is at least 0.
 fn is_at_least_zero(index: SliceIndex) -> bool

@@ -2,15 +2,14 @@
 ghost use Rattle.std.specs.Prelude.{◌≡◌, ◌+◌, ◌&&◌, ◌∷◌, [], Some, true};
 ghost use Rattle.xf_ir.specs.Lists.{every, is_empty, behind_first};
 ghost use Rattle.xf_ir.specs.RuleTypes.{empty_row, dim_row, extract_row, insert_row, open_count, slice_indices, is_one_tensor, extract_slice_row, insert_slice_row, dims_cast, cast_row};
-ghost use Rattle.xf_ir.specs.Types.{have_types, are_indices, dynamic_count, is_tensor_with, same_items, same_width};
+ghost use Rattle.xf_type.specs.Equal.{same_items, same_width};
+ghost use Rattle.xf_ir.specs.Types.{have_types, are_indices, dynamic_count, is_tensor_with};
 ghost use Rattle.xf_type.specs.declared.payload_type.PayloadType.TheVariants.{Scalar, Tensor};
 ghost use Rattle.xf_rules.specs.OperandTypes.{operand_type, operand_types, is_index_type};
 
 use xf_ir::SliceIndex;
-use xf_rules::{
-    are_scalars, behind_first, first_type, is_scalar_operand, is_tensor_of, same_width,
-};
-use xf_type::{Dim, PayloadType, Shape, Width};
+use xf_rules::{are_scalars, behind_first, first_type, is_scalar_operand, is_tensor_of};
+use xf_type::{Dim, PayloadType, Shape, Width, same_width};
 
 /// Whether each operand is visible and of the type `index`.
 fn are_all_indices(types: &[Option<&PayloadType>]) -> bool

@@ -5,7 +5,7 @@ use Rattle.std.specs.Prelude.{◌^◌, ◌<◌, length, ◌==◌, ◌&&◌, nat_
 use Rattle.xf_type.specs.declared.payload_type.PayloadType.{PayloadType}
 use Rattle.xf_type.specs.declared.payload_type.PayloadType.TheVariants as type_of
 use Rattle.xf_type.specs.declared.payload_type.Width.{Width}
-use Rattle.xf_type.specs.declared.payload_type.Width.TheVariants.{I1, I8, I16, I32, I64, Index}
+use Rattle.xf_type.proofs.EqualTypes.{width_itself, width_is}
 use Rattle.xf_type.specs.declared.payload_type.Elem.{Elem}
 use Rattle.xf_type.specs.declared.payload_type.Elem.TheVariants.{Num, NoNumber}
 use Rattle.xf_type.specs.declared.payload_type.Dim.{Dim}
@@ -14,22 +14,14 @@ use Rattle.xf_type.specs.Integers.{bits_of, FitsWidth}
 use Rattle.xf_ir.specs.Lists.{Each}
 use Rattle.xf_sem.specs.declared.value.Value.{Value}
 use Rattle.xf_sem.specs.declared.value.Value.TheVariants.{Scalar, Tensor}
-use Rattle.xf_sem.specs.Values.{product, IsValue, FitsDim, FitsDims, FitsType, FitTypes, every, is_same_width, fits_width, is_value, fits_dim, fits_dims, fits_type, fit_types}
+use Rattle.xf_type.specs.Equal.{same_width}
+use Rattle.xf_sem.specs.Values.{product, IsValue, FitsDim, FitsDims, FitsType, FitTypes, every, fits_width, is_value, fits_dim, fits_dims, fits_type, fit_types}
 use Rattle.xf_sem.specs.Meaning.{item}
 use Rattle.xf_sem.specs.Laws.{FittingIsTested}
 
 every_says : {A : Type 0} (p : A → Bool) (P : A → Type 0) (xs : List A) → ((x : A) → p x ≡ true → P x) → every p xs ≡ true → Each P xs
 every_says p P [] f h = tt
 every_says p P (x ∷ xs) f h = let b = and_parts (p x) (every p xs) h in (f x b.0, every_says p P xs f b.1)
-
-same_width_says : (a b : Width) → is_same_width a b ≡ true → a ≡ b
-same_width_says I1 I1 h = refl
-same_width_says I8 I8 h = refl
-same_width_says I16 I16 h = refl
-same_width_says I32 I32 h = refl
-same_width_says I64 I64 h = refl
-same_width_says Index Index h = refl
-same_width_says _ _ h = cc
 
 fits_width_says : (w : Width) (e : Elem) → fits_width w e ≡ true → FitsWidth w e
 fits_width_says w (Num n) h = ltb-true n (2 ^ bits_of w) h
@@ -53,12 +45,12 @@ fits_dims_says (size ∷ sizes) [] h = cc
 fits_dims_says (size ∷ sizes) (d ∷ ds) h = let b = and_parts (fits_dim size d) (fits_dims sizes ds) h in (fits_dim_says size d b.0, fits_dims_says sizes ds b.1)
 
 fits_type_says : (v : Value) (t : PayloadType) → fits_type v t ≡ true → FitsType v t
-fits_type_says (Scalar w e) (type_of.Scalar wanted) h = same_width_says w wanted h
+fits_type_says (Scalar w e) (type_of.Scalar wanted) h = width_is w wanted h
 fits_type_says (Scalar w e) (type_of.Tensor wanted) h = cc
 fits_type_says (Tensor w shape elems) (type_of.Scalar wanted) h = cc
 fits_type_says (Tensor w shape elems) (type_of.Tensor wanted) h =
-    let b = and_parts (is_same_width w wanted.elem) (fits_dims shape wanted.dims) h in
-    (same_width_says w wanted.elem b.0, fits_dims_says shape wanted.dims b.1)
+    let b = and_parts (same_width w wanted.elem) (fits_dims shape wanted.dims) h in
+    (width_is w wanted.elem b.0, fits_dims_says shape wanted.dims b.1)
 
 pub fit_types_says : (vs : List Value) (ts : List PayloadType) → fit_types vs ts ≡ true → FitTypes vs ts
 fit_types_says [] [] h = tt
@@ -75,16 +67,8 @@ every_when : {A : Type 0} (p : A → Bool) (P : A → Type 0) (xs : List A) → 
 every_when p P [] f h = refl
 every_when p P (x ∷ xs) f h = and_from (p x) (every p xs) (f x h.0) (every_when p P xs f h.1)
 
-own_width : (a : Width) → is_same_width a a ≡ true
-own_width I1 = refl
-own_width I8 = refl
-own_width I16 = refl
-own_width I32 = refl
-own_width I64 = refl
-own_width Index = refl
-
-same_width_when : (a b : Width) → a ≡ b → is_same_width a b ≡ true
-same_width_when a b h = subst (λ x. is_same_width a x ≡ true) h (own_width a)
+same_width_when : (a b : Width) → a ≡ b → same_width a b ≡ true
+same_width_when a b h = subst (λ x. same_width a x ≡ true) h (width_itself a)
 
 fits_width_when : (w : Width) (e : Elem) → FitsWidth w e → fits_width w e ≡ true
 fits_width_when w (Num n) h = lt-ltb n (2 ^ bits_of w) h
@@ -112,7 +96,7 @@ fits_type_when (Scalar w e) (type_of.Scalar wanted) h = same_width_when w wanted
 fits_type_when (Scalar w e) (type_of.Tensor wanted) h = elim h [ ]
 fits_type_when (Tensor w shape elems) (type_of.Scalar wanted) h = elim h [ ]
 fits_type_when (Tensor w shape elems) (type_of.Tensor wanted) h =
-    and_from (is_same_width w wanted.elem) (fits_dims shape wanted.dims) (same_width_when w wanted.elem h.0) (fits_dims_when shape wanted.dims h.1)
+    and_from (same_width w wanted.elem) (fits_dims shape wanted.dims) (same_width_when w wanted.elem h.0) (fits_dims_when shape wanted.dims h.1)
 
 fit_types_when : (vs : List Value) (ts : List PayloadType) → FitTypes vs ts → fit_types vs ts ≡ true
 fit_types_when [] [] h = refl

@@ -18,7 +18,8 @@ use Rattle.xf_ir.specs.Valid.{functions_of}
 use Rattle.xf_ir.specs.Kinds.{is_terminator}
 use Rattle.xf_sem.specs.declared.value.Value.{Value}
 use Rattle.xf_sem.specs.declared.value.Value.TheVariants.{Scalar, Tensor}
-use Rattle.xf_sem.specs.Values.{is_same_width, fit_types}
+use Rattle.xf_type.specs.Equal.{same_width}
+use Rattle.xf_sem.specs.Values.{fit_types}
 
 -- ---- environments
 
@@ -102,18 +103,18 @@ pub data Action : Type 0 where
   calls : (symbol : List ℕ) (args : List Value) (more : List Value → Action) → Action
 
 abbrev pub on_one : Width → (Elem → Value) → List Value → Action
-on_one width f (Scalar own a ∷ []) = if is_same_width own width then results (f a ∷ []) else is_undefined
+on_one width f (Scalar own a ∷ []) = if same_width own width then results (f a ∷ []) else is_undefined
 on_one width f _ = is_undefined
 
 abbrev pub on_two : Width → (Elem → Elem → Value) → List Value → Action
 on_two width f (Scalar left a ∷ Scalar right b ∷ []) =
-    if is_same_width left width && is_same_width right width then results (f a b ∷ []) else is_undefined
+    if same_width left width && same_width right width then results (f a b ∷ []) else is_undefined
 on_two width f _ = is_undefined
 
 -- the condition has the width I1; what is not chosen is not looked at
 abbrev pub on_choice : Width → List Value → Action
 on_choice width (Scalar one c ∷ Scalar left a ∷ Scalar right b ∷ []) =
-    if is_same_width one I1 && (is_same_width left width && is_same_width right width) then results (Scalar width (selected c a b) ∷ []) else is_undefined
+    if same_width one I1 && (same_width left width && same_width right width) then results (Scalar width (selected c a b) ∷ []) else is_undefined
 on_choice width _ = is_undefined
 
 -- the table of the kinds, from the types of an operation's results and the values of its operands; a terminator gives its operands and

@@ -3,11 +3,11 @@ use Rattle.std.specs.Prelude.{◌≡◌, ℕ, ◌*◌, ◌^◌, ◌<◌, List, [
 use Rattle.xf_type.specs.declared.payload_type.PayloadType.{PayloadType}
 use Rattle.xf_type.specs.declared.payload_type.PayloadType.TheVariants as type_of
 use Rattle.xf_type.specs.declared.payload_type.Width.{Width}
-use Rattle.xf_type.specs.declared.payload_type.Width.TheVariants.{I1, I8, I16, I32, I64, Index}
 use Rattle.xf_type.specs.declared.payload_type.Elem.{Elem}
 use Rattle.xf_type.specs.declared.payload_type.Elem.TheVariants.{Num, NoNumber}
 use Rattle.xf_type.specs.declared.payload_type.Dim.{Dim}
 use Rattle.xf_type.specs.declared.payload_type.Dim.TheVariants.{Fixed, Dynamic}
+use Rattle.xf_type.specs.Equal.{same_width}
 use Rattle.xf_type.specs.Integers.{bits_of, FitsWidth}
 use Rattle.xf_ir.specs.Lists.{Each}
 use Rattle.xf_sem.specs.declared.value.Value.{Value}
@@ -53,15 +53,6 @@ abbrev pub every : {A : Type 0} → (A → Bool) → List A → Bool
 every p [] = true
 every p (x ∷ xs) = p x && every p xs
 
-abbrev pub is_same_width : Width → Width → Bool
-is_same_width I1 I1 = true
-is_same_width I8 I8 = true
-is_same_width I16 I16 = true
-is_same_width I32 I32 = true
-is_same_width I64 I64 = true
-is_same_width Index Index = true
-is_same_width _ _ = false
-
 abbrev pub fits_width : Width → Elem → Bool
 fits_width width (Num n) = nat_lt n (2 ^ bits_of width)
 fits_width width NoNumber = true
@@ -81,10 +72,10 @@ fits_dims (size ∷ sizes) [] = false
 fits_dims (size ∷ sizes) (d ∷ ds) = fits_dim size d && fits_dims sizes ds
 
 abbrev pub fits_type : Value → PayloadType → Bool
-fits_type (Scalar width elem) (type_of.Scalar wanted) = is_same_width width wanted
+fits_type (Scalar width elem) (type_of.Scalar wanted) = same_width width wanted
 fits_type (Scalar width elem) (type_of.Tensor wanted) = false
 fits_type (Tensor width shape elems) (type_of.Scalar wanted) = false
-fits_type (Tensor width shape elems) (type_of.Tensor wanted) = is_same_width width wanted.elem && fits_dims shape wanted.dims
+fits_type (Tensor width shape elems) (type_of.Tensor wanted) = same_width width wanted.elem && fits_dims shape wanted.dims
 
 abbrev pub fit_types : List Value → List PayloadType → Bool
 fit_types [] [] = true

@@ -1,7 +1,9 @@
 -- The arithmetic of machine integers: one table over numbers that do not wrap.
--- It follows MLIR's `arith` dialect (mlir.llvm.org/docs/Dialects/ArithOps). An element that is no number stands for what
--- MLIR calls poison. A signed number is an integer, where `negsuc n` is -(n + 1).
-use Rattle.std.specs.Prelude.{ℕ, ◌+◌, ◌-◌, ◌*◌, ◌/◌, ◌%◌, ◌^◌, ◌<◌, min, max, Bool, true, false, if◌then◌else◌, nat_lt, nat_le, ◌==◌, not, ℤ, pos, negsuc, ◌-ℤ◌, int_lt, int_le, bit_and, bit_or, bit_xor}
+-- It follows MLIR's `arith` dialect (mlir.llvm.org/docs/Dialects/ArithOps). An element that is no number stands for
+-- what MLIR calls poison. A signed number is an integer, where `negsuc n` is -(n + 1).
+use Rattle.std.specs.Prelude.{ℕ, ◌+◌, ◌-◌, ◌*◌, ◌/◌, ◌%◌, ◌^◌, ◌<◌, min, max, Bool, true}
+use Rattle.std.specs.Prelude.{false, if◌then◌else◌, nat_lt, nat_le, ◌==◌, not, ℤ, pos, negsuc}
+use Rattle.std.specs.Prelude.{◌-ℤ◌, int_lt, int_le, bit_and, bit_or, bit_xor}
 use Rattle.std.specs.Int.{int_min, int_max, int_div_euclid}
 use Rattle.xf_type.specs.declared.payload_type.Width.{Width}
 use Rattle.xf_type.specs.declared.payload_type.Width.TheVariants.{I1, I8, I16, I32, I64, Index}

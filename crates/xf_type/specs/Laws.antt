@@ -8,7 +8,8 @@ use Rattle.xf_type.specs.declared.kind.CmpKind.{CmpKind}
 use Rattle.xf_type.specs.declared.kind.ConvKind.{ConvKind}
 use Rattle.xf_type.specs.declared.kind.ConvKind.TheVariants.{Extsi, Extui, Trunci, IndexCast, IndexCastui}
 use Rattle.xf_type.specs.declared.kind.Combiner.{Combiner}
-use Rattle.xf_type.specs.Integers.{FitsWidth, bits_of, wrapped, signed_value, binary, compared, converted, selected, combined}
+use Rattle.xf_type.specs.Integers.{FitsWidth, bits_of, wrapped, signed_value, binary}
+use Rattle.xf_type.specs.Integers.{compared, converted, selected, combined}
 
 -- ---- the two readings of a number
 

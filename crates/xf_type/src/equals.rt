@@ -1,5 +1,6 @@
 //! Tests whether two values are equal.
 ghost use Rattle.std.specs.Prelude.{◌≡◌, ◌↔◌, IsTrue};
+ghost use Rattle.xf_type.specs.Equal.{same_width, same_shape, same_type, same_types};
 
 use crate::attribute::{AffineMap, AttrValue};
 use crate::list::ListOf;
@@ -99,4 +100,42 @@ impl Equals for AffineMap {
     fn equals(&self, other: &AffineMap) -> bool {
         self.dims == other.dims && self.results.equals(&other.results)
     }
+}
+
+/// Whether two widths are equal.
+#[tactic(auto, using(crate::proofs::EqualTypes::same_width_by))]
+pub fn same_width(a: Width, b: Width) -> bool
+    ensures { result ≡ same_width a b }
+{
+    a == b
+}
+
+/// Whether two shapes are equal.
+pub fn same_shape(a: &Shape, b: &Shape) -> bool
+    ensures { result ≡ same_shape a.now b.now }
+{
+    a.equals(b)
+}
+
+/// Whether two types are equal.
+pub fn same_type(a: &PayloadType, b: &PayloadType) -> bool
+    ensures { result ≡ same_type a.now b.now }
+{
+    a.equals(b)
+}
+
+/// Whether the types are these, one for one.
+#[tactic(auto, using(crate::proofs::EqualTypes::unequal_lengths))]
+pub fn same_types(types: &[PayloadType], wanted: &[PayloadType]) -> bool
+    ensures { result ≡ same_types types.now wanted.now }
+{
+    if types.len() != wanted.len() {
+        return false;
+    }
+    for at in 0..types.len() {
+        if !same_type(&types[at], &wanted[at]) {
+            return false;
+        }
+    }
+    true
 }

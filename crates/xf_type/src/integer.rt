@@ -174,8 +174,8 @@ fn converted_number(k: ConvKind, from: Width, to: Width, a: u64) -> u64
     }
 }
 
-/// The operation on two elements of the width: no number where one of them is none, and where a shift's amount, which is
-/// read unsigned, is as large as the bits.
+/// The operation on two elements of the width: no number where one of them is none, and where a shift's amount, which
+/// is read unsigned, is as large as the bits.
 
 pub fn apply_binary(k: BinKind, w: Width, a: Elem, b: Elem) -> Elem
     requires a_fits { FitsWidth w a }
@@ -189,8 +189,8 @@ pub fn apply_binary(k: BinKind, w: Width, a: Elem, b: Elem) -> Elem
     }
 }
 
-/// 1 where the comparison of two elements of the width holds and 0 where it does not, of width `I1`; no number where one of
-/// them is none.
+/// 1 where the comparison of two elements of the width holds and 0 where it does not, of width `I1`; no number where
+/// one of them is none.
 #[tactic(auto, using(crate::proofs::LawLemmas::compared_fits))]
 pub fn apply_cmp(k: CmpKind, w: Width, a: Elem, b: Elem) -> Elem
     requires a_fits { FitsWidth w a }
@@ -217,8 +217,8 @@ pub fn apply_conv(k: ConvKind, from: Width, to: Width, a: Elem) -> Elem
     }
 }
 
-/// `a` where the condition, of width `I1`, is 1, `b` where it is 0, and no number where it is none. The element that is not
-/// chosen may be anything.
+/// `a` where the condition, of width `I1`, is 1, `b` where it is 0, and no number where it is none. The element that is
+/// not chosen may be anything.
 #[tactic(auto, using(crate::proofs::LawLemmas::selected_fits))]
 pub fn apply_select(c: Elem, a: Elem, b: Elem) -> Elem
     requires { FitsWidth Width.I1 c }

@@ -10,11 +10,12 @@ mod kind;
 mod law;
 mod list;
 mod payload_type;
+mod spelling;
 
 pub use attribute::{AffineMap, AttrValue};
 pub use byte::{TOO_LARGE, digit_value, is_digit, is_hex, is_letter, is_word_byte, number_of};
 pub use duplicate::Duplicate;
-pub use equals::Equals;
+pub use equals::{Equals, same_shape, same_type, same_types, same_width};
 pub use integer::{
     apply_binary, apply_cmp, apply_conv, apply_select, bits, combine, greatest, signed, wrap,
 };

@@ -122,7 +122,8 @@ impl<T: Drop> ListOf<T> {
         self.items[at] = item;
     }
 
-    /// Puts an item before the one with that number, or at the end. Without memory the list stays, and the item is dropped.
+    /// Puts an item before the one with that number, or at the end. Without memory the list stays, and the item is
+    /// dropped.
     pub fn insert(&mut self, at: usize, item: T) -> Result<(), NoMemory>
         requires { at ≤ length self.old }
         ensures ok { OnOk result (self.new ≡ insert self.old at item) }

@@ -1,5 +1,5 @@
 use Rattle.std.proofs.Common.{refl}
-use Rattle.xf_ir.specs.PrintedForm.{printed_form}
+use Rattle.xf_printed.specs.PrintedForm.{printed_form}
 use Rattle.xf_opt.specs.Words.{print}
 use Rattle.xf_opt.proofs.Ending.{wrote_all, wrote_prefix, wrote_some}
 use Rattle.xf_opt.proofs.telling.print_payload.Goals as goal

@@ -1,5 +1,5 @@
 use Rattle.std.proofs.Common.{arith}
-use Rattle.xf_ir.specs.PrintedDense.{nested}
+use Rattle.xf_printed.specs.Dense.{nested}
 use Rattle.xf_print.proofs.RowLemmas.{rows_begin, rows_go}
 use Rattle.xf_print.proofs.dense.+rows.Goals as goal
 

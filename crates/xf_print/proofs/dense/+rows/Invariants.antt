@@ -1,6 +1,6 @@
 use Rattle.std.proofs.Common.{◌≡◌, ◌++◌, map, ◌+◌, ◌-◌, ◌*◌, length}
-use Rattle.xf_ir.specs.PrintedDense.{rows, nested}
-use Rattle.xf_ir.specs.PrintedWords.{listed, listed_more}
+use Rattle.xf_printed.specs.Dense.{rows, nested}
+use Rattle.xf_printed.specs.Words.{listed, listed_more}
 use Rattle.xf_print.proofs.dense.+rows.Given as goal
 
 abbrev pub decreases-write_nested : goal.decreases-write_nested

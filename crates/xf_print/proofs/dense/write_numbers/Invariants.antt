@@ -1,7 +1,7 @@
 use Rattle.std.proofs.Common.{◌≡◌, ◌++◌, drop}
 use Rattle.std.specs.Prelude.{map}
-use Rattle.xf_ir.specs.PrintedWords.{listed, listed_more}
-use Rattle.xf_ir.specs.PrintedNumbers.{number_text}
+use Rattle.xf_printed.specs.Words.{listed, listed_more}
+use Rattle.xf_printed.specs.Numbers.{number_text}
 use Rattle.xf_print.proofs.dense.write_numbers.Given as goal
 
 abbrev pub invariant-loop-number : goal.invariant-loop-number

@@ -1,6 +1,6 @@
 use Rattle.std.proofs.Common.{◌≡◌, ◌-◌, ◌++◌}
-use Rattle.xf_ir.specs.PrintedRows.{dimension_texts}
-use Rattle.xf_ir.specs.PrintedWords.{listed, listed_more}
+use Rattle.xf_printed.specs.Unread.{dimension_texts}
+use Rattle.xf_printed.specs.Words.{listed, listed_more}
 use Rattle.xf_print.proofs.linalg_rows.write_dimensions.Given as goal
 
 abbrev pub invariant-loop-at : goal.invariant-loop-at

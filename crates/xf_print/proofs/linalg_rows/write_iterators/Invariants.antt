@@ -1,6 +1,6 @@
 use Rattle.std.proofs.Common.{◌≡◌, ◌++◌, map, drop}
-use Rattle.xf_ir.specs.PrintedWords.{iterator_text}
-use Rattle.xf_ir.specs.PrintedWords.{listed, listed_more}
+use Rattle.xf_printed.specs.Words.{iterator_text}
+use Rattle.xf_printed.specs.Words.{listed, listed_more}
 use Rattle.xf_print.proofs.linalg_rows.write_iterators.Given as goal
 
 abbrev pub invariant-loop-kind : goal.invariant-loop-kind

@@ -1,6 +1,6 @@
 use Rattle.std.proofs.Common.{◌≡◌, ◌++◌, map, drop}
-use Rattle.xf_ir.specs.PrintedRows.{map_text}
-use Rattle.xf_ir.specs.PrintedWords.{listed, listed_more}
+use Rattle.xf_printed.specs.Unread.{map_text}
+use Rattle.xf_printed.specs.Words.{listed, listed_more}
 use Rattle.xf_print.proofs.linalg_rows.write_maps.Given as goal
 
 abbrev pub invariant-loop-of : goal.invariant-loop-of

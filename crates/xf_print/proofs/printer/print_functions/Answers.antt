@@ -1,7 +1,7 @@
 use Rattle.std.proofs.Common.{arith}
 use Rattle.std.proofs.lemmas.Grind.{common_steps}
 use Rattle.std.proofs.lemmas.Result.{err_from_is_err_and}
-use Rattle.xf_print.proofs.Writes.{function_written, function_failed}
+use Rattle.xf_print.proofs.Writes.{function_failed, function_written, functions_end}
 use Rattle.xf_print.proofs.printer.print_functions.Goals as goal
 
 pub returns-in_err-print_function-clause-text : goal.returns-in_err-print_function-clause-text
@@ -14,3 +14,6 @@ loop-function-preserved g c = record {
   going = function_written _ _ _ _ c.args.functions.now c.loop-function.function-index c.function-item.result c.loop-function-test.true c.function-item.is c.loop-function.invariant.going c.in_ok-print_function.ensures.text;
   grows = grind (arith, common_steps);
 }
+
+pub returns-clause-text : goal.returns-clause-text
+returns-clause-text g c = functions_end _ _ _ c.args.functions.now c.loop-function.function-index c.loop-function-test.false c.loop-function.invariant.going

@@ -1,7 +1,7 @@
 use Rattle.std.proofs.Common.{◌≡◌, ◌++◌, drop}
 use Rattle.xf_print_base.specs.Index.{names_of}
-use Rattle.xf_ir.specs.PrintedRows.{place_texts, behind_places}
-use Rattle.xf_ir.specs.PrintedWords.{listed, listed_more}
+use Rattle.xf_printed.specs.Unread.{place_texts, behind_places}
+use Rattle.xf_printed.specs.Words.{listed, listed_more}
 use Rattle.xf_print.proofs.tensor_rows.write_places.Given as goal
 
 abbrev pub invariant-loop-place : goal.invariant-loop-place

@@ -1,6 +1,6 @@
 use Rattle.std.proofs.Common.{◌≡◌, ◌++◌, map, drop}
-use Rattle.xf_ir.specs.PrintedRows.{stride_text}
-use Rattle.xf_ir.specs.PrintedWords.{listed, listed_more}
+use Rattle.xf_printed.specs.Unread.{stride_text}
+use Rattle.xf_printed.specs.Words.{listed, listed_more}
 use Rattle.xf_print.proofs.tensor_rows.write_strides.Given as goal
 
 abbrev pub invariant-loop-place : goal.invariant-loop-place

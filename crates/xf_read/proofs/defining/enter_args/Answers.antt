@@ -1,6 +1,6 @@
 use Rattle.std.proofs.Common.{◌≡◌, ap, ◌∙◌}
 use Rattle.std.specs.Prelude.{slice_get}
-use Rattle.xf_read_base.specs.declared.parts.Ref.{Ref}
+use Rattle.xf_format.specs.declared.parts.Ref.{Ref}
 use Rattle.xf_read.specs.Names.{earlier, argument_named, with_args, args_twice}
 use Rattle.xf_read.specs.Visible.{names_in}
 use Rattle.xf_read.proofs.Arguments.{args_more, args_twice_more}

@@ -1,17 +1,13 @@
-use Rattle.std.proofs.Common.{◌<◌, ◌≤◌, suc, length, sym, subst, arith}
+use Rattle.std.proofs.Common.{sym, subst, arith}
 use Rattle.xf_lex.specs.Lexes.{Lexes}
-use Rattle.xf_read.specs.Meant.{file_count}
 use Rattle.xf_read.specs.Spells.{IsUnread}
-use Rattle.xf_read.specs.Syntax.{most_operations}
 use Rattle.xf_read.proofs.Counting.{few_operations}
 use Rattle.xf_read.proofs.Meanings.{stopped_is_unread}
 use Rattle.xf_read.proofs.read.read_module.Goals as goal
 
 pub build-requires : goal.build-requires
 build-requires c =
-    let ts = c.as_slice-tokens.result.now in
-    let lt : length ts < suc (length ts) = omega arith in
-    let few : file_count c.in-Ok.file ≤ most_operations = few_operations (suc (length ts)) ts c.in-Ok.file (length ts) (c.in-Ok.ensures.exact (suc (length ts)) lt) in
+    let few = few_operations c.as_slice-tokens.result.now c.in-Ok.file c.in-Ok.ensures.exact in
     omega (arith, few)
 
 pub returns-in-Err-clause-fault : goal.returns-in-Err-clause-fault

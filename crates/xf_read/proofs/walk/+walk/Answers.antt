@@ -2,11 +2,12 @@ use Rattle.std.proofs.Common.{◌≡◌, ◌+◌, ◌++◌, ◌∷◌, ◌≤◌
 use Rattle.std.proofs.lemmas.List.{at_drop_all}
 use Rattle.xf_ir.specs.Tree.{Body as IrBlock}
 use Rattle.xf_ir.specs.View.{ops_of, regions_of}
+use Rattle.xf_format.specs.declared.parts.Parts.{Parts}
 use Rattle.xf_read.specs.declared.walk.Walk.{Walk}
 use Rattle.xf_read.specs.Meant.{joined, left_out, nodes_meant, bodies_meant, nodes_places, bodies_places, place_of}
 use Rattle.xf_read.specs.Names.{with_faults, nodes_count, yield_count, bodies_count, tree_count, nodes_faults, bodies_faults, tree_faults}
-use Rattle.xf_read.specs.Tree.{Tree, Block}
-use Rattle.xf_read.specs.View.{nodes_of, bodies_of, tree_of}
+use Rattle.xf_grammar.specs.Tree.{Tree, Block}
+use Rattle.xf_syntax.specs.View.{nodes_of, bodies_of, tree_of}
 use Rattle.xf_read.specs.Visible.{names_in}
 use Rattle.xf_read.specs.Walks.{Moved, joined_regions}
 use Rattle.xf_read.proofs.Joining.{joined_none, joined_regions_none}
@@ -20,7 +21,7 @@ blocks-loop-body-preserved t c =
     let p = c.args.parts.now in
     let bs = c.args.bodies.now in
     let i = c.loop-body.body-index in
-    let d : Block = c.body-item.result in
+    let d : Block Parts = c.body-item.result in
     let w = c.loop-body.walk in
     let v = c.operations.new.walk in
     let u = c.end_body.new.walk in
@@ -28,7 +29,7 @@ blocks-loop-body-preserved t c =
     let is : d ≡ get_or bs i d = c.body-item.is in
     let seen : names_in w.scope ≡ s = c.loop-body.invariant.scope.names in
     let same : nodes_of c.deref.result.now ≡ nodes_of c.body.inside.nodes.items = ap nodes_of c.deref.ensures.value in
-    let nodes : nodes_of c.deref.result.now ≡ d.nodes = same ∙ ap (λ (b : Block). b.nodes) c.body.view_is in
+    let nodes : nodes_of c.deref.result.now ≡ d.nodes = same ∙ ap (λ (b : Block Parts). b.nodes) c.body.view_is in
     let next : v.next ≡ w.next + nodes_count d.nodes = c.in_ok-ops.ensures.moved.next ∙ ap (λ x. w.next + nodes_count x) nodes in
     let end : u.next ≡ v.next + yield_count p d.nodes = c.in_ok-end_body.ensures.moved.next in
     let ops : ops_of c.end_body.new.ops.items ≡ joined (nodes_meant all w.next s d.nodes) (left_out p d.nodes (w.next + nodes_count d.nodes)) =
@@ -68,7 +69,7 @@ operation-returns-clause-moved t c =
     let b = c.enter_head.new.walk in
     let e = c.blocks-2.new.walk in
     let s = names_in a.scope in
-    let this : Tree = tree_of c.node.inside in
+    let this : Tree Parts = tree_of c.node.inside in
     let final : Walk = record { scope = c.enter_names.new.scope; faults = e.faults; places = e.places; next = e.next } in
     let head = c.in_ok-enter_head.ensures.moved c.node.inside.first c.in_ok-head.ensures in
     let same : bodies_of c.deref.result.now ≡ this.bodies = ap bodies_of c.deref.ensures.value in
@@ -80,7 +81,7 @@ operation-returns-clause-moved t c =
       places_are = tree_places_are all s (names_in b.scope) this a.next b.next head.next c.in_ok-enter_head.ensures.scope a.places b.places e.places c.args.place head.places_are places;
       faults_are = tree_faults_are all s (names_in b.scope) this a.next b.next head.next c.in_ok-enter_head.ensures.scope a.faults b.faults e.faults head.faults_are faults;
     } in
-    subst (λ (x : Tree). Moved a final (tree_count x) (c.args.place ∷ bodies_places all x.parts x.bodies) (tree_faults all a.next s x)) c.node.view_is moved
+    subst (λ (x : Tree Parts). Moved a final (tree_count x) (c.args.place ∷ bodies_places all x.parts x.bodies) (tree_faults all a.next s x)) c.node.view_is moved
 
 pub operation-returns-clause-grows : goal.operation-returns-clause-grows
 operation-returns-clause-grows t c =
@@ -93,13 +94,13 @@ operations-loop-node-preserved t c =
     let all = c.args.tokens.now in
     let ts = c.args.nodes.now in
     let i = c.loop-node.node-index in
-    let d : Tree = c.node-item.result in
+    let d : Tree Parts = c.node-item.result in
     let w = c.loop-node.walk in
     let v = c.operation.new.walk in
     let a = c.args.walk.now in
     let s = names_in a.scope in
     let is : d ≡ get_or ts i d = c.node-item.is in
-    let place : c.place_of-place.result ≡ place_of all d.first = c.place_of-place.ensures ∙ ap (λ (x : Tree). place_of all x.first) c.node.view_is in
+    let place : c.place_of-place.result ≡ place_of all d.first = c.place_of-place.ensures ∙ ap (λ (x : Tree Parts). place_of all x.first) c.node.view_is in
     let moved = c.in_ok-op.ensures.moved in
     let places : v.places ≡ w.places ++ (place_of all d.first ∷ bodies_places all d.parts d.bodies) = moved.places_are ∙ ap (λ x. w.places ++ (x ∷ bodies_places all d.parts d.bodies)) place in
     record {

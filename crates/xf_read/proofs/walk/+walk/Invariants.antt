@@ -2,7 +2,7 @@ use Rattle.std.proofs.Common.{◌≡◌, ◌+◌, ◌++◌, drop}
 use Rattle.xf_ir.specs.View.{ops_of, regions_of}
 use Rattle.xf_read.specs.Meant.{joined, nodes_meant, bodies_meant, nodes_places, bodies_places}
 use Rattle.xf_read.specs.Names.{with_faults, nodes_count, bodies_count, nodes_faults, bodies_faults}
-use Rattle.xf_read.specs.View.{nodes_of, bodies_of}
+use Rattle.xf_syntax.specs.View.{nodes_of, bodies_of}
 use Rattle.xf_read.specs.Visible.{names_in, Grows}
 use Rattle.xf_read.specs.Walks.{Same, joined_regions}
 use Rattle.xf_read.proofs.walk.+walk.Given as goal

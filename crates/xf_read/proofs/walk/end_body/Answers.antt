@@ -1,5 +1,5 @@
 use Rattle.std.proofs.Common.{sym, ap, ◌∙◌, ◌++◌, ◌∷◌, []}
-use Rattle.xf_read.specs.Syntax.{lacks_yield}
+use Rattle.xf_read.specs.Names.{lacks_yield}
 use Rattle.xf_read.proofs.Joining.{ended, not_ended}
 use Rattle.xf_read.proofs.walk.end_body.Goals as goal
 

@@ -1,7 +1,7 @@
 use Rattle.std.proofs.Common.{false, ap, ◌∙◌}
 use Rattle.std.specs.Prelude.{is_some}
-use Rattle.xf_read_base.specs.declared.parts.AttrEntry.{AttrEntry}
-use Rattle.xf_read_base.specs.declared.parts.EntryValue.TheVariants.{Unit as NoValue}
+use Rattle.xf_format.specs.declared.parts.AttrEntry.{AttrEntry}
+use Rattle.xf_format.specs.declared.parts.EntryValue.TheVariants.{Unit as NoValue}
 use Rattle.xf_read_base.specs.Attributes.{entries_twice}
 use Rattle.xf_read_base.specs.Values.{attrs_of}
 use Rattle.xf_read_base.proofs.Sorting.{attrs_more, twice_more}

@@ -1,5 +1,5 @@
 use Rattle.std.proofs.Common.{◌≡◌, drop}
-use Rattle.xf_ir.specs.Types.{same_types}
+use Rattle.xf_type.specs.Equal.{same_types}
 use Rattle.xf_rules.specs.OperandTypes.{scalars}
 use Rattle.xf_rules.proofs.types.are_scalars.Given as goal
 

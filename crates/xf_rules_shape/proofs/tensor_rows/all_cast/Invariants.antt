@@ -1,5 +1,5 @@
 use Rattle.std.proofs.Common.{◌≡◌, drop}
-use Rattle.xf_ir.specs.Types.{same_items}
+use Rattle.xf_type.specs.Equal.{same_items}
 use Rattle.xf_ir.specs.RuleTypes.{dims_cast}
 use Rattle.xf_rules_shape.proofs.tensor_rows.all_cast.Given as goal
 

@@ -1,7 +1,7 @@
 use Rattle.std.proofs.Common.{◌≡◌, drop}
 use Rattle.xf_ir.specs.View.{ops_of, regions_of}
 use Rattle.xf_print_base.specs.Index.{names_of}
-use Rattle.xf_ir.specs.PrintedNames.{with_ops, with_regions}
+use Rattle.xf_printed.specs.Names.{with_ops, with_regions}
 use Rattle.xf_print_base.proofs.index.Index.+number.Given as goal
 
 abbrev pub invariant-add_ops-loop-op : goal.invariant-add_ops-loop-op

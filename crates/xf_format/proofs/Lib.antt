@@ -1,0 +1,11 @@
+pub mod Examples
+pub mod Fitting
+pub mod HeadLaws
+pub mod Holding
+pub mod Lawful
+pub mod Leaving
+mod Lookups
+pub mod OfKind
+pub mod Short
+mod Turns
+pub mod Within

@@ -1,0 +1,17 @@
+pub mod Actions
+pub mod Arith
+pub mod Builtin
+pub mod Format
+pub mod Func
+pub mod Laws
+pub mod Linalg
+pub mod Parts
+pub mod Reading
+pub mod Rows
+pub mod Rules
+pub mod Scf
+pub mod Short
+pub mod Strings
+pub mod Tests
+pub mod Within
+pub mod Words

@@ -1,0 +1,43 @@
+-- The numbers of tokens in the parts of a head are those of tokens.
+use Rattle.std.specs.Prelude.{ℕ, ◌<◌, All, Option, Some, None}
+use Rattle.xf_format.specs.declared.parts.AttrEntry.{AttrEntry}
+use Rattle.xf_format.specs.declared.parts.EntryValue.{EntryValue}
+use Rattle.xf_format.specs.declared.parts.EntryValue.TheVariants as value
+use Rattle.xf_format.specs.declared.parts.Literal.{Literal}
+use Rattle.xf_format.specs.declared.parts.Literal.TheVariants as literal
+use Rattle.xf_format.specs.declared.parts.Parts.{Parts}
+use Rattle.xf_format.specs.declared.parts.Ref.{Ref}
+use Rattle.xf_format.specs.declared.parts.Use.{Use}
+
+abbrev pub RefWithin : ℕ → Ref → Type 0
+RefWithin n r = r.token < n
+
+abbrev pub UseWithin : ℕ → Use → Type 0
+UseWithin n u = u.token < n
+
+abbrev pub SymbolWithin : ℕ → Option ℕ → Type 0
+SymbolWithin n None = Unit {0}
+SymbolWithin n (Some at) = at < n
+
+abbrev pub LiteralWithin : ℕ → Option Literal → Type 0
+LiteralWithin n None = Unit {0}
+LiteralWithin n (Some (literal.Truth b)) = Unit {0}
+LiteralWithin n (Some (literal.Integer negative at)) = at < n
+
+abbrev pub ValueWithin : ℕ → EntryValue → Type 0
+ValueWithin n value.Unit = Unit {0}
+ValueWithin n (value.Truth b) = Unit {0}
+ValueWithin n (value.Integer negative at width) = at < n
+ValueWithin n (value.Text at) = at < n
+
+abbrev pub EntryWithin : ℕ → AttrEntry → Type 0
+EntryWithin n e = (e.name < n) × ValueWithin n e.value
+
+-- each number in the parts of an operation is below n
+pub record PartsWithin (n : ℕ) (p : Parts) : Type 0 where
+  pub symbol : SymbolWithin n p.symbol
+  pub literal : LiteralWithin n p.literal
+  pub entries : All (EntryWithin n) p.entries
+  pub defines : All (RefWithin n) p.defines
+  pub args : All (RefWithin n) p.args
+  pub uses : All (UseWithin n) p.uses

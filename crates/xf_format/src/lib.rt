@@ -1,0 +1,35 @@
+//! The format of payloads as one table: the words, slots, bodies and tail of each row, the rules of the
+//! slots as grammars, and the reading of an operation by them.
+#![tactic(auto)]
+
+mod arith;
+mod builtin;
+mod dictionary;
+mod expected;
+mod func;
+mod heads;
+mod law;
+mod linalg;
+mod list;
+mod names;
+mod parts;
+mod quoted;
+mod row;
+mod scf;
+mod single;
+mod slot;
+mod word;
+
+pub use dictionary::has_room;
+pub use expected::{Expected, Stopped};
+pub use heads::{due_at, due_before, head_at, may_end_open};
+pub use law::{heads_are_bounded, heads_are_read_as_written, no_head_goes_on};
+pub use list::Item;
+pub use parts::{AttrEntry, EntryList, EntryValue, Literal, Parts, Ref, RefList, Use, UseList};
+pub use quoted::{behind_first, decoded, decoded_len};
+pub use row::{
+    Body, FormatElement, Keyword, Level, Row, behind, has_operations, inside, is_unread, is_yield,
+    row_bodies, row_header, row_slots, row_tail, stands,
+};
+pub use slot::slots_at;
+pub use word::{predicate_of, row_of, width_of};

@@ -1,0 +1,247 @@
+//! The table of the operations: the slots, the bodies and the tail of each row, as data.
+ghost use Rattle.std.specs.Prelude.{◌≡◌};
+ghost use Rattle.xf_format.specs.Rows.{slots, bodies, header, tail, stands, is_unread, has_operations, inside};
+ghost use Rattle.xf_format.specs.Rows.{behind, is_yield};
+ghost use Rattle.xf_format.specs.Words.{spelling};
+
+use crate::{arith, builtin, func, linalg, scf};
+use xf_type::{BinKind, ConvKind};
+
+/// An operation by its first word.
+#[derive(Clone, Copy, Debug, PartialEq, Eq)]
+pub enum Row {
+    /// `module`
+    Module,
+    /// `func.func`
+    Function,
+    /// `func.return` or `return`
+    Return,
+    /// `func.call` or `call`
+    Call,
+    /// `arith.constant`
+    Constant,
+    /// A binary operation of `arith`.
+    Binary(BinKind),
+    /// `arith.cmpi`
+    Compare,
+    /// `arith.select`
+    Select,
+    /// A conversion of `arith`.
+    Convert(ConvKind),
+    /// `scf.for`
+    For,
+    /// `scf.if`
+    If,
+    /// `scf.yield`
+    Yield,
+    /// An operation of `tensor` or `linalg` without a body, which is not read yet.
+    Other,
+    /// `linalg.generic`, which is not read yet.
+    Generic,
+}
+
+/// A word that a row writes.
+#[derive(Clone, Copy)]
+pub enum Keyword {
+    To,
+    Step,
+}
+
+impl Keyword {
+    /// The bytes of the word.
+    pub fn spelling(self) -> &'static [u8]
+        ensures { result.now ≡ spelling self }
+    {
+        match self {
+            Keyword::To => b"to",
+            Keyword::Step => b"step",
+        }
+    }
+}
+
+/// A part of a row. `true` in a mark says that a blank stands before it in print; before every other
+/// part stands one, but before what goes on in parentheses.
+#[derive(Clone, Copy)]
+pub enum FormatElement {
+    /// A mark of one byte, with a blank before it in print or none.
+    Mark(bool, u8),
+    /// A word.
+    Word(Keyword),
+    /// The symbol of a module, which may be left out.
+    ModuleName,
+    /// The symbol of a function, with `private` before it or not.
+    FunctionName,
+    /// A symbol.
+    Symbol,
+    /// `attributes` and discardable attributes, which may be left out.
+    Attributes,
+    /// Discardable attributes, which may be left out.
+    Dictionary,
+    /// The value of a constant.
+    Literal,
+    /// The predicate of a comparison.
+    Predicate,
+    /// The name of a block argument.
+    Argument,
+    /// The operand with this number.
+    Use(u8),
+    /// The width with this number of an `arith` operation.
+    Width(u8),
+    /// Operands up to a `)`.
+    Uses,
+    /// Types up to a `)`.
+    Types,
+    /// Arguments with their types up to a `)`.
+    Params,
+    /// Operands, `:` and their types, which may be left out.
+    Operands,
+    /// `->` and the result types of a call.
+    CallResults,
+    /// `->` and the result types of a function, which may be left out.
+    FunctionResults,
+    /// `->` and result types in parentheses, which may be left out.
+    IfResults,
+    /// `iter_args` with its pairs, and `->` with the result types in parentheses, which may be left out.
+    IterArgs,
+    /// `:` and the width of a loop, which may be left out and then is `index`.
+    LoopWidth,
+    /// The name of a block.
+    BlockName,
+    /// What is not read yet.
+    Unread,
+}
+
+/// The bodies of an operation.
+#[derive(Clone, Copy)]
+pub enum Body {
+    /// None.
+    None,
+    /// One.
+    One,
+    /// One, and optionally `else` and another.
+    WithElse,
+}
+
+/// What stands behind the word of a row, up to its first brace.
+pub fn row_slots(row: Row) -> &'static [FormatElement]
+    ensures { result.now ≡ slots row }
+{
+    match row {
+        Row::Module => &builtin::MODULE,
+        Row::Function => &func::FUNCTION,
+        Row::Return | Row::Yield => &func::TERMINATOR,
+        Row::Call => &func::CALL,
+        Row::Constant => &arith::CONSTANT,
+        Row::Binary(_) => &arith::BINARY,
+        Row::Compare => &arith::COMPARE,
+        Row::Select => &arith::SELECT,
+        Row::Convert(_) => &arith::CONVERT,
+        Row::For => &scf::FOR,
+        Row::If => &scf::IF,
+        Row::Other | Row::Generic => &linalg::UNREAD,
+    }
+}
+
+/// The bodies of a row.
+pub fn row_bodies(row: Row) -> Body
+    ensures { result ≡ bodies row }
+{
+    match row {
+        Row::Module | Row::Function | Row::For | Row::Generic => Body::One,
+        Row::If => Body::WithElse,
+        _ => Body::None,
+    }
+}
+
+/// What begins each body of a row, behind its brace.
+pub fn row_header(row: Row) -> &'static [FormatElement]
+    ensures { result.now ≡ header row }
+{
+    match row {
+        Row::Generic => &linalg::HEADER,
+        _ => &[],
+    }
+}
+
+/// What stands behind the bodies of a row.
+pub fn row_tail(row: Row) -> &'static [FormatElement]
+    ensures { result.now ≡ tail row }
+{
+    match row {
+        Row::For | Row::If => &scf::TAIL,
+        Row::Generic => &linalg::TAIL,
+        _ => &[],
+    }
+}
+
+/// Where an operation stands.
+#[derive(Clone, Copy)]
+pub enum Level {
+    /// Where a file begins: a module or a function.
+    File,
+    /// Between the functions of a module: a function.
+    Functions,
+    /// In a body: every operation but a module or a function.
+    Body,
+    /// Anywhere: each of them.
+    Any,
+}
+
+/// Whether a row stands at a level.
+pub fn stands(level: Level, row: Row) -> bool
+    ensures { result ≡ stands level row }
+{
+    match (level, row) {
+        (Level::Any, _) => true,
+        (Level::File, Row::Module | Row::Function) => true,
+        (Level::File, _) => false,
+        (Level::Functions, Row::Function) => true,
+        (Level::Functions, _) => false,
+        (Level::Body, Row::Module | Row::Function) => false,
+        (Level::Body, _) => true,
+    }
+}
+
+/// Whether a row is not read yet.
+pub fn is_unread(row: Row) -> bool
+    ensures { result ≡ is_unread row }
+{
+    matches!(row, Row::Other | Row::Generic)
+}
+
+/// Whether operations other than modules and functions stand at a level.
+pub fn has_operations(level: Level) -> bool
+    ensures { result ≡ has_operations level }
+{
+    match level {
+        Level::File | Level::Functions => false,
+        Level::Body | Level::Any => true,
+    }
+}
+
+/// Where the operations of a body stand.
+pub fn inside(row: Row) -> Level
+    ensures { result ≡ inside row }
+{
+    match row {
+        Row::Module => Level::Functions,
+        _ => Level::Body,
+    }
+}
+
+/// Where the operations behind the first one stand.
+pub fn behind(level: Level) -> Level
+    ensures { result ≡ behind level }
+{
+    match level {
+        Level::File => Level::Functions,
+        other => other,
+    }
+}
+
+/// Whether an operation is a yield that may be left out.
+pub fn is_yield(row: Row) -> bool
+    ensures { result ≡ is_yield row }
+{
+    matches!(row, Row::Yield)
+}

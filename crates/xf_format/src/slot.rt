@@ -1,0 +1,334 @@
+//! The slots of a row.
+ghost use Rattle.std.specs.Prelude.{◌≡◌, ◌≤◌, length, Bool, IfOk, OnOk};
+ghost use Rattle.xf_type.specs.declared.payload_type.Width.TheVariants as width;
+ghost use Rattle.xf_format.specs.declared.parts.Literal.TheVariants as literal;
+ghost use Rattle.xf_format.specs.Actions.{free};
+ghost use Rattle.xf_format.specs.Parts.{with_width, with_literal};
+ghost use Rattle.xf_format.specs.Reading.{Gives};
+ghost use Rattle.xf_format.specs.Rules.{by, attributes_rule, call_results_rule, dictionary_rule, enclosed_rule};
+ghost use Rattle.xf_format.specs.Rules.{function_results_rule, if_results_rule, iter_args_rule, listed_results_rule};
+ghost use Rattle.xf_format.specs.Rules.{literal_rule, loop_width_rule, number_rule, operands_rule, result_types_rule};
+ghost use Rattle.xf_format.specs.Rules.{slot_rule, slots_rule};
+
+use crate::expected::{Expected, Stopped};
+use crate::list::{Item, list_at, list_until};
+use crate::parts::{Literal, MOST_ENTRIES, Parts};
+use crate::row::FormatElement;
+use crate::single::{
+    argument_at, block_name_at, expects, function_name_at, module_name_at, predicate_at, result_at,
+    symbol_at, use_at, width_at, word_is,
+};
+use xf_grammar::{looks, says};
+use xf_lex::{Token, TokenKind};
+use xf_type::{NoMemory, PayloadType, Width};
+
+/// An integer with its width.
+#[tactic(auto, unfolding(crate::specs::Rules::number_rule))]
+fn number_is(
+    tokens: &[Token],
+    negative: bool,
+    due: Expected,
+    parts: &mut Parts,
+    at: usize,
+) -> Result<usize, Stopped>
+    ensures gives { (gap : Bool) → Gives (λ n. (free parts.new, n)) result (by (number_rule gap negative due) tokens.now parts.old at) }
+    ensures within { IfOk result (λ n. (at ≤ n) × (n ≤ length tokens.now)) }
+{
+    if !looks(tokens, at, TokenKind::Integer) {
+        return Err(Stopped::At(at, due));
+    }
+    parts.literal = Some(Literal::Integer {
+        negative,
+        token: at,
+    });
+    let at = expects(
+        tokens,
+        TokenKind::Mark(b':'),
+        Expected::Other,
+        parts,
+        at + 1,
+    )?;
+    width_at(tokens, Expected::Width, parts, at)
+}
+
+/// Sets the literal to a truth value, with its width.
+fn add_truth(parts: &mut Parts, truth: bool) -> Result<(), NoMemory>
+    ensures { OnOk result (parts.new ≡ with_width width.I1 (with_literal (literal.Truth truth) parts.old)) }
+{
+    parts.literal = Some(Literal::Truth(truth));
+    parts.types.push(PayloadType::Scalar(Width::I1))?;
+    Ok(())
+}
+
+/// The value of a scalar constant.
+#[tactic(auto, unfolding(crate::specs::Rules::literal_rule))]
+fn literal_at(tokens: &[Token], parts: &mut Parts, at: usize) -> Result<usize, Stopped>
+    ensures gives { Gives (λ n. (free parts.new, n)) result (by literal_rule tokens.now parts.old at) }
+    ensures within { IfOk result (λ n. (at ≤ n) × (n ≤ length tokens.now)) }
+{
+    if says(tokens, at, b"true") {
+        if parts.types.len() >= MOST_ENTRIES {
+            return Err(Stopped::At(at, Expected::ListEnd));
+        }
+        add_truth(parts, true)?;
+        return Ok(at + 1);
+    }
+    if says(tokens, at, b"false") {
+        if parts.types.len() >= MOST_ENTRIES {
+            return Err(Stopped::At(at, Expected::ListEnd));
+        }
+        add_truth(parts, false)?;
+        return Ok(at + 1);
+    }
+    if says(tokens, at, b"dense") {
+        return Err(Stopped::At(at, Expected::OtherReader));
+    }
+    if looks(tokens, at, TokenKind::Mark(b'-')) {
+        return number_is(tokens, true, Expected::Other, parts, at + 1);
+    }
+    number_is(tokens, false, Expected::ConstantValue, parts, at)
+}
+
+/// Discardable attributes, which may be left out.
+#[tactic(auto, unfolding(crate::specs::Rules::dictionary_rule))]
+pub fn dictionary_at(tokens: &[Token], parts: &mut Parts, at: usize) -> Result<usize, Stopped>
+    requires { at ≤ length tokens.now }
+    ensures gives { Gives (λ n. (free parts.new, n)) result (by dictionary_rule tokens.now parts.old at) }
+    ensures within { IfOk result (λ n. (at ≤ n) × (n ≤ length tokens.now)) }
+{
+    if looks(tokens, at, TokenKind::Mark(b'{')) {
+        list_until(
+            tokens,
+            Item::Entry,
+            TokenKind::Mark(b'}'),
+            Expected::Other,
+            parts,
+            at + 1,
+        )
+    } else {
+        Ok(at)
+    }
+}
+
+/// `attributes` and discardable attributes, which may be left out.
+#[tactic(auto, unfolding(crate::specs::Rules::attributes_rule))]
+fn attributes_at(tokens: &[Token], parts: &mut Parts, at: usize) -> Result<usize, Stopped>
+    requires { at ≤ length tokens.now }
+    ensures gives { Gives (λ n. (free parts.new, n)) result (by attributes_rule tokens.now parts.old at) }
+    ensures within { IfOk result (λ n. (at ≤ n) × (n ≤ length tokens.now)) }
+{
+    if !says(tokens, at, b"attributes") {
+        return Ok(at);
+    }
+    let at = expects(
+        tokens,
+        TokenKind::Mark(b'{'),
+        Expected::Other,
+        parts,
+        at + 1,
+    )?;
+    list_until(
+        tokens,
+        Item::Entry,
+        TokenKind::Mark(b'}'),
+        Expected::Other,
+        parts,
+        at,
+    )
+}
+
+/// Items up to a `)`. `due` is due behind an item.
+fn enclosed(
+    tokens: &[Token],
+    item: Item,
+    due: Expected,
+    parts: &mut Parts,
+    at: usize,
+) -> Result<usize, Stopped>
+    ensures gives { Gives (λ n. (free parts.new, n)) result (by (enclosed_rule item due) tokens.now parts.old at) }
+    ensures within { IfOk result (λ n. (at ≤ n) × (n ≤ length tokens.now)) }
+{
+    list_until(tokens, item, TokenKind::Mark(b')'), due, parts, at)
+}
+
+/// One result type, or result types in parentheses. `due` is due behind one of those.
+#[tactic(auto, unfolding(crate::specs::Rules::result_types_rule))]
+fn result_types_at(
+    tokens: &[Token],
+    due: Expected,
+    parts: &mut Parts,
+    at: usize,
+) -> Result<usize, Stopped>
+    ensures gives { Gives (λ n. (free parts.new, n)) result (by (result_types_rule due) tokens.now parts.old at) }
+    ensures within { IfOk result (λ n. (at ≤ n) × (n ≤ length tokens.now)) }
+{
+    if looks(tokens, at, TokenKind::Mark(b'(')) {
+        enclosed(tokens, Item::Result, due, parts, at + 1)
+    } else {
+        result_at(tokens, parts, at)
+    }
+}
+
+/// `->` and the result types of a call.
+#[tactic(auto, unfolding(crate::specs::Rules::call_results_rule))]
+fn call_results_at(tokens: &[Token], parts: &mut Parts, at: usize) -> Result<usize, Stopped>
+    ensures gives { Gives (λ n. (free parts.new, n)) result (by call_results_rule tokens.now parts.old at) }
+    ensures within { IfOk result (λ n. (at ≤ n) × (n ≤ length tokens.now)) }
+{
+    let at = expects(tokens, TokenKind::Arrow, Expected::Other, parts, at)?;
+    result_types_at(tokens, Expected::Other, parts, at)
+}
+
+/// `->` and the result types of a function, which may be left out.
+#[tactic(auto, unfolding(crate::specs::Rules::function_results_rule))]
+fn function_results_at(tokens: &[Token], parts: &mut Parts, at: usize) -> Result<usize, Stopped>
+    requires { at ≤ length tokens.now }
+    ensures gives { Gives (λ n. (free parts.new, n)) result (by function_results_rule tokens.now parts.old at) }
+    ensures within { IfOk result (λ n. (at ≤ n) × (n ≤ length tokens.now)) }
+{
+    if looks(tokens, at, TokenKind::Arrow) {
+        result_types_at(tokens, Expected::AfterResult, parts, at + 1)
+    } else {
+        Ok(at)
+    }
+}
+
+/// Result types in parentheses.
+#[tactic(auto, unfolding(crate::specs::Rules::listed_results_rule))]
+fn listed_results_at(tokens: &[Token], parts: &mut Parts, at: usize) -> Result<usize, Stopped>
+    ensures gives { Gives (λ n. (free parts.new, n)) result (by listed_results_rule tokens.now parts.old at) }
+    ensures within { IfOk result (λ n. (at ≤ n) × (n ≤ length tokens.now)) }
+{
+    let at = expects(tokens, TokenKind::Mark(b'('), Expected::Other, parts, at)?;
+    enclosed(tokens, Item::Result, Expected::Other, parts, at)
+}
+
+/// `->` and result types in parentheses, which may be left out.
+#[tactic(auto, unfolding(crate::specs::Rules::if_results_rule))]
+fn if_results_at(tokens: &[Token], parts: &mut Parts, at: usize) -> Result<usize, Stopped>
+    requires { at ≤ length tokens.now }
+    ensures gives { Gives (λ n. (free parts.new, n)) result (by if_results_rule tokens.now parts.old at) }
+    ensures within { IfOk result (λ n. (at ≤ n) × (n ≤ length tokens.now)) }
+{
+    if looks(tokens, at, TokenKind::Arrow) {
+        listed_results_at(tokens, parts, at + 1)
+    } else {
+        Ok(at)
+    }
+}
+
+/// Operands, `:` and their types, which may be left out.
+#[tactic(auto, unfolding(crate::specs::Rules::operands_rule))]
+fn operands_at(tokens: &[Token], parts: &mut Parts, at: usize) -> Result<usize, Stopped>
+    requires { at ≤ length tokens.now }
+    ensures gives { Gives (λ n. (free parts.new, n)) result (by operands_rule tokens.now parts.old at) }
+    ensures within { IfOk result (λ n. (at ≤ n) × (n ≤ length tokens.now)) }
+{
+    if !looks(tokens, at, TokenKind::Value) {
+        return Ok(at);
+    }
+    let at = list_at(tokens, Item::Use(true), parts, at)?;
+    let at = expects(tokens, TokenKind::Mark(b':'), Expected::Other, parts, at)?;
+    list_at(tokens, Item::Type(true), parts, at)
+}
+
+/// `iter_args` with its pairs, and `->` with result types, which may be left out.
+#[tactic(auto, unfolding(crate::specs::Rules::iter_args_rule))]
+fn iter_args_at(tokens: &[Token], parts: &mut Parts, at: usize) -> Result<usize, Stopped>
+    requires { at ≤ length tokens.now }
+    ensures gives { Gives (λ n. (free parts.new, n)) result (by iter_args_rule tokens.now parts.old at) }
+    ensures within { IfOk result (λ n. (at ≤ n) × (n ≤ length tokens.now)) }
+{
+    if !says(tokens, at, b"iter_args") {
+        return Ok(at);
+    }
+    let at = expects(
+        tokens,
+        TokenKind::Mark(b'('),
+        Expected::Other,
+        parts,
+        at + 1,
+    )?;
+    let at = enclosed(tokens, Item::Pair, Expected::Other, parts, at)?;
+    let at = expects(tokens, TokenKind::Arrow, Expected::Other, parts, at)?;
+    listed_results_at(tokens, parts, at)
+}
+
+/// `:` and the width of a loop, else `index`.
+#[tactic(auto, unfolding(crate::specs::Rules::loop_width_rule))]
+fn loop_width_at(tokens: &[Token], parts: &mut Parts, at: usize) -> Result<usize, Stopped>
+    requires { at ≤ length tokens.now }
+    ensures gives { Gives (λ n. (free parts.new, n)) result (by loop_width_rule tokens.now parts.old at) }
+    ensures within { IfOk result (λ n. (at ≤ n) × (n ≤ length tokens.now)) }
+{
+    if looks(tokens, at, TokenKind::Mark(b':')) {
+        return width_at(tokens, Expected::Width, parts, at + 1);
+    }
+    if parts.types.len() >= MOST_ENTRIES {
+        return Err(Stopped::At(at, Expected::ListEnd));
+    }
+    parts.types.push(PayloadType::Scalar(Width::Index))?;
+    Ok(at)
+}
+
+/// A slot.
+fn slot_at(
+    tokens: &[Token],
+    slot: FormatElement,
+    parts: &mut Parts,
+    at: usize,
+) -> Result<usize, Stopped>
+    requires { at ≤ length tokens.now }
+    ensures gives { Gives (λ n. (free parts.new, n)) result (by (slot_rule slot) tokens.now parts.old at) }
+    ensures within { IfOk result (λ n. (at ≤ n) × (n ≤ length tokens.now)) }
+{
+    match slot {
+        FormatElement::Mark(_, b) => expects(
+            tokens,
+            TokenKind::Mark(b),
+            Expected::Other,
+            parts,
+            at,
+        ),
+        FormatElement::Word(keyword) => word_is(tokens, keyword.spelling(), parts, at),
+        FormatElement::ModuleName => module_name_at(tokens, parts, at),
+        FormatElement::FunctionName => function_name_at(tokens, parts, at),
+        FormatElement::Symbol => symbol_at(tokens, parts, at),
+        FormatElement::Attributes => attributes_at(tokens, parts, at),
+        FormatElement::Dictionary => dictionary_at(tokens, parts, at),
+        FormatElement::Literal => literal_at(tokens, parts, at),
+        FormatElement::Predicate => predicate_at(tokens, parts, at),
+        FormatElement::Argument => argument_at(tokens, parts, at),
+        FormatElement::Use(_) => use_at(tokens, parts, at),
+        FormatElement::Width(_) => width_at(tokens, Expected::ArithWidth, parts, at),
+        FormatElement::Uses => enclosed(tokens, Item::Use(false), Expected::Other, parts, at),
+        FormatElement::Types => enclosed(tokens, Item::Type(false), Expected::Other, parts, at),
+        FormatElement::Params => enclosed(tokens, Item::Param, Expected::AfterArgument, parts, at),
+        FormatElement::Operands => operands_at(tokens, parts, at),
+        FormatElement::CallResults => call_results_at(tokens, parts, at),
+        FormatElement::FunctionResults => function_results_at(tokens, parts, at),
+        FormatElement::IfResults => if_results_at(tokens, parts, at),
+        FormatElement::IterArgs => iter_args_at(tokens, parts, at),
+        FormatElement::LoopWidth => loop_width_at(tokens, parts, at),
+        FormatElement::BlockName => block_name_at(tokens, parts, at),
+        FormatElement::Unread => Err(Stopped::At(at, Expected::OtherReader)),
+    }
+}
+
+/// What the slots of a row write, from a token on.
+pub fn slots_at(
+    tokens: &[Token],
+    slots: &[FormatElement],
+    parts: &mut Parts,
+    at: usize,
+) -> Result<usize, Stopped>
+    requires { at ≤ length tokens.now }
+    ensures gives { Gives (λ n. (free parts.new, n)) result (by (slots_rule slots.now) tokens.now parts.old at) }
+    ensures within { IfOk result (λ n. (at ≤ n) × (n ≤ length tokens.now)) }
+{
+    let mut at = at;
+    for slot in slots {
+        at = slot_at(tokens, *slot, parts, at)?;
+    }
+    Ok(at)
+}

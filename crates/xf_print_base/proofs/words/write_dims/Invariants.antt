@@ -1,7 +1,0 @@
-use Rattle.std.proofs.Common.{◌≡◌, ◌++◌, drop}
-use Rattle.std.specs.List.{flat_map}
-use Rattle.xf_ir.specs.PrintedWords.{dim_text}
-use Rattle.xf_print_base.proofs.words.write_dims.Given as goal
-
-abbrev pub invariant-loop-dim : goal.invariant-loop-dim
-invariant-loop-dim l = l.line.items ++ flat_map dim_text (drop l.dim-index l.dims) ≡ l.fn.line.items ++ flat_map dim_text l.dims

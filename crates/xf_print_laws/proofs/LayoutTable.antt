@@ -1,0 +1,159 @@
+-- No tokens of an operation run together, whatever its row: computed over the table.
+use Rattle.std.proofs.Common.{◌≡◌, inl, inr, ℕ, Bool, true, false, List, [], ◌∷◌, Option, Some, None, refl, ap, subst, arith}
+use Rattle.std.specs.Prelude.{codes, is_some}
+use Rattle.std.specs.Str.{bytes_eq}
+use Rattle.std.proofs.lemmas.Slice.Eq.{bytes_eq-Decides}
+use Rattle.std.proofs.lemmas.Bool.Decides.{nat_tests}
+use Rattle.xf_lex.specs.declared.token.TokenKind.{TokenKind}
+use Rattle.xf_lex.specs.declared.token.TokenKind.TheVariants as kind
+use Rattle.xf_grammar.specs.Tokens.{Terminal, the_end, terminal, same_kind, is_kind, is_word, is_index}
+use Rattle.xf_grammar.specs.Apart.{Before, a_token, before, Classes, Among, Classed, RowsApart, ShapeLexes}
+use Rattle.xf_grammar.proofs.Basics.{both_true}
+use Rattle.xf_grammar.proofs.LaidOut.{known_token}
+use Rattle.xf_format.specs.declared.row.Level.{Level}
+use Rattle.xf_format.specs.declared.row.Row.{Row}
+use Rattle.xf_format.specs.declared.row.Row.TheVariants as row
+use Rattle.xf_format.specs.Actions.{Action, tensor_type, unread_rest, Saying}
+use Rattle.xf_format.specs.Format.{format}
+use Rattle.xf_format.specs.Rules.{language, kind_rule, word_rule, symbol_rule, module_name_rule, function_name_rule, argument_rule, use_rule, width_rule, type_rule, result_rule, predicate_rule, block_name_rule, number_rule, literal_rule, entry_width_rule, entry_number_rule, entry_value_rule, entry_rule, param_rule, pair_rule, until_rule, dictionary_rule, attributes_rule, result_types_rule, call_results_rule, function_results_rule, listed_results_rule, if_results_rule, operands_rule, iter_args_rule, loop_width_rule, row_rule, defines_rule, head_rule}
+use Rattle.xf_format.specs.Tests.{Test, of_kind, of_word, short_symbol, short_word, short_text, an_index, a_width, a_predicate, integer_for, width_for, an_operation, an_unread, a_result, State}
+use Rattle.xf_format.specs.Words.{is_width, is_predicate, row_begun, opens, opens_unread}
+use Rattle.xf_format.specs.Rows.{has_operations}
+
+-- ---- what the tokens that pass a test stand as
+
+-- a word is the word tensor or not
+abbrev kinds : TokenKind → List Before
+kinds kind.Word = a_token kind.Word true ∷ a_token kind.Word false ∷ []
+kinds k = a_token k false ∷ []
+
+abbrev class : Test → List Before
+class (of_kind k) = kinds k
+class (of_word w) = a_token kind.Word (bytes_eq w (codes "tensor")) ∷ []
+class short_symbol = kinds kind.Symbol
+class short_text = kinds kind.Text
+class an_index = kinds kind.Hash
+class (integer_for negative w) = kinds kind.Integer
+class (a_result l) = kinds kind.Value
+class x = kinds kind.Word
+
+-- a later reader reads tensor types and the rest of some operations
+abbrev never : Action → Bool
+never tensor_type = true
+never unread_rest = true
+never k = false
+
+abbrev pub classes : Classes Action Test State
+classes = record { class = class; never = never; scanned = λ m bs. None }
+
+-- ---- it is known rightly
+
+same_kind_is : (j k : TokenKind) → same_kind j k ≡ true → j ≡ k
+same_kind_is kind.Word kind.Word e = refl
+same_kind_is kind.Value kind.Value e = refl
+same_kind_is kind.Symbol kind.Symbol e = refl
+same_kind_is kind.BlockName kind.BlockName e = refl
+same_kind_is kind.Hash kind.Hash e = refl
+same_kind_is kind.DialectType kind.DialectType e = refl
+same_kind_is kind.Integer kind.Integer e = refl
+same_kind_is kind.Text kind.Text e = refl
+same_kind_is kind.Shape kind.Shape e = refl
+same_kind_is kind.Arrow kind.Arrow e = refl
+same_kind_is (kind.Mark b) (kind.Mark c) e = let q : b ≡ c = grind (arith, nat_tests) in ap kind.Mark q
+same_kind_is j k e = absurd cc
+
+word_there : (b : Bool) → Among (a_token kind.Word b) (kinds kind.Word)
+word_there true = inl refl
+word_there false = inr (inl refl)
+
+kind_there : (k : TokenKind) (bytes : List ℕ) → Among (before (terminal k bytes)) (kinds k)
+kind_there kind.Word bytes = word_there (bytes_eq bytes (codes "tensor"))
+kind_there k bytes = inl refl
+
+of_kind_there : (k : TokenKind) (y : Terminal) → is_kind k y ≡ true → Among (before y) (kinds k)
+of_kind_there k the_end e = absurd cc
+of_kind_there k (terminal j bytes) e = subst (λ i. Among (before (terminal j bytes)) (kinds i)) (same_kind_is j k e) (kind_there j bytes)
+
+of_word_there : (w : List ℕ) (y : Terminal) → is_word w y ≡ true → Among (before y) (class (of_word w))
+of_word_there w the_end e = absurd cc
+of_word_there w (terminal kind.Word bytes) e = let q : bytes ≡ w = (bytes_eq-Decides bytes w).0 e in inl (ap (λ b. a_token kind.Word (bytes_eq b (codes "tensor"))) q)
+of_word_there w (terminal k bytes) e = absurd cc
+
+-- only words have a meaning
+width_there : (y : Terminal) → is_width y ≡ true → Among (before y) (kinds kind.Word)
+width_there the_end e = absurd cc
+width_there (terminal kind.Word bytes) e = kind_there kind.Word bytes
+width_there (terminal k bytes) e = absurd cc
+
+predicate_there : (y : Terminal) → is_predicate y ≡ true → Among (before y) (kinds kind.Word)
+predicate_there the_end e = absurd cc
+predicate_there (terminal kind.Word bytes) e = kind_there kind.Word bytes
+predicate_there (terminal k bytes) e = absurd cc
+
+row_there : (y : Terminal) → is_some (row_begun y) ≡ true → Among (before y) (kinds kind.Word)
+row_there the_end e = absurd cc
+row_there (terminal kind.Word bytes) e = kind_there kind.Word bytes
+row_there (terminal k bytes) e = absurd cc
+
+index_there : (y : Terminal) → is_index y ≡ true → Among (before y) (kinds kind.Hash)
+index_there the_end e = absurd cc
+index_there (terminal kind.Hash bytes) e = kind_there kind.Hash bytes
+index_there (terminal k bytes) e = absurd cc
+
+opens_some : (l : Level) (r : Option Row) → opens l r ≡ true → is_some r ≡ true
+opens_some l None e = absurd cc
+opens_some l (Some r) e = refl
+
+opens_unread_some : (l : Level) (r : Option Row) → opens_unread l r ≡ true → is_some r ≡ true
+opens_unread_some l None e = absurd cc
+opens_unread_some l (Some r) e = refl
+
+classed : (x : Test) (y : Terminal) (t : Saying) → language.allows x y t ≡ true → Among (before y) (class x)
+classed (of_kind k) y t e = of_kind_there k y e
+classed (of_word w) y t e = of_word_there w y e
+classed short_symbol y t e = of_kind_there kind.Symbol y (both_true (is_kind kind.Symbol y) _ e).0
+classed short_word y t e = of_kind_there kind.Word y (both_true (is_kind kind.Word y) _ e).0
+classed short_text y t e = of_kind_there kind.Text y (both_true (is_kind kind.Text y) _ e).0
+classed an_index y t e = index_there y e
+classed a_width y t e = width_there y e
+classed a_predicate y t e = predicate_there y e
+classed (integer_for negative w) y t e = of_kind_there kind.Integer y (both_true (is_kind kind.Integer y) _ e).0
+classed (width_for negative) y t e = width_there y (both_true (is_width y) _ e).0
+classed (an_operation l) y t e = row_there y (opens_some l (row_begun y) e)
+classed (an_unread l) y t e = row_there y (opens_unread_some l (row_begun y) e)
+classed (a_result l) y t e = of_kind_there kind.Value y (both_true (has_operations l) _ e).1
+
+never_space : (k : Action) (t : Saying) → never k ≡ true → language.space k t ≡ false
+never_space tensor_type t e = refl
+never_space unread_rest t e = refl
+never_space k t e = absurd cc
+
+pub known_classes : Classed language classes
+known_classes = record { classed = classed; never = never_space; scanned = λ m xs y t b bs es fit e h. absurd cc }
+
+-- ---- the rows
+
+pub rows_apart : RowsApart format classes
+unfolding kind_rule word_rule symbol_rule module_name_rule function_name_rule argument_rule use_rule width_rule type_rule result_rule predicate_rule block_name_rule number_rule literal_rule entry_width_rule entry_number_rule entry_value_rule entry_rule param_rule pair_rule until_rule dictionary_rule attributes_rule result_types_rule call_results_rule function_results_rule listed_results_rule if_results_rule operands_rule iter_args_rule loop_width_rule row_rule defines_rule head_rule
+rows_apart l row.Module = refl
+rows_apart l row.Function = refl
+rows_apart l row.Return = refl
+rows_apart l row.Call = refl
+rows_apart l row.Constant = refl
+rows_apart l (row.Binary k) = refl
+rows_apart l row.Compare = refl
+rows_apart l row.Select = refl
+rows_apart l (row.Convert k) = refl
+rows_apart l row.For = refl
+rows_apart l row.If = refl
+rows_apart l row.Yield = refl
+rows_apart l row.Other = refl
+rows_apart l row.Generic = refl
+
+pub shapes_lex : (r : Row) → ShapeLexes (format.shape r)
+shapes_lex row.Module = known_token kind.Word (codes "else") refl refl refl
+shapes_lex row.Function = known_token kind.Word (codes "else") refl refl refl
+shapes_lex row.For = known_token kind.Word (codes "else") refl refl refl
+shapes_lex row.If = known_token kind.Word (codes "else") refl refl refl
+shapes_lex row.Generic = known_token kind.Word (codes "else") refl refl refl
+shapes_lex r = tt

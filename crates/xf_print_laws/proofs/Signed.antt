@@ -1,0 +1,72 @@
+-- The sign and the digits of a number of a width, for which the width has room.
+use Rattle.std.proofs.Common.{◌≡◌, ◌⊎◌, inl, inr, ℕ, suc, ◌+◌, ◌-◌, ◌^◌, ◌<◌, ◌≤◌, true, refl, sym, subst, arith}
+use Rattle.std.specs.Prelude.{ℤ, pos, negsuc, ◌-ℤ◌, nat_lt, if◌then◌else◌}
+use Rattle.std.proofs.lemmas.Bool.{le-leb, ltb-true}
+use Rattle.std.proofs.lemmas.Bool.Decides.{nat_tests}
+use Rattle.std.proofs.lemmas.Int.{ints}
+use Rattle.xf_type.specs.declared.payload_type.Width.{Width}
+use Rattle.xf_type.specs.declared.payload_type.Width.TheVariants.{I1, I8, I16, I32, I64, Index}
+use Rattle.xf_type.specs.Integers.{bits_of, signed_value}
+use Rattle.xf_lex.specs.declared.token.TokenKind.TheVariants as token
+use Rattle.xf_grammar.specs.Tokens.{terminal}
+use Rattle.xf_format.specs.Tests.{room_for}
+use Rattle.xf_ir.specs.RuleAttributes.{fits_bits}
+use Rattle.xf_printed.specs.Fills.{has_minus, digits_of}
+use Rattle.xf_print_laws.proofs.Single.{number_is}
+
+-- an integer with as much room as so many bits have
+abbrev InRange : ℕ → ℕ → ℤ → Type 0
+InRange half full (pos n) = n < full
+InRange half full (negsuc n) = suc n ≤ half
+
+low_or_high : (n half : ℕ) → (n < half) ⊎ (half ≤ n)
+low_or_high n half = grind arith
+
+signed_by : ℕ → ℕ → ℕ → ℤ
+signed_by half full n = if nat_lt n half then pos n else (pos n -ℤ pos full)
+
+signed_low : (n half full : ℕ) → n < half → signed_by half full n ≡ pos n
+unfolding signed_by
+signed_low n half full h = grind (arith, nat_tests)
+
+signed_high : (n half full : ℕ) → half ≤ n → n < full → signed_by half full n ≡ negsuc (full - 1 - n)
+unfolding signed_by
+signed_high n half full l h = grind (arith, nat_tests, ints)
+
+in_range : (n half full : ℕ) → n < full → half + half ≡ full → InRange half full (signed_by half full n)
+in_range n half full h e = elim (low_or_high n half) [
+  | inl l ↦ subst (InRange half full) (sym (signed_low n half full l)) h
+  | inr l ↦ subst (InRange half full) (sym (signed_high n half full l h)) (omega arith)
+]
+
+-- with its sign and digits, a width of that many bits or more has room for it
+room : (w : Width) (half full : ℕ) (z : ℤ) → InRange half full z → half ≤ 2 ^ (bits_of w - 1) → full ≤ 2 ^ bits_of w → full ≤ 2 ^ 64 → half ≤ 2 ^ 63 → room_for w (has_minus z) (terminal token.Integer (digits_of z)) ≡ true
+room w half full (pos n) h p q r s = let e = number_is n (omega arith) in rw e (le-leb n (2 ^ bits_of w - 1) (omega arith))
+room w half full (negsuc n) h p q r s = let e = number_is (suc n) (omega arith) in rw e (le-leb (suc n) (2 ^ (bits_of w - 1)) (omega arith))
+
+-- the digits of an integer are those of a number below 2 ^ 64
+abbrev pub IsShort : ℤ → Type 0
+IsShort (pos n) = n < 2 ^ 64
+IsShort (negsuc n) = suc n < 2 ^ 64
+
+range_short : (half full : ℕ) (z : ℤ) → InRange half full z → full ≤ 2 ^ 64 → half ≤ 2 ^ 63 → IsShort z
+range_short half full (pos n) h p q = omega arith
+range_short half full (negsuc n) h p q = omega arith
+
+-- a number of a width: there is room for it in the width and in 64 bits, and its digits are those of a number of 64 bits
+pub record Roomy (w : Width) (z : ℤ) : Type 0 where
+  pub here : room_for w (has_minus z) (terminal token.Integer (digits_of z)) ≡ true
+  pub largest : room_for I64 (has_minus z) (terminal token.Integer (digits_of z)) ≡ true
+  pub short : IsShort z
+
+by_range : (w : Width) (half full : ℕ) (z : ℤ) → InRange half full z → half ≤ 2 ^ (bits_of w - 1) → full ≤ 2 ^ bits_of w → full ≤ 2 ^ 64 → half ≤ 2 ^ 63 → Roomy w z
+by_range w half full z h p q r s = record { here = room w half full z h p q r s; largest = room I64 half full z h s r r s; short = range_short half full z h r s }
+
+pub roomy : (w : Width) (bits : ℕ) → fits_bits w bits ≡ true → Roomy w (signed_value w bits)
+unfolding signed_by
+roomy I1 bits e = by_range I1 (2 ^ 0) (2 ^ 1) (signed_value I1 bits) (in_range bits (2 ^ 0) (2 ^ 1) (ltb-true bits (2 ^ 1) e) refl) (omega arith) (omega arith) (omega arith) (omega arith)
+roomy I8 bits e = by_range I8 (2 ^ 7) (2 ^ 8) (signed_value I8 bits) (in_range bits (2 ^ 7) (2 ^ 8) (ltb-true bits (2 ^ 8) e) refl) (omega arith) (omega arith) (omega arith) (omega arith)
+roomy I16 bits e = by_range I16 (2 ^ 15) (2 ^ 16) (signed_value I16 bits) (in_range bits (2 ^ 15) (2 ^ 16) (ltb-true bits (2 ^ 16) e) refl) (omega arith) (omega arith) (omega arith) (omega arith)
+roomy I32 bits e = by_range I32 (2 ^ 31) (2 ^ 32) (signed_value I32 bits) (in_range bits (2 ^ 31) (2 ^ 32) (ltb-true bits (2 ^ 32) e) refl) (omega arith) (omega arith) (omega arith) (omega arith)
+roomy I64 bits e = by_range I64 (2 ^ 63) (2 ^ 64) (signed_value I64 bits) (in_range bits (2 ^ 63) (2 ^ 64) (ltb-true bits (2 ^ 64) e) refl) (omega arith) (omega arith) (omega arith) (omega arith)
+roomy Index bits e = by_range Index (2 ^ 63) (2 ^ 64) (signed_value Index bits) (in_range bits (2 ^ 63) (2 ^ 64) (ltb-true bits (2 ^ 64) e) refl) (omega arith) (omega arith) (omega arith) (omega arith)

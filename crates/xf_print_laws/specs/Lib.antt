@@ -1,0 +1,6 @@
+pub mod Core
+pub mod Laws
+pub mod LayoutLaws
+pub mod Naming
+pub mod SaidPrinted
+pub mod Stored

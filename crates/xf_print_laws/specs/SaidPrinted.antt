@@ -1,0 +1,160 @@
+-- What the printed heads of a module say, of the operations of builtin, func, arith and scf.
+use Rattle.std.specs.Prelude.{ℕ, List, [], ◌∷◌, map, Option, Some, None, Bool, option_map, if◌then◌else◌, ℤ}
+use Rattle.xf_type.specs.declared.attribute.AttrValue.{AttrValue}
+use Rattle.xf_type.specs.declared.attribute.AttrValue.TheVariants as attr
+use Rattle.xf_type.specs.declared.kind.CmpKind.{CmpKind}
+use Rattle.xf_type.specs.declared.payload_type.PayloadType.{PayloadType}
+use Rattle.xf_type.specs.declared.payload_type.PayloadType.TheVariants.{Scalar}
+use Rattle.xf_type.specs.declared.payload_type.Width.{Width}
+use Rattle.xf_type.specs.declared.payload_type.Width.TheVariants.{I1}
+use Rattle.xf_type.specs.Integers.{signed_value}
+use Rattle.xf_format.specs.declared.row.Row.{Row}
+use Rattle.xf_format.specs.declared.row.Row.TheVariants as row
+use Rattle.xf_format.specs.Parts.{LiteralSaid, truth, number, ValueSaid, no_value, truth_value, number_value}
+use Rattle.xf_format.specs.Parts.{text_value, EntrySaid, Said}
+use Rattle.xf_ir.specs.declared.kind.Attr.{Attr}
+use Rattle.xf_ir.specs.declared.kind.Kind.{Kind}
+use Rattle.xf_ir.specs.declared.kind.Kind.TheVariants as kind
+use Rattle.xf_ir.specs.declared.name.ValueName.{ValueName}
+use Rattle.xf_ir.specs.declared.op.Module.{Module}
+use Rattle.xf_ir.specs.Tree.{Ops, no_ops, op, Regions, no_regions, region, Tree}
+use Rattle.xf_ir.specs.Placed.{functions_of}
+use Rattle.xf_grammar.specs.Tree.{SaidNodes, no_nodes_said, node_said, SaidBodies, no_bodies_said, body_said}
+use Rattle.xf_printed.specs.Attributes.{string_text}
+use Rattle.xf_printed.specs.Fills.{has_minus, digits_of, is_set, symbol_printed, is_private}
+use Rattle.xf_printed.specs.Names.{Names, no_names, with_ops, first_args, number_of, first_of, type_of}
+use Rattle.xf_printed.specs.PrintedForm.{is_empty_yield}
+use Rattle.xf_print_laws.specs.Naming.{use_printed, defines_printed, arguments_printed}
+
+-- ---- numbers
+
+-- a sign, and digits
+abbrev pub signed_said : {A : Type 0} → (Bool → List ℕ → A) → ℤ → A
+signed_said say z = say (has_minus z) (digits_of z)
+
+abbrev pub literal_printed : Width → ℕ → LiteralSaid
+literal_printed I1 bits = truth (is_set bits)
+literal_printed width bits = signed_said number (signed_value width bits)
+
+-- ---- attributes
+
+abbrev pub integer_printed : Width → ℕ → ValueSaid
+integer_printed I1 bits = truth_value (is_set bits)
+integer_printed width bits =
+    signed_said (λ negative digits. number_value negative digits width) (signed_value width bits)
+
+abbrev pub value_printed : AttrValue → ValueSaid
+value_printed attr.Unit = no_value
+value_printed (attr.Int width bits) = integer_printed width bits
+value_printed (attr.Text bytes) = text_value (string_text bytes)
+
+abbrev pub entry_printed : Attr → EntrySaid
+entry_printed d = record { name = d.name; value = value_printed d.value }
+
+-- ---- kinds
+
+abbrev pub row_of : Kind → Row
+row_of (kind.Func symbol private results) = row.Function
+row_of kind.Return = row.Return
+row_of (kind.Call callee) = row.Call
+row_of (kind.Constant width bits) = row.Constant
+row_of (kind.Binary which width) = row.Binary which
+row_of (kind.Compare which width) = row.Compare
+row_of (kind.Select width) = row.Select
+row_of (kind.Convert which from to) = row.Convert which
+row_of (kind.For width) = row.For
+row_of kind.If = row.If
+row_of kind.Yield = row.Yield
+row_of _ = row.Module
+
+-- with its @
+abbrev pub symbol_said : Kind → Option (List ℕ)
+symbol_said k = option_map (λ s. 64 ∷ s) (symbol_printed k)
+
+abbrev pub predicate_printed : Kind → Option CmpKind
+predicate_printed (kind.Compare which width) = Some which
+predicate_printed _ = None
+
+abbrev pub constant_printed : Kind → Option LiteralSaid
+constant_printed (kind.Constant width bits) = Some (literal_printed width bits)
+constant_printed _ = None
+
+-- the types that are known
+abbrev pub known_types : List (Option PayloadType) → List PayloadType
+known_types [] = []
+known_types (None ∷ os) = known_types os
+known_types (Some t ∷ os) = t ∷ known_types os
+
+-- the types that stand in a head, but for those behind its arrow: for a function those of its arguments, else those of
+-- its operands or its widths
+abbrev pub types_printed : Kind → List PayloadType → List (Option PayloadType) → List PayloadType
+types_printed (kind.Func symbol private results) args os = args
+types_printed kind.Return args os = known_types os
+types_printed (kind.Call callee) args os = known_types os
+types_printed (kind.Constant width bits) args os = Scalar width ∷ []
+types_printed (kind.Binary which width) args os = Scalar width ∷ []
+types_printed (kind.Compare which width) args os = Scalar width ∷ []
+types_printed (kind.Select width) args os = Scalar width ∷ []
+types_printed (kind.Convert which from to) args os = Scalar from ∷ (Scalar to ∷ [])
+types_printed (kind.For width) args os = Scalar width ∷ []
+types_printed kind.Yield args os = known_types os
+types_printed _ args os = []
+
+-- the types behind the arrow
+abbrev pub results_printed : Kind → List PayloadType → List PayloadType
+results_printed (kind.Func symbol private results) ts = results
+results_printed (kind.Call callee) ts = ts
+results_printed (kind.For width) ts = ts
+results_printed kind.If ts = ts
+results_printed _ ts = []
+
+-- ---- heads
+
+-- the head of an operation with these numbers
+abbrev pub head_by : Names → ℕ → ℕ → Kind → List Attr → List ValueName → List PayloadType → List PayloadType → Said
+head_by names i first k ds os ts args = record {
+  row = row_of k;
+  symbol = symbol_said k;
+  private = is_private k;
+  predicate = predicate_printed k;
+  literal = constant_printed k;
+  entries = map entry_printed ds;
+  defines = defines_printed i ts;
+  args = arguments_printed first args;
+  uses = map (use_printed names) os;
+  types = types_printed k args (map (type_of names) os);
+  results = results_printed k ts;
+}
+
+abbrev pub head_printed : Names → Tree → Said
+head_printed names t =
+    head_by names (number_of (names.entry t.name.0)) (first_of (names.entry t.name.0))
+    t.kind t.attrs t.operands t.results (first_args t.regions)
+
+-- ---- operations
+
+abbrev mutual
+  -- an empty yield is left out
+  pub ops_printed : Names → Ops → SaidNodes Said
+  ops_printed names no_ops = no_nodes_said
+  ops_printed names (op n k ds os ts rs rest) =
+      let t : Tree = record { name = n; kind = k; attrs = ds; operands = os; results = ts; regions = rs } in
+      if is_empty_yield k ds os then ops_printed names rest
+      else node_said (head_printed names t) (regions_printed names rs) (ops_printed names rest)
+
+  pub regions_printed : Names → Regions → SaidBodies Said
+  regions_printed names no_regions = no_bodies_said
+  regions_printed names (region args ops rest) = body_said (ops_printed names ops) (regions_printed names rest)
+
+-- functions, each of which names its own values
+abbrev pub functions_printed : Ops → SaidNodes Said
+functions_printed no_ops = no_nodes_said
+functions_printed (op n k ds os ts rs rest) =
+    let names = with_ops no_names (op n k ds os ts rs no_ops) in
+    let t : Tree = record { name = n; kind = k; attrs = ds; operands = os; results = ts; regions = rs } in
+    node_said (head_printed names t) (regions_printed names rs) (functions_printed rest)
+
+abbrev pub printed_said : Module → SaidNodes Said
+printed_said m =
+    node_said (head_printed no_names m.root)
+    (body_said (functions_printed (functions_of m)) no_bodies_said) no_nodes_said

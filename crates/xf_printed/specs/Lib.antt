@@ -1,0 +1,9 @@
+pub mod Attributes
+pub mod Dense
+pub mod Items
+pub mod Fills
+pub mod Names
+pub mod Numbers
+pub mod PrintedForm
+pub mod Unread
+pub mod Words

@@ -1,5 +1,0 @@
-use Rattle.xf_rules.proofs.SameTypes.{same_shape_by}
-use Rattle.xf_rules.proofs.types.same_shape.Goals as goal
-
-pub returns : goal.returns
-returns c = same_shape_by c.equals.result c.args.a.now c.args.b.now c.equals.ensures

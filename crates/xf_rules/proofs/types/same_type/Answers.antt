@@ -1,5 +1,0 @@
-use Rattle.xf_rules.proofs.SameTypes.{same_type_by}
-use Rattle.xf_rules.proofs.types.same_type.Goals as goal
-
-pub returns : goal.returns
-returns c = same_type_by c.equals.result c.args.a.now c.args.b.now c.equals.ensures
