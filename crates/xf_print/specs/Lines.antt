@@ -1,5 +1,5 @@
 -- The text of one operation, part by part.
-use Rattle.std.specs.Prelude.{ℕ, ◌+◌, List, [], ◌∷◌, ◌++◌, length, codes, decimal, Bool, true, false, if◌then◌else◌}
+use Rattle.std.specs.Prelude.{ℕ, ◌+◌, ◌*◌, List, [], ◌∷◌, ◌++◌, length, codes, decimal, replicate, Bool, true, false, if◌then◌else◌}
 use Rattle.xf_type.specs.declared.payload_type.PayloadType.{PayloadType}
 use Rattle.xf_grammar.specs.Grammar.{Gap, line, begun, written}
 use Rattle.xf_grammar.specs.Layout.{gap_text, text}
@@ -72,9 +72,13 @@ ops_text names margin ops = text (docs_written format level.Body margin (ops_doc
 unfoldable pub block_text : Names → ℕ → Tree → Bool → Ops → List ℕ
 block_text names margin t first ops = opened_text names margin t first ++ ops_text names (margin + 1) ops
 
--- what begins the line that ends a block
+-- what begins the line that ends a block, behind its line feed
+abbrev pub closed : ℕ → List ℕ
+closed margin = replicate (2 * margin) 32 ++ codes "}"
+
+-- and with it
 unfoldable pub closing : ℕ → List ℕ
-closing margin = gap_text (line margin) ++ codes "}"
+closing margin = 10 ∷ closed margin
 
 unfoldable pub blocks_text : Names → ℕ → Tree → Bool → Regions → List ℕ
 blocks_text names margin t first rs = text (blocks_written format (op_row t.kind) margin first (regions_blocks names (header_of names t) rs))
@@ -99,13 +103,23 @@ function_text t = tree_text (with_ops no_names (cons t no_ops)) 1 t
 unfoldable pub functions_text : Ops → List ℕ
 functions_text fs = text (docs_written format level.Functions 1 (functions_docs fs))
 
--- the end of a module
+-- the end of a module, and the last line
 unfoldable pub end_text : Names → Tree → List ℕ
 end_text names t = (closing 0 ++ tail_text names t) ++ codes "\n"
+
+unfoldable pub end_line : Names → Tree → List ℕ
+end_line names t = (closed 0 ++ tail_text names t) ++ 10 ∷ []
 
 -- a module behind its opening
 unfoldable pub body_text : Names → Module → List ℕ
 body_text names m = opened_text names 0 m.root true ++ (functions_text (functions_of m) ++ end_text names m.root)
+
+-- ---- lines
+
+-- lines with their line feeds, of a text that begins each of them with one
+abbrev pub fed : List ℕ → List ℕ
+fed [] = []
+fed (b ∷ bs) = bs ++ 10 ∷ []
 
 -- the text of a line that is there or not
 abbrev pub some_text : Bool → List ℕ → List ℕ

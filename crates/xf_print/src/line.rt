@@ -1,8 +1,6 @@
 //! Lines, each made in a buffer that is used again. They refuse for want of memory alone.
-ghost use Rattle.std.specs.Prelude.{◌≡◌, ◌*◌, ◌++◌, OnOk, IfOk, ◌∷◌, false, replicate};
-ghost use Rattle.xf_grammar.specs.Grammar.{line as new_line};
-ghost use Rattle.xf_grammar.specs.Layout.{gap_text};
-ghost use Rattle.xf_print.specs.Lines.{brace_text, closing, header_text, op_row, opening, some_text};
+ghost use Rattle.std.specs.Prelude.{◌≡◌, ◌*◌, ◌++◌, OnOk, IfOk, false, replicate};
+ghost use Rattle.xf_print.specs.Lines.{brace_text, closed, fed, header_text, op_row, opening, some_text};
 ghost use Rattle.xf_print_base.specs.Index.{names_of};
 
 use crate::row::{op_row, write_op_slots, write_opening};
@@ -11,12 +9,11 @@ use xf_ir::Op;
 use xf_print_base::Index;
 use xf_type::NoMemory;
 
-/// Begins a line behind another: two blanks for each level.
+/// Begins a line: two blanks for each level.
 fn begin(margin: u64, line: &mut Vec<u8>) -> Result<(), NoMemory>
-    ensures { OnOk result (line.new.items ≡ gap_text (new_line margin)) }
+    ensures { OnOk result (line.new.items ≡ replicate (2 * margin) 32) }
 {
     line.clear();
-    line.push(b'\n')?;
     for _ in 0..margin {
         line.extend_from_slice(b"  ")?;
     }
@@ -31,16 +28,15 @@ pub fn make_opening(
     line: &mut Vec<u8>,
 ) -> Result<(), NoMemory>
     ensures { OnOk result (line.new.items
-        ≡ gap_text (new_line margin) ++ opening (names_of names.now) op.now) }
+        ≡ replicate (2 * margin) 32 ++ opening (names_of names.now) op.now) }
 {
     begin(margin, line)?;
     write_opening(names, op, line)
 }
 
 /// Begins the line that ends a block.
-#[tactic(auto, unfolding(crate::specs::Lines::closing))]
 pub fn make_closing(margin: u64, line: &mut Vec<u8>) -> Result<(), NoMemory>
-    ensures { OnOk result (line.new.items ≡ closing margin) }
+    ensures { OnOk result (line.new.items ≡ closed margin) }
 {
     begin(margin, line)?;
     line.push(b'}')?;
@@ -77,7 +73,7 @@ pub fn make_header(
     line: &mut Vec<u8>,
 ) -> Result<bool, NoMemory>
     ensures { IfOk result (λ some. some_text some line.new.items
-        ≡ header_text (names_of names.now) margin op.now) }
+        ≡ fed (header_text (names_of names.now) margin op.now)) }
 {
     match row_header(op_row(op)) {
         [] => Ok(false),
@@ -85,6 +81,7 @@ pub fn make_header(
             begin(margin, line)?;
             line.extend_from_slice(b"^bb0")?;
             write_op_slots(rest, names, op, line)?;
+            line.push(b'\n')?;
             Ok(true)
         }
     }

@@ -3,7 +3,7 @@ ghost use Rattle.std.specs.Prelude.{◌≡◌, ◌++◌, OnOk, true, IfOk, [], �
 ghost use Rattle.xf_host.specs.Writes.{WritesText, FailsByCount};
 ghost use Rattle.xf_ir.specs.Placed.{functions_of};
 ghost use Rattle.xf_ir.specs.View.{ops_of, regions_of};
-ghost use Rattle.xf_print.specs.Lines.{block_text, body_text, brace_text, closing, end_text, function_text, functions_text, header_text, op_row, op_text, opened_text, ops_text, rest_text, tail_text, tree_text};
+ghost use Rattle.xf_print.specs.Lines.{block_text, body_text, brace_text, closed, end_line, fed, function_text, functions_text, header_text, op_row, op_text, opened_text, ops_text, rest_text, tail_text, tree_text};
 ghost use Rattle.xf_print_base.specs.Index.{names_of};
 ghost use Rattle.xf_printed.specs.PrintedForm.{is_empty_yield, printed_form};
 
@@ -31,11 +31,12 @@ fn print_brace<S: Sink>(
     line: &mut Vec<u8>,
     sink: &mut S,
 ) -> Result<(), SinkFail>
-    ensures text { WritesText result (line.old.items ++ brace_text (op_row op.now.kind) first)
+    ensures text { WritesText result ((line.old.items ++ brace_text (op_row op.now.kind) first) ++ 10 ∷ [])
         (S.written sink.old) (S.written sink.new) }
     ensures count { FailsByCount result (S.faults sink.old) (S.faults sink.new) }
 {
     write_brace(first, op, line)?;
+    line.extend_from_slice(b"\n")?;
     sink.write(line.as_slice())
 }
 
@@ -47,7 +48,7 @@ fn print_header<S: Sink>(
     line: &mut Vec<u8>,
     sink: &mut S,
 ) -> Result<(), SinkFail>
-    ensures text { WritesText result (header_text (names_of names.now) margin op.now)
+    ensures text { WritesText result (fed (header_text (names_of names.now) margin op.now))
         (S.written sink.old) (S.written sink.new) }
     ensures count { FailsByCount result (S.faults sink.old) (S.faults sink.new) }
 {
@@ -67,7 +68,7 @@ fn print_opened<S: Sink>(
     sink: &mut S,
 ) -> Result<(), SinkFail>
     ensures text { WritesText result
-        (line.old.items ++ opened_text (names_of names.now) margin op.now first)
+        ((line.old.items ++ opened_text (names_of names.now) margin op.now first) ++ 10 ∷ [])
         (S.written sink.old) (S.written sink.new) }
     ensures count { FailsByCount result (S.faults sink.old) (S.faults sink.new) }
 {
@@ -82,11 +83,12 @@ fn print_tail<S: Sink>(
     line: &mut Vec<u8>,
     sink: &mut S,
 ) -> Result<(), SinkFail>
-    ensures text { WritesText result (line.old.items ++ tail_text (names_of names.now) op.now)
+    ensures text { WritesText result ((line.old.items ++ tail_text (names_of names.now) op.now) ++ 10 ∷ [])
         (S.written sink.old) (S.written sink.new) }
     ensures count { FailsByCount result (S.faults sink.old) (S.faults sink.new) }
 {
     write_tail(names, op, line)?;
+    line.extend_from_slice(b"\n")?;
     sink.write(line.as_slice())
 }
 
@@ -99,7 +101,7 @@ fn print_ops<S: Sink>(
     line: &mut Vec<u8>,
     sink: &mut S,
 ) -> Result<(), SinkFail>
-    ensures text { WritesText result (ops_text (names_of names.now) margin (ops_of ops.now))
+    ensures text { WritesText result (fed (ops_text (names_of names.now) margin (ops_of ops.now)))
         (S.written sink.old) (S.written sink.new) }
     ensures count { FailsByCount result (S.faults sink.old) (S.faults sink.new) }
 {
@@ -118,7 +120,7 @@ fn print_op<S: Sink>(
     line: &mut Vec<u8>,
     sink: &mut S,
 ) -> Result<(), SinkFail>
-    ensures text { WritesText result (op_text (names_of names.now) margin op.now)
+    ensures text { WritesText result (fed (op_text (names_of names.now) margin op.now))
         (S.written sink.old) (S.written sink.new) }
     ensures count { FailsByCount result (S.faults sink.old) (S.faults sink.new) }
 {
@@ -137,7 +139,7 @@ fn print_tree<S: Sink>(
     line: &mut Vec<u8>,
     sink: &mut S,
 ) -> Result<(), SinkFail>
-    ensures text { WritesText result (tree_text (names_of names.now) margin op.now)
+    ensures text { WritesText result (fed (tree_text (names_of names.now) margin op.now))
         (S.written sink.old) (S.written sink.new) }
     ensures count { FailsByCount result (S.faults sink.old) (S.faults sink.new) }
 {
@@ -155,7 +157,7 @@ fn print_rest<S: Sink>(
     sink: &mut S,
 ) -> Result<(), SinkFail>
     ensures text { WritesText result
-        (line.old.items ++ rest_text (names_of names.now) margin op.now true op.now.regions)
+        ((line.old.items ++ rest_text (names_of names.now) margin op.now true op.now.regions) ++ 10 ∷ [])
         (S.written sink.old) (S.written sink.new) }
     ensures count { FailsByCount result (S.faults sink.old) (S.faults sink.new) }
 {
@@ -177,7 +179,7 @@ fn print_inner<S: Sink>(
     line: &mut Vec<u8>,
     sink: &mut S,
 ) -> Result<(), SinkFail>
-    ensures text { WritesText result (ops_text (names_of names.now) margin block.now.ops)
+    ensures text { WritesText result (fed (ops_text (names_of names.now) margin block.now.ops))
         (S.written sink.old) (S.written sink.new) }
     ensures count { FailsByCount result (S.faults sink.old) (S.faults sink.new) }
 {
@@ -196,9 +198,9 @@ fn print_block<S: Sink>(
     sink: &mut S,
 ) -> Result<(), SinkFail>
     ensures text { WritesText result
-        (line.old.items ++ block_text (names_of names.now) margin op.now first block.now.ops)
+        ((line.old.items ++ block_text (names_of names.now) margin op.now first block.now.ops) ++ 10 ∷ [])
         (S.written sink.old) (S.written sink.new) }
-    ensures line { OnOk result (line.new.items ≡ closing margin) }
+    ensures line { OnOk result (line.new.items ≡ closed margin) }
     ensures count { FailsByCount result (S.faults sink.old) (S.faults sink.new) }
 {
     let inner = sum(margin, 1)?;
@@ -215,7 +217,7 @@ fn print_function<S: Sink>(
     line: &mut Vec<u8>,
     sink: &mut S,
 ) -> Result<(), SinkFail>
-    ensures text { WritesText result (function_text function.now)
+    ensures text { WritesText result (fed (function_text function.now))
         (S.written sink.old) (S.written sink.new) }
     ensures count { FailsByCount result (S.faults sink.old) (S.faults sink.new) }
 {
@@ -231,7 +233,7 @@ fn print_functions<S: Sink>(
     line: &mut Vec<u8>,
     sink: &mut S,
 ) -> Result<(), SinkFail>
-    ensures text { WritesText result (functions_text (ops_of functions.now))
+    ensures text { WritesText result (fed (functions_text (ops_of functions.now)))
         (S.written sink.old) (S.written sink.new) }
     ensures count { FailsByCount result (S.faults sink.old) (S.faults sink.new) }
 {
@@ -259,13 +261,12 @@ fn print_end<S: Sink>(
     line: &mut Vec<u8>,
     sink: &mut S,
 ) -> Result<(), SinkFail>
-    ensures text { WritesText result (end_text (names_of names.now) root.now)
+    ensures text { WritesText result (end_line (names_of names.now) root.now)
         (S.written sink.old) (S.written sink.new) }
     ensures count { FailsByCount result (S.faults sink.old) (S.faults sink.new) }
 {
     make_closing(0, line)?;
-    print_tail(names, root, line, sink)?;
-    sink.write(b"\n")
+    print_tail(names, root, line, sink)
 }
 
 /// Writes the functions of a module, and its end.
@@ -277,7 +278,7 @@ fn print_functions_and_end<S: Sink>(
     sink: &mut S,
 ) -> Result<(), SinkFail>
     ensures text { WritesText result
-        (functions_text (functions_of m.now) ++ end_text (names_of names.now) m.now.root)
+        (fed (functions_text (functions_of m.now)) ++ end_line (names_of names.now) m.now.root)
         (S.written sink.old) (S.written sink.new) }
     ensures count { FailsByCount result (S.faults sink.old) (S.faults sink.new) }
 {
@@ -301,9 +302,8 @@ fn print_body<S: Sink>(
     print_functions_and_end(alloc, names, m, line, sink)
 }
 
-/// Writes the printed form of a module: each line by one write, behind the line feed that ends the line
-/// before it, and the last line feed by one more. It refuses as the sink does, and for want of memory.
-/// The time is linear in the text, but for the search of names in an ordered index.
+/// Writes the printed form of a module: each line, with its line feed, by one write. It refuses as the
+/// sink does, and for want of memory. The time is linear in the text, but for the search of names in an ordered index.
 pub fn print<S: Sink>(alloc: Global, m: &Module, sink: &mut S) -> Result<(), SinkFail>
     ensures text { WritesText result (printed_form m.now) (S.written sink.old) (S.written sink.new) }
     ensures count { FailsByCount result (S.faults sink.old) (S.faults sink.new) }
