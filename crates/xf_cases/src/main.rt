@@ -1,5 +1,5 @@
-//! Makes each call of the top call that the files of cases in its folder state, over files and sinks in memory, and tells
-//! each case that ends otherwise.
+//! Makes each call of the top call that the files of cases in its folder state, over files and sinks in memory, and
+//! tells each case that ends otherwise.
 #![tactic(auto)]
 
 mod call;

@@ -21,7 +21,9 @@ use Rattle.xf_format.specs.Actions.{IsHeld, Saying, Says}
 use Rattle.xf_format.specs.Format.{regions_of, ends_open, format}
 use Rattle.xf_format.specs.Parts.{said}
 use Rattle.xf_format.specs.Rows.{slots, bodies, header, tail, has_operations}
-use Rattle.xf_format.specs.Rules.{language, due_at, row_rule, head_rule, slots_rule, kind_rule, argument_rule, type_rule, block_name_rule, entry_width_rule, entry_number_rule, entry_value_rule, entry_rule, param_rule, until_rule, dictionary_rule}
+use Rattle.xf_format.specs.Rules.{language, due_at, row_rule, head_rule, slots_rule, kind_rule, argument_rule}
+use Rattle.xf_format.specs.Rules.{type_rule, block_name_rule, entry_width_rule, entry_number_rule, entry_value_rule}
+use Rattle.xf_format.specs.Rules.{entry_rule, param_rule, until_rule, dictionary_rule}
 use Rattle.xf_format.specs.Tests.{Test, an_unread}
 use Rattle.xf_format.specs.Words.{opens, row_begun}
 use Rattle.xf_format.proofs.Lawful.{lawful}
@@ -39,12 +41,14 @@ word_opens l the_end e = absurd cc
 word_opens l (terminal kind.Word bytes) e = refl
 word_opens l (terminal k bytes) e = absurd cc
 
-refused : (x : Test) (d e : Expected) (p : Fill) (y : Terminal) (t : Saying) → fits language (peek x (refuse d) (refuse e)) p y t ≡ true → ⊥
+refused : (x : Test) (d e : Expected) (p : Fill) (y : Terminal) (t : Saying)
+    → fits language (peek x (refuse d) (refuse e)) p y t ≡ true → ⊥
 refused x d e (here p) y t q = false≢true (both_true _ _ q).1
 refused x d e (other p) y t q = false≢true (both_true _ _ q).1
 refused x d e p y t q = absurd cc
 
-row_opens : (l : Level) (p : Fill) (y : Terminal) (t : Saying) → fits language (row_rule l) p y t ≡ true → opens_operation (written language (row_rule l) p) ≡ true
+row_opens : (l : Level) (p : Fill) (y : Terminal) (t : Saying) → fits language (row_rule l) p y t ≡ true
+    → opens_operation (written language (row_rule l) p) ≡ true
 unfolding row_rule
 row_opens l (yes x p) y t e = word_opens l x (both_true _ _ e).0
 row_opens l (other p) y t e = absurd (refused (an_unread l) due.OtherReader (due_at l) p y t (both_true _ _ e).1)
@@ -69,8 +73,8 @@ header_open r p t e = slots_say_open (header r) (header_leaves r) p t
 tail_open : (r : Row) → LeavesOpen format r (slots_rule (tail r))
 unfolding dictionary_rule until_rule entry_rule entry_value_rule entry_number_rule entry_width_rule kind_rule
 tail_open row.Generic p t e =
-    ap (λ r. ends_open r (tells language (slots_rule (tail row.Generic)) p t).said.results) (slots_say_row (tail row.Generic) p t ∙ e)
-    ∙ sym (ap (λ r. ends_open r t.said.results) e)
+    ap (λ r. ends_open r (tells language (slots_rule (tail row.Generic)) p t).said.results)
+    (slots_say_row (tail row.Generic) p t ∙ e) ∙ sym (ap (λ r. ends_open r t.said.results) e)
 tail_open r p t e = slots_say_open (tail r) refl p t
 
 -- ---- else

@@ -10,7 +10,8 @@ use Rattle.xf_format.specs.declared.row.Row.{Row}
 use Rattle.xf_format.specs.declared.row.Row.TheVariants as row
 use Rattle.xf_format.specs.Actions.{Reading, Says}
 use Rattle.xf_format.specs.Format.{format, payload_head_at}
-use Rattle.xf_format.specs.Laws.{HeadsAreWritten, HeadsReadAgain, HeadsHaveRows, NoHeadGoesOn, StopsAgain, HeadsStay, HeadsAreShort, HeadsAreWithin}
+use Rattle.xf_format.specs.Laws.{HeadsAreWritten, HeadsReadAgain, HeadsHaveRows, NoHeadGoesOn, StopsAgain, HeadsStay}
+use Rattle.xf_format.specs.Laws.{HeadsAreShort, HeadsAreWithin}
 use Rattle.xf_format.specs.Parts.{said}
 use Rattle.xf_format.specs.Rows.{slots}
 use Rattle.xf_format.specs.Short.{HasShortParts}
@@ -35,8 +36,10 @@ heads_have_rows all l at next r h e =
     slots_keep_row all (slots r) (length all) x.0.0 h x.0.1 next x.1.1.1 ∙ x.1.1.0
 
 -- each text that agrees as far as reading looks is read so
-agreeing : (all us : List Token) (l : Level) (at : ℕ) (r : Out (Row × Reading) Expected) → payload_head_at all l at ≡ r → Agree (suc (reach r)) all us → payload_head_at us l at ≡ r
-agreeing all us l at r e a = (head_steady format all l at).same us (subst (λ o. Agree (suc (reach o)) all us) (sym e) a) ∙ e
+agreeing : (all us : List Token) (l : Level) (at : ℕ) (r : Out (Row × Reading) Expected) → payload_head_at all l at ≡ r
+    → Agree (suc (reach r)) all us → payload_head_at us l at ≡ r
+agreeing all us l at r e a = (head_steady format all l at).same us (subst (λ o. Agree (suc (reach o)) all us) (sym e) a)
+    ∙ e
 
 pub stops_again : StopsAgain
 stops_again all us l at i d e a = agreeing all us l at (Err (i, d)) e a
@@ -50,11 +53,15 @@ no_head_goes_on all us l at i d e a next p s stand =
     let stop = stops_again all us l at i d e a in
     absurd (ok_is_no_fault (sym x.1.0 ∙ stop))
   where
-    ok_is_no_fault : {x : (Row × Reading) × ℕ} {y : ℕ × Expected} → let o : Out (Row × Reading) Expected = Ok x in o ≡ Err y → ⊥
+    ok_is_no_fault : {x : (Row × Reading) × ℕ} {y : ℕ × Expected}
+        → let o : Out (Row × Reading) Expected = Ok x in o ≡ Err y → ⊥
     ok_is_no_fault e = absurd cc
 
 pub heads_are_short : HeadsAreShort
-heads_are_short all l at next r h e = head_kept format all (λ n k. HasShortParts k.parts) (keeps_short all) (length all) l r h at next (none_short row.Module) e
+heads_are_short all l at next r h e =
+    head_kept format all (λ n k. HasShortParts k.parts) (keeps_short all) (length all) l r h at next
+    (none_short row.Module) e
 
 pub heads_are_within : HeadsAreWithin
-heads_are_within all l at next r h e = (head_kept format all Within (keeps_within all) (length all) l r h at next (none_within at row.Module) e).parts
+heads_are_within all l at next r h e =
+    (head_kept format all Within (keeps_within all) (length all) l r h at next (none_within at row.Module) e).parts

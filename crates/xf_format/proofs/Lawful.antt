@@ -14,143 +14,18 @@ use Rattle.xf_format.specs.declared.parts.Ref.{Ref}
 use Rattle.xf_format.specs.declared.parts.Use.{Use}
 use Rattle.xf_format.specs.declared.row.Level.{Level}
 use Rattle.xf_format.specs.declared.row.Level.TheVariants as level
-use Rattle.xf_format.specs.Actions.{Action, begins, defines, argument_is, operand, symbol_is, private_is, predicate_is, literal_is, truth_is, width_is, width_left_out, result_is, unit_entry, truth_entry, text_entry, integer_entry, typed_entry, tensor_type, unread_rest, of_first, of_one_or_two, of_two, of_three, Reading, Saying, count_in, one_or, parts_by, said_by, add, tell, room, space, IsHeld, Says}
-use Rattle.xf_format.specs.Parts.{ref, use_of, with_entry, with_define, with_arg, with_use, text_of, text_at, number, no_value, truth_value, number_value, text_value, Said, said, entry_said, value_said, define_said, arg_said, use_said, says_row, says_symbol, says_predicate, says_literal, says_entry, says_define, says_arg, says_use, says_width, says_result}
+use Rattle.xf_format.specs.Actions.{Action, begins, defines, argument_is, operand, symbol_is, private_is, predicate_is}
+use Rattle.xf_format.specs.Actions.{literal_is, truth_is, width_is, width_left_out, result_is, unit_entry, truth_entry}
+use Rattle.xf_format.specs.Actions.{text_entry, integer_entry, typed_entry, tensor_type, unread_rest, of_first}
+use Rattle.xf_format.specs.Actions.{of_one_or_two, of_two, of_three, Reading, Saying, count_in, one_or, parts_by}
+use Rattle.xf_format.specs.Actions.{said_by, add, tell, room, space, IsHeld, Says}
+use Rattle.xf_format.specs.Parts.{ref, use_of, with_entry, with_define, with_arg, with_use, text_of, text_at, number}
+use Rattle.xf_format.specs.Parts.{no_value, truth_value, number_value, text_value, Said, said, entry_said, value_said}
+use Rattle.xf_format.specs.Parts.{define_said, arg_said, use_said, says_symbol, says_literal, says_entry, says_define}
+use Rattle.xf_format.specs.Parts.{says_arg, says_use}
 use Rattle.xf_format.specs.Rules.{language}
 use Rattle.xf_format.specs.Tests.{Test, a_result, tested}
-use Rattle.xf_format.specs.Words.{width_meant, predicate_meant, row_begun, the_row}
-
--- ---- what is held, on both sides
-
-abbrev Held : Type 0
-Held = ℕ × Terminal
-
-first_says : {C D : Type 0} (all : List Token) (view : C → D) (f : Held → C) (g : Terminal → D) (c : C) → ((x : Held) → IsHeld all x → view (f x) ≡ g x.1)
-    → (hs : List Held) → All (IsHeld all) hs → view (of_first hs c f) ≡ of_first (map (λ x. x.1) hs) (view c) g
-first_says all view f g c e [] s = refl
-first_says all view f g c e (x ∷ xs) s = e x (All-head (IsHeld all) x xs s)
-
-one_or_two_says : {C D : Type 0} (all : List Token) (view : C → D) (f : Held → Option Held → C) (g : Terminal → Option Terminal → D) (c : C)
-    → ((x : Held) (k : Option Held) → IsHeld all x → view (f x k) ≡ g x.1 (option_map (λ y. y.1) k))
-    → (hs : List Held) → All (IsHeld all) hs → view (of_one_or_two hs c f) ≡ of_one_or_two (map (λ x. x.1) hs) (view c) g
-one_or_two_says all view f g c e [] s = refl
-one_or_two_says all view f g c e (x ∷ []) s = e x None (All-head (IsHeld all) x [] s)
-one_or_two_says all view f g c e (x ∷ (y ∷ ys)) s = e x (Some y) (All-head (IsHeld all) x (y ∷ ys) s)
-
-two_says : {C D : Type 0} (all : List Token) (view : C → D) (f : Held → Held → C) (g : Terminal → Terminal → D) (c : C)
-    → ((x y : Held) → IsHeld all x → IsHeld all y → view (f x y) ≡ g x.1 y.1)
-    → (hs : List Held) → All (IsHeld all) hs → view (of_two hs c f) ≡ of_two (map (λ x. x.1) hs) (view c) g
-two_says all view f g c e [] s = refl
-two_says all view f g c e (x ∷ []) s = refl
-two_says all view f g c e (x ∷ (y ∷ ys)) s = e x y (All-head (IsHeld all) x (y ∷ ys) s) (All-head (IsHeld all) y ys (All-tail (IsHeld all) x (y ∷ ys) s))
-
-three_says : {C D : Type 0} (all : List Token) (view : C → D) (f : Held → Held → Held → C) (g : Terminal → Terminal → Terminal → D) (c : C)
-    → ((x y z : Held) → IsHeld all x → IsHeld all y → view (f x y z) ≡ g x.1 y.1 z.1)
-    → (hs : List Held) → All (IsHeld all) hs → view (of_three hs c f) ≡ of_three (map (λ x. x.1) hs) (view c) g
-three_says all view f g c e [] s = refl
-three_says all view f g c e (x ∷ []) s = refl
-three_says all view f g c e (x ∷ (y ∷ [])) s = refl
-three_says all view f g c e (x ∷ (y ∷ (z ∷ zs))) s = e x y z (All-head (IsHeld all) x (y ∷ (z ∷ zs)) s) (All-head (IsHeld all) y (z ∷ zs) (All-tail (IsHeld all) x (y ∷ (z ∷ zs)) s))
-
--- ---- what the parts say, where one is more
-
-entry_says : (all : List Token) (n : ℕ) (v : EntryValue) (p : Parts) → said all (with_entry n v p) ≡ says_entry (text_at all n) (value_said all v) (said all p)
-entry_says all n v p = ap (λ xs. let t : Said = record (said all p) { entries = xs } in t) (map-append (entry_said all) p.entries ((record { name = n; value = v }) ∷ []))
-
-define_says : (all : List Token) (r : Ref) (p : Parts) → said all (with_define r p) ≡ says_define (text_at all r.token) r.count (said all p)
-define_says all r p = ap (λ xs. let t : Said = record (said all p) { defines = xs } in t) (map-append (define_said all) p.defines (r ∷ []))
-
-arg_says : (all : List Token) (r : Ref) (p : Parts) → said all (with_arg r p) ≡ says_arg (text_at all r.token) (said all p)
-arg_says all r p = ap (λ xs. let t : Said = record (said all p) { args = xs } in t) (map-append (arg_said all) p.args (r ∷ []))
-
-use_says : (all : List Token) (u : Use) (p : Parts) → said all (with_use u p) ≡ says_use (text_at all u.token) u.number (said all p)
-use_says all u p = ap (λ xs. let t : Said = record (said all p) { uses = xs } in t) (map-append (use_said all) p.uses (u ∷ []))
-
--- ---- the actions
-
-acted : (all : List Token) (k : Action) (hs : List Held) (p : Parts) → All (IsHeld all) hs → said all (parts_by k hs p) ≡ said_by k (map (λ x. x.1) hs) (said all p)
-acted all begins hs p s = first_says all (said all) _ (λ x. says_row (the_row (row_begun x)) (said all p)) p (λ x q. refl) hs s
-acted all defines hs p s =
-    one_or_two_says all (said all) _ (λ x k. says_define (text_of x) (one_or (count_in k)) (said all p)) p
-    (λ x k q. define_says all (ref x.0 (one_or (count_in (option_map (λ y. y.1) k)))) p ∙ ap (λ y. says_define (text_of y) (one_or (count_in (option_map (λ y. y.1) k))) (said all p)) q) hs s
-acted all argument_is hs p s =
-    first_says all (said all) _ (λ x. says_arg (text_of x) (said all p)) p (λ x q. arg_says all (ref x.0 1) p ∙ ap (λ y. says_arg (text_of y) (said all p)) q) hs s
-acted all operand hs p s =
-    one_or_two_says all (said all) _ (λ x k. says_use (text_of x) (count_in k) (said all p)) p
-    (λ x k q. use_says all (use_of x.0 (count_in (option_map (λ y. y.1) k))) p ∙ ap (λ y. says_use (text_of y) (count_in (option_map (λ y. y.1) k)) (said all p)) q) hs s
-acted all symbol_is hs p s = first_says all (said all) _ (λ x. says_symbol (text_of x) (said all p)) p (λ x q. ap (λ y. says_symbol (text_of y) (said all p)) q) hs s
-acted all private_is hs p s = refl
-acted all predicate_is hs p s = first_says all (said all) _ (λ x. says_predicate (predicate_meant x) (said all p)) p (λ x q. refl) hs s
-acted all (literal_is negative) hs p s =
-    first_says all (said all) _ (λ x. says_literal (number negative (text_of x)) (said all p)) p (λ x q. ap (λ y. says_literal (number negative (text_of y)) (said all p)) q) hs s
-acted all (truth_is b) hs p s = refl
-acted all width_is hs p s = first_says all (said all) _ (λ x. says_width (width_meant x) (said all p)) p (λ x q. refl) hs s
-acted all (width_left_out w) hs p s = refl
-acted all result_is hs p s = first_says all (said all) _ (λ x. says_result (width_meant x) (said all p)) p (λ x q. refl) hs s
-acted all unit_entry hs p s =
-    first_says all (said all) _ (λ x. says_entry (text_of x) no_value (said all p)) p (λ x q. entry_says all x.0 value.Unit p ∙ ap (λ y. says_entry (text_of y) no_value (said all p)) q) hs s
-acted all (truth_entry b) hs p s =
-    first_says all (said all) _ (λ x. says_entry (text_of x) (truth_value b) (said all p)) p
-    (λ x q. entry_says all x.0 (value.Truth b) p ∙ ap (λ y. says_entry (text_of y) (truth_value b) (said all p)) q) hs s
-acted all text_entry hs p s =
-    two_says all (said all) _ (λ x y. says_entry (text_of x) (text_value (text_of y)) (said all p)) p
-    (λ x y q r. entry_says all x.0 (value.Text y.0) p
-    ∙ (ap (λ z. says_entry (text_of z) (text_value (text_at all y.0)) (said all p)) q ∙ ap (λ z. says_entry (text_of x.1) (text_value (text_of z)) (said all p)) r)) hs s
-acted all (integer_entry negative w) hs p s =
-    two_says all (said all) _ (λ x y. says_entry (text_of x) (number_value negative (text_of y) w) (said all p)) p
-    (λ x y q r. entry_says all x.0 (value.Integer negative y.0 w) p
-    ∙ (ap (λ z. says_entry (text_of z) (number_value negative (text_at all y.0) w) (said all p)) q ∙ ap (λ z. says_entry (text_of x.1) (number_value negative (text_of z) w) (said all p)) r)) hs s
-acted all (typed_entry negative) hs p s =
-    three_says all (said all) _ (λ x y z. says_entry (text_of x) (number_value negative (text_of y) (width_meant z)) (said all p)) p
-    (λ x y z q r. entry_says all x.0 (value.Integer negative y.0 (width_meant z.1)) p
-    ∙ (ap (λ c. says_entry (text_of c) (number_value negative (text_at all y.0) (width_meant z.1)) (said all p)) q
-    ∙ ap (λ c. says_entry (text_of x.1) (number_value negative (text_of c) (width_meant z.1)) (said all p)) r)) hs s
-acted all tensor_type hs p s = refl
-acted all unread_rest hs p s = refl
-
-added : (all : List Token) (k : Action) (h : Reading) (t : Saying) → Says all h t → Says all (add k h) (tell k t)
-added all k h t s = record {
-  tokens = All-nil (IsHeld all);
-  held = refl;
-  parts = acted all k h.held h.parts s.tokens ∙ (ap (λ hs. said_by k hs (said all h.parts)) s.held ∙ ap (said_by k t.held) s.parts);
-}
-
--- ---- room
-
-as_long : {A B : Type 0} (f : A → B) (xs : List A) (of : Said → List B) (s t : Said) → of s ≡ map f xs → s ≡ t → length xs ≡ length (of t)
-as_long f xs of s t e q = sym (length-map xs f) ∙ (ap length (sym e) ∙ ap (λ u. length (of u)) q)
-
-below_most : (m n : ℕ) → m ≡ n → nat_lt m most_entries ≡ nat_lt n most_entries
-below_most m n e = ap (λ k. nat_lt k most_entries) e
-
-args_room : (all : List Token) (h : Reading) (t : Saying) → Says all h t → nat_lt (length h.parts.args) most_entries ≡ nat_lt (length t.said.args) most_entries
-args_room all h t s = below_most _ _ (as_long (arg_said all) h.parts.args (λ u. u.args) (said all h.parts) t.said refl s.parts)
-
-uses_room : (all : List Token) (h : Reading) (t : Saying) → Says all h t → nat_lt (length h.parts.uses) most_entries ≡ nat_lt (length t.said.uses) most_entries
-uses_room all h t s = below_most _ _ (as_long (use_said all) h.parts.uses (λ u. u.uses) (said all h.parts) t.said refl s.parts)
-
-types_room : (all : List Token) (h : Reading) (t : Saying) → Says all h t → nat_lt (length h.parts.types) most_entries ≡ nat_lt (length t.said.types) most_entries
-types_room all h t s = below_most _ _ (ap (λ u. length u.types) s.parts)
-
-results_room : (all : List Token) (h : Reading) (t : Saying) → Says all h t → nat_lt (length h.parts.results) most_entries ≡ nat_lt (length t.said.results) most_entries
-results_room all h t s = below_most _ _ (ap (λ u. length u.results) s.parts)
-
-entries_room : (all : List Token) (h : Reading) (t : Saying) → Says all h t → nat_lt (length h.parts.entries) most_entries ≡ nat_lt (length t.said.entries) most_entries
-entries_room all h t s = below_most _ _ (as_long (entry_said all) h.parts.entries (λ u. u.entries) (said all h.parts) t.said refl s.parts)
-
-roomy : (all : List Token) (k : Action) (h : Reading) (t : Saying) → Says all h t → room k h ≡ space k t
-roomy all argument_is h t s = args_room all h t s
-roomy all operand h t s = uses_room all h t s
-roomy all (truth_is b) h t s = types_room all h t s
-roomy all width_is h t s = types_room all h t s
-roomy all (width_left_out w) h t s = types_room all h t s
-roomy all result_is h t s = results_room all h t s
-roomy all unit_entry h t s = entries_room all h t s
-roomy all (truth_entry b) h t s = entries_room all h t s
-roomy all text_entry h t s = entries_room all h t s
-roomy all (integer_entry negative w) h t s = entries_room all h t s
-roomy all (typed_entry negative) h t s = entries_room all h t s
-roomy all k h t s = refl
+use Rattle.xf_format.specs.Words.{width_meant}
 
 -- ---- tests
 
@@ -164,18 +39,175 @@ pub no_end : (x : Test) (hs : List Terminal) → tested x the_end hs ≡ false
 no_end (a_result l) hs = no_result l hs
 no_end x hs = refl
 
-pushed : (all : List Token) (h : Reading) (t : Saying) (at : ℕ) → Says all h t → Says all (language.push at (terminal_at all at) h) (language.hold (terminal_at all at) t)
-pushed all h t at s = record {
-  tokens = All-push (IsHeld all) h.held (at, terminal_at all at) s.tokens refl;
-  held = map-append (λ (x : Held). x.1) h.held ((at, terminal_at all at) ∷ []) ∙ ap (λ hs. hs ++ terminal_at all at ∷ []) s.held;
-  parts = s.parts;
-}
+-- ---- what is held, on both sides
 
-pub lawful : (all : List Token) → Lawful language all (Says all)
-lawful all = record {
-  ended = λ x h. no_end x (map (λ y. y.1) h.held);
-  pushed = pushed all;
-  added = added all;
-  roomy = roomy all;
-  tested = λ x y h t s. ap (tested x y) s.held;
-}
+abbrev Held : Type 0
+Held = ℕ × Terminal
+
+module _ (all : List Token) where
+  first_says : {C D : Type 0} (view : C → D) (f : Held → C) (g : Terminal → D) (c : C)
+      → ((x : Held) → IsHeld all x → view (f x) ≡ g x.1) → (hs : List Held) → All (IsHeld all) hs
+      → view (of_first hs c f) ≡ of_first (map (λ x. x.1) hs) (view c) g
+  first_says view f g c e [] s = refl
+  first_says view f g c e (x ∷ xs) s = e x (All-head (IsHeld all) x xs s)
+
+  one_or_two_says : {C D : Type 0} (view : C → D) (f : Held → Option Held → C) (g : Terminal → Option Terminal → D)
+      (c : C) → ((x : Held) (k : Option Held) → IsHeld all x → view (f x k) ≡ g x.1 (option_map (λ y. y.1) k))
+      → (hs : List Held) → All (IsHeld all) hs
+      → view (of_one_or_two hs c f) ≡ of_one_or_two (map (λ x. x.1) hs) (view c) g
+  one_or_two_says view f g c e [] s = refl
+  one_or_two_says view f g c e (x ∷ []) s = e x None (All-head (IsHeld all) x [] s)
+  one_or_two_says view f g c e (x ∷ (y ∷ ys)) s = e x (Some y) (All-head (IsHeld all) x (y ∷ ys) s)
+
+  two_says : {C D : Type 0} (view : C → D) (f : Held → Held → C) (g : Terminal → Terminal → D) (c : C)
+      → ((x y : Held) → IsHeld all x → IsHeld all y → view (f x y) ≡ g x.1 y.1) → (hs : List Held) → All (IsHeld all) hs
+      → view (of_two hs c f) ≡ of_two (map (λ x. x.1) hs) (view c) g
+  two_says view f g c e [] s = refl
+  two_says view f g c e (x ∷ []) s = refl
+  two_says view f g c e (x ∷ (y ∷ ys)) s =
+      e x y (All-head (IsHeld all) x (y ∷ ys) s) (All-head (IsHeld all) y ys (All-tail (IsHeld all) x (y ∷ ys) s))
+
+  three_says : {C D : Type 0} (view : C → D) (f : Held → Held → Held → C) (g : Terminal → Terminal → Terminal → D)
+      (c : C) → ((x y z : Held) → IsHeld all x → IsHeld all y → view (f x y z) ≡ g x.1 y.1 z.1) → (hs : List Held)
+      → All (IsHeld all) hs → view (of_three hs c f) ≡ of_three (map (λ x. x.1) hs) (view c) g
+  three_says view f g c e [] s = refl
+  three_says view f g c e (x ∷ []) s = refl
+  three_says view f g c e (x ∷ (y ∷ [])) s = refl
+  three_says view f g c e (x ∷ (y ∷ (z ∷ zs))) s =
+      e x y z (All-head (IsHeld all) x (y ∷ (z ∷ zs)) s)
+      (All-head (IsHeld all) y (z ∷ zs) (All-tail (IsHeld all) x (y ∷ (z ∷ zs)) s))
+
+  -- ---- what the parts say, where one is more
+
+  entry_says : (n : ℕ) (v : EntryValue) (p : Parts)
+      → said all (with_entry n v p) ≡ says_entry (text_at all n) (value_said all v) (said all p)
+  entry_says n v p = ap (λ xs. let t : Said = record (said all p) { entries = xs } in t)
+      (map-append (entry_said all) p.entries ((record { name = n; value = v }) ∷ []))
+
+  define_says : (r : Ref) (p : Parts)
+      → said all (with_define r p) ≡ says_define (text_at all r.token) r.count (said all p)
+  define_says r p = ap (λ xs. let t : Said = record (said all p) { defines = xs } in t)
+      (map-append (define_said all) p.defines (r ∷ []))
+
+  arg_says : (r : Ref) (p : Parts) → said all (with_arg r p) ≡ says_arg (text_at all r.token) (said all p)
+  arg_says r p = ap (λ xs. let t : Said = record (said all p) { args = xs } in t)
+      (map-append (arg_said all) p.args (r ∷ []))
+
+  use_says : (u : Use) (p : Parts) → said all (with_use u p) ≡ says_use (text_at all u.token) u.number (said all p)
+  use_says u p = ap (λ xs. let t : Said = record (said all p) { uses = xs } in t)
+      (map-append (use_said all) p.uses (u ∷ []))
+
+  -- ---- the actions
+
+  acted : (k : Action) (hs : List Held) (p : Parts) → All (IsHeld all) hs
+      → said all (parts_by k hs p) ≡ said_by k (map (λ x. x.1) hs) (said all p)
+  acted begins hs p s = first_says (said all) _ _ p (λ x q. refl) hs s
+  acted defines hs p s =
+      one_or_two_says (said all) _ _ p (λ x k q. define_says (ref x.0 (one_or (count_in (option_map (λ y. y.1) k)))) p
+      ∙ ap (λ y. says_define (text_of y) (one_or (count_in (option_map (λ y. y.1) k))) (said all p)) q) hs s
+  acted argument_is hs p s =
+      first_says (said all) _ _ p (λ x q. arg_says (ref x.0 1) p ∙ ap (λ y. says_arg (text_of y) (said all p)) q) hs s
+  acted operand hs p s =
+      one_or_two_says (said all) _ _ p (λ x k q. use_says (use_of x.0 (count_in (option_map (λ y. y.1) k))) p
+      ∙ ap (λ y. says_use (text_of y) (count_in (option_map (λ y. y.1) k)) (said all p)) q) hs s
+  acted symbol_is hs p s = first_says (said all) _ _ p (λ x q. ap (λ y. says_symbol (text_of y) (said all p)) q) hs s
+  acted private_is hs p s = refl
+  acted predicate_is hs p s = first_says (said all) _ _ p (λ x q. refl) hs s
+  acted (literal_is negative) hs p s =
+      first_says (said all) _ _ p (λ x q. ap (λ y. says_literal (number negative (text_of y)) (said all p)) q) hs s
+  acted (truth_is b) hs p s = refl
+  acted width_is hs p s = first_says (said all) _ _ p (λ x q. refl) hs s
+  acted (width_left_out w) hs p s = refl
+  acted result_is hs p s = first_says (said all) _ _ p (λ x q. refl) hs s
+  acted unit_entry hs p s =
+      first_says (said all) _ _ p (λ x q. entry_says x.0 value.Unit p
+      ∙ ap (λ y. says_entry (text_of y) no_value (said all p)) q) hs s
+  acted (truth_entry b) hs p s =
+      first_says (said all) _ _ p (λ x q. entry_says x.0 (value.Truth b) p
+      ∙ ap (λ y. says_entry (text_of y) (truth_value b) (said all p)) q) hs s
+  acted text_entry hs p s =
+      two_says (said all) _ _ p (λ x y q r. entry_says x.0 (value.Text y.0) p
+      ∙ (ap (λ z. says_entry (text_of z) (text_value (text_at all y.0)) (said all p)) q
+      ∙ ap (λ z. says_entry (text_of x.1) (text_value (text_of z)) (said all p)) r)) hs s
+  acted (integer_entry negative w) hs p s =
+      two_says (said all) _ _ p (λ x y q r. entry_says x.0 (value.Integer negative y.0 w) p
+      ∙ (ap (λ z. says_entry (text_of z) (number_value negative (text_at all y.0) w) (said all p)) q
+      ∙ ap (λ z. says_entry (text_of x.1) (number_value negative (text_of z) w) (said all p)) r)) hs s
+  acted (typed_entry negative) hs p s =
+      three_says (said all) _ _ p (λ x y z q r. entry_says x.0 (value.Integer negative y.0 (width_meant z.1)) p
+      ∙ (ap (λ c. says_entry (text_of c) (number_value negative (text_at all y.0) (width_meant z.1)) (said all p)) q
+      ∙ ap (λ c. says_entry (text_of x.1) (number_value negative (text_of c) (width_meant z.1)) (said all p)) r)) hs s
+  acted tensor_type hs p s = refl
+  acted unread_rest hs p s = refl
+
+  added : (k : Action) (h : Reading) (t : Saying) → Says all h t → Says all (add k h) (tell k t)
+  added k h t s = record {
+    tokens = All-nil (IsHeld all);
+    held = refl;
+    parts = acted k h.held h.parts s.tokens
+        ∙ (ap (λ hs. said_by k hs (said all h.parts)) s.held ∙ ap (said_by k t.held) s.parts);
+  }
+
+  -- ---- room
+
+  as_long : {A B : Type 0} (f : A → B) (xs : List A) (of : Said → List B) (s t : Said) → of s ≡ map f xs → s ≡ t
+      → length xs ≡ length (of t)
+  as_long f xs of s t e q = sym (length-map xs f) ∙ (ap length (sym e) ∙ ap (λ u. length (of u)) q)
+
+  below_most : (m n : ℕ) → m ≡ n → nat_lt m most_entries ≡ nat_lt n most_entries
+  below_most m n e = ap (λ k. nat_lt k most_entries) e
+
+  args_room : (h : Reading) (t : Saying) → Says all h t
+      → nat_lt (length h.parts.args) most_entries ≡ nat_lt (length t.said.args) most_entries
+  args_room h t s = below_most _ _
+      (as_long (arg_said all) h.parts.args (λ u. u.args) (said all h.parts) t.said refl s.parts)
+
+  uses_room : (h : Reading) (t : Saying) → Says all h t
+      → nat_lt (length h.parts.uses) most_entries ≡ nat_lt (length t.said.uses) most_entries
+  uses_room h t s = below_most _ _
+      (as_long (use_said all) h.parts.uses (λ u. u.uses) (said all h.parts) t.said refl s.parts)
+
+  types_room : (h : Reading) (t : Saying) → Says all h t
+      → nat_lt (length h.parts.types) most_entries ≡ nat_lt (length t.said.types) most_entries
+  types_room h t s = below_most _ _ (ap (λ u. length u.types) s.parts)
+
+  results_room : (h : Reading) (t : Saying) → Says all h t
+      → nat_lt (length h.parts.results) most_entries ≡ nat_lt (length t.said.results) most_entries
+  results_room h t s = below_most _ _ (ap (λ u. length u.results) s.parts)
+
+  entries_room : (h : Reading) (t : Saying) → Says all h t
+      → nat_lt (length h.parts.entries) most_entries ≡ nat_lt (length t.said.entries) most_entries
+  entries_room h t s = below_most _ _
+      (as_long (entry_said all) h.parts.entries (λ u. u.entries) (said all h.parts) t.said refl s.parts)
+
+  roomy : (k : Action) (h : Reading) (t : Saying) → Says all h t → room k h ≡ space k t
+  roomy argument_is h t s = args_room h t s
+  roomy operand h t s = uses_room h t s
+  roomy (truth_is b) h t s = types_room h t s
+  roomy width_is h t s = types_room h t s
+  roomy (width_left_out w) h t s = types_room h t s
+  roomy result_is h t s = results_room h t s
+  roomy unit_entry h t s = entries_room h t s
+  roomy (truth_entry b) h t s = entries_room h t s
+  roomy text_entry h t s = entries_room h t s
+  roomy (integer_entry negative w) h t s = entries_room h t s
+  roomy (typed_entry negative) h t s = entries_room h t s
+  roomy k h t s = refl
+
+  pushed : (h : Reading) (t : Saying) (at : ℕ) → Says all h t
+      → Says all (language.push at (terminal_at all at) h) (language.hold (terminal_at all at) t)
+  pushed h t at s = record {
+    tokens = All-push (IsHeld all) h.held (at, terminal_at all at) s.tokens refl;
+    held = map-append (λ (x : Held). x.1) h.held ((at, terminal_at all at) ∷ [])
+        ∙ ap (λ hs. hs ++ terminal_at all at ∷ []) s.held;
+    parts = s.parts;
+  }
+
+  pub lawful : Lawful language all (Says all)
+  lawful = record {
+    ended = λ x h. no_end x (map (λ y. y.1) h.held);
+    pushed = pushed;
+    added = added;
+    roomy = roomy;
+    tested = λ x y h t s. ap (tested x y) s.held;
+  }

@@ -14,7 +14,13 @@ use Rattle.xf_format.specs.declared.row.Row.{Row}
 use Rattle.xf_format.specs.Actions.{Action, begins, result_is, Reading, Saying, parts_by, said_by}
 use Rattle.xf_format.specs.Format.{ends_open}
 use Rattle.xf_format.specs.Parts.{Said}
-use Rattle.xf_format.specs.Rules.{language, kind_rule, word_rule, symbol_rule, module_name_rule, function_name_rule, argument_rule, use_rule, width_rule, type_rule, result_rule, predicate_rule, block_name_rule, number_rule, literal_rule, entry_width_rule, entry_number_rule, entry_value_rule, entry_rule, param_rule, pair_rule, until_rule, dictionary_rule, attributes_rule, result_types_rule, call_results_rule, function_results_rule, listed_results_rule, if_results_rule, operands_rule, iter_args_rule, loop_width_rule, slot_rule, slots_rule}
+use Rattle.xf_format.specs.Rules.{language, kind_rule, word_rule, symbol_rule, module_name_rule, function_name_rule}
+use Rattle.xf_format.specs.Rules.{argument_rule, use_rule, width_rule, type_rule, result_rule, predicate_rule}
+use Rattle.xf_format.specs.Rules.{block_name_rule, number_rule, literal_rule, entry_width_rule, entry_number_rule}
+use Rattle.xf_format.specs.Rules.{entry_value_rule, entry_rule, param_rule, pair_rule, until_rule, dictionary_rule}
+use Rattle.xf_format.specs.Rules.{attributes_rule, result_types_rule, call_results_rule, function_results_rule}
+use Rattle.xf_format.specs.Rules.{listed_results_rule, if_results_rule, operands_rule, iter_args_rule, loop_width_rule}
+use Rattle.xf_format.specs.Rules.{slot_rule, slots_rule}
 use Rattle.xf_format.specs.Tests.{State, unread_text}
 use Rattle.xf_format.proofs.Lawful.{no_end}
 
@@ -32,12 +38,17 @@ leaves_results begins = false
 leaves_results result_is = false
 leaves_results k = true
 
-pub slots_only : (ok : Action → Bool) → ((s : FormatElement) → acts_only ok every (slot_rule s) ≡ true) → (ss : List FormatElement) → acts_only ok every (slots_rule ss) ≡ true
+pub slots_only : (ok : Action → Bool) → ((s : FormatElement) → acts_only ok every (slot_rule s) ≡ true)
+    → (ss : List FormatElement) → acts_only ok every (slots_rule ss) ≡ true
 slots_only ok one [] = refl
 slots_only ok one (s ∷ ss) = and_is _ _ (one s) (slots_only ok one ss)
 
 pub slot_leaves_row : (s : FormatElement) → acts_only leaves_row every (slot_rule s) ≡ true
-unfolding kind_rule word_rule symbol_rule module_name_rule function_name_rule argument_rule use_rule width_rule type_rule result_rule predicate_rule block_name_rule number_rule literal_rule entry_width_rule entry_number_rule entry_value_rule entry_rule param_rule pair_rule until_rule dictionary_rule attributes_rule result_types_rule call_results_rule function_results_rule listed_results_rule if_results_rule operands_rule iter_args_rule loop_width_rule
+unfolding kind_rule word_rule symbol_rule module_name_rule function_name_rule argument_rule use_rule width_rule
+    type_rule result_rule predicate_rule block_name_rule number_rule literal_rule entry_width_rule entry_number_rule
+    entry_value_rule entry_rule param_rule pair_rule until_rule dictionary_rule attributes_rule result_types_rule
+    call_results_rule function_results_rule listed_results_rule if_results_rule operands_rule iter_args_rule
+    loop_width_rule
 slot_leaves_row (slot.Mark gap b) = refl
 slot_leaves_row s = refl
 
@@ -57,7 +68,8 @@ row_told k (x ∷ []) t e = refl
 row_told k (x ∷ (y ∷ [])) t e = refl
 row_told k (x ∷ (y ∷ (z ∷ zs))) t e = refl
 
-open_told : (k : Action) (hs : List Terminal) (t : Said) → leaves_results k ≡ true → ends_open (said_by k hs t).row (said_by k hs t).results ≡ ends_open t.row t.results
+open_told : (k : Action) (hs : List Terminal) (t : Said) → leaves_results k ≡ true
+    → ends_open (said_by k hs t).row (said_by k hs t).results ≡ ends_open t.row t.results
 open_told begins hs t e = absurd cc
 open_told result_is hs t e = absurd cc
 open_told k [] t e = refl
@@ -80,26 +92,42 @@ keeps_row all r = record {
     confined : (m : State) (x : Terminal) → step_only leaves_row every (language.step m x) ≡ true
     confined unread_text x = refl
 
-pub slots_keep_row : (all : List Token) (ss : List FormatElement) (f : ℕ) (h h' : Reading) (at next : ℕ) → read language f (slots_rule ss) all h at ≡ Ok (h', next) → h'.parts.row ≡ h.parts.row
-slots_keep_row all ss f h h' at next e = kept_at language all leaves_row every (λ n k. k.parts.row ≡ h.parts.row) (keeps_row all h.parts.row) f (slots_rule ss) h h' at next (slots_only leaves_row slot_leaves_row ss) refl e
+pub slots_keep_row : (all : List Token) (ss : List FormatElement) (f : ℕ) (h h' : Reading) (at next : ℕ)
+    → read language f (slots_rule ss) all h at ≡ Ok (h', next) → h'.parts.row ≡ h.parts.row
+slots_keep_row all ss f h h' at next e =
+    kept_at language all leaves_row every (λ n k. k.parts.row ≡ h.parts.row) (keeps_row all h.parts.row) f
+    (slots_rule ss) h h' at next (slots_only leaves_row slot_leaves_row ss) refl e
 
 -- and what it says
 row_ignored : Ignores language leaves_row every (λ t. t.said.row)
-row_ignored = record { confined = λ m x e. confined m x; held = λ x t. refl; told = λ k t o. row_told k t.held t.said o }
+row_ignored = record {
+  confined = λ m x e. confined m x;
+  held = λ x t. refl;
+  told = λ k t o. row_told k t.held t.said o;
+}
   where
     confined : (m : State) (x : Terminal) → step_only leaves_row every (language.step m x) ≡ true
     confined unread_text x = refl
 
-pub slots_say_row : (ss : List FormatElement) (p : Fill) (t : Saying) → (tells language (slots_rule ss) p t).said.row ≡ t.said.row
-slots_say_row ss p t = telling language leaves_row every (λ t. t.said.row) row_ignored (slots_rule ss) p t (slots_only leaves_row slot_leaves_row ss)
+pub slots_say_row : (ss : List FormatElement) (p : Fill) (t : Saying)
+    → (tells language (slots_rule ss) p t).said.row ≡ t.said.row
+slots_say_row ss p t = telling language leaves_row every (λ t. t.said.row) row_ignored (slots_rule ss) p t
+    (slots_only leaves_row slot_leaves_row ss)
 
 open_ignored : Ignores language leaves_results every (λ t. ends_open t.said.row t.said.results)
-open_ignored = record { confined = λ m x e. confined m x; held = λ x t. refl; told = λ k t o. open_told k t.held t.said o }
+open_ignored = record {
+  confined = λ m x e. confined m x;
+  held = λ x t. refl;
+  told = λ k t o. open_told k t.held t.said o;
+}
   where
     confined : (m : State) (x : Terminal) → step_only leaves_results every (language.step m x) ≡ true
     confined unread_text x = refl
 
 -- whether the terminator may be left out, where no slot has types of results
-pub slots_say_open : (ss : List FormatElement) → acts_only leaves_results every (slots_rule ss) ≡ true → (p : Fill) (t : Saying)
-    → ends_open (tells language (slots_rule ss) p t).said.row (tells language (slots_rule ss) p t).said.results ≡ ends_open t.said.row t.said.results
-slots_say_open ss e p t = telling language leaves_results every (λ t. ends_open t.said.row t.said.results) open_ignored (slots_rule ss) p t e
+pub slots_say_open : (ss : List FormatElement) → acts_only leaves_results every (slots_rule ss) ≡ true
+    → (p : Fill) (t : Saying)
+    → ends_open (tells language (slots_rule ss) p t).said.row (tells language (slots_rule ss) p t).said.results
+    ≡ ends_open t.said.row t.said.results
+slots_say_open ss e p t = telling language leaves_results every (λ t. ends_open t.said.row t.said.results) open_ignored
+    (slots_rule ss) p t e

@@ -1,5 +1,5 @@
--- The tokens in the parts of a head are of their kinds, and names and strings are short ones: once, by the actions and the tests that
--- they stand behind.
+-- The tokens in the parts of a head are of their kinds, and names and strings are short ones: once, by the actions and
+-- the tests that they stand behind.
 use Rattle.std.proofs.Common.{◌≡◌, ℕ, Bool, true, false, List, [], ◌∷◌, ◌++◌, Option, Some, None, refl}
 use Rattle.std.specs.Prelude.{All, map}
 use Rattle.std.proofs.lemmas.List.Elements.{All-nil, All-push}
@@ -25,12 +25,22 @@ use Rattle.xf_format.specs.declared.row.FormatElement.TheVariants as slot
 use Rattle.xf_format.specs.declared.row.Level.{Level}
 use Rattle.xf_format.specs.declared.row.Row.{Row}
 use Rattle.xf_format.specs.declared.row.Row.TheVariants as row
-use Rattle.xf_format.specs.Actions.{Action, begins, defines, argument_is, operand, symbol_is, private_is, predicate_is, literal_is, truth_is, width_is, width_left_out, result_is, unit_entry, truth_entry, text_entry, integer_entry, typed_entry, tensor_type, unread_rest, of_first, of_one_or_two, of_two, of_three, Reading, parts_by}
+use Rattle.xf_format.specs.Actions.{Action, begins, defines, argument_is, operand, symbol_is, private_is, predicate_is}
+use Rattle.xf_format.specs.Actions.{literal_is, truth_is, width_is, width_left_out, result_is, unit_entry, truth_entry}
+use Rattle.xf_format.specs.Actions.{text_entry, integer_entry, typed_entry, tensor_type, unread_rest, of_first}
+use Rattle.xf_format.specs.Actions.{of_one_or_two, of_two, of_three, Reading, parts_by}
 use Rattle.xf_format.specs.Format.{format}
 use Rattle.xf_format.specs.Parts.{no_parts, with_symbol, with_literal, with_entry, with_define, with_arg, with_use}
 use Rattle.xf_format.specs.Rows.{slots, header, tail}
-use Rattle.xf_format.specs.Rules.{language, kind_rule, word_rule, symbol_rule, module_name_rule, function_name_rule, argument_rule, use_rule, width_rule, type_rule, result_rule, predicate_rule, block_name_rule, number_rule, literal_rule, entry_width_rule, entry_number_rule, entry_value_rule, entry_rule, param_rule, pair_rule, until_rule, dictionary_rule, attributes_rule, result_types_rule, call_results_rule, function_results_rule, listed_results_rule, if_results_rule, operands_rule, iter_args_rule, loop_width_rule, slot_rule, slots_rule, row_rule, defines_rule, head_rule}
-use Rattle.xf_format.specs.Tests.{Test, of_kind, short_symbol, short_word, short_text, integer_for, a_result, is_symbol, is_name, is_string, State, unread_text}
+use Rattle.xf_format.specs.Rules.{language, kind_rule, word_rule, symbol_rule, module_name_rule, function_name_rule}
+use Rattle.xf_format.specs.Rules.{argument_rule, use_rule, width_rule, type_rule, result_rule, predicate_rule}
+use Rattle.xf_format.specs.Rules.{block_name_rule, number_rule, literal_rule, entry_width_rule, entry_number_rule}
+use Rattle.xf_format.specs.Rules.{entry_value_rule, entry_rule, param_rule, pair_rule, until_rule, dictionary_rule}
+use Rattle.xf_format.specs.Rules.{attributes_rule, result_types_rule, call_results_rule, function_results_rule}
+use Rattle.xf_format.specs.Rules.{listed_results_rule, if_results_rule, operands_rule, iter_args_rule, loop_width_rule}
+use Rattle.xf_format.specs.Rules.{slot_rule, slots_rule, row_rule, defines_rule, head_rule}
+use Rattle.xf_format.specs.Tests.{Test, of_kind, short_symbol, short_word, short_text, integer_for, a_result, is_symbol}
+use Rattle.xf_format.specs.Tests.{is_name, is_string, State, unread_text}
 use Rattle.xf_format.proofs.Lawful.{no_end}
 
 -- ---- kinds
@@ -72,30 +82,6 @@ pub record Inside (all : List Token) (h : Parts) : Type 0 where
   pub args : All (NameOf all) h.args
   pub uses : All (UseOf all) h.uses
 
--- ---- what is added
-
-symbol_added : (all : List Token) (at : ℕ) (h : Parts) → is_symbol (terminal_at all at) ≡ true → Inside all h → Inside all (with_symbol at h)
-symbol_added all at h p w = record { symbol = p; literal = w.literal; entries = w.entries; defines = w.defines; args = w.args; uses = w.uses }
-
-literal_added : (all : List Token) (l : Literal) (h : Parts) → LiteralOf all (Some l) → Inside all h → Inside all (with_literal l h)
-literal_added all l h p w = record { symbol = w.symbol; literal = p; entries = w.entries; defines = w.defines; args = w.args; uses = w.uses }
-
-entry_added : (all : List Token) (name : ℕ) (v : EntryValue) (h : Parts) → is_name (terminal_at all name) ≡ true → ValueOf all v → Inside all h → Inside all (with_entry name v h)
-entry_added all name v h k p w =
-    record { symbol = w.symbol; literal = w.literal; entries = All-push (EntryOf all) h.entries _ w.entries (k, p); defines = w.defines; args = w.args; uses = w.uses }
-
-define_added : (all : List Token) (r : Ref) (h : Parts) → NameOf all r → Inside all h → Inside all (with_define r h)
-define_added all r h p w = record { symbol = w.symbol; literal = w.literal; entries = w.entries; defines = All-push (NameOf all) h.defines r w.defines p; args = w.args; uses = w.uses }
-
-arg_added : (all : List Token) (r : Ref) (h : Parts) → NameOf all r → Inside all h → Inside all (with_arg r h)
-arg_added all r h p w = record { symbol = w.symbol; literal = w.literal; entries = w.entries; defines = w.defines; args = All-push (NameOf all) h.args r w.args p; uses = w.uses }
-
-use_added : (all : List Token) (u : Use) (h : Parts) → UseOf all u → Inside all h → Inside all (with_use u h)
-use_added all u h p w = record { symbol = w.symbol; literal = w.literal; entries = w.entries; defines = w.defines; args = w.args; uses = All-push (UseOf all) h.uses u w.uses p }
-
-same_inside : (all : List Token) (h k : Parts) → k.symbol ≡ h.symbol → k.literal ≡ h.literal → k.entries ≡ h.entries → k.defines ≡ h.defines → k.args ≡ h.args → k.uses ≡ h.uses → Inside all h → Inside all k
-same_inside all h k p q r s t u w = record { symbol = rw p w.symbol; literal = rw q w.literal; entries = rw r w.entries; defines = rw s w.defines; args = rw t w.args; uses = rw u w.uses }
-
 -- ---- what a test tells
 
 abbrev Known : Test → Terminal → Type 0
@@ -115,42 +101,6 @@ known short_text x h e = e
 known (integer_for negative w) x h e = (both_true _ _ e).0
 known (a_result l) x h e = (both_true _ _ e).1
 known t x h e = tt
-
--- the tokens that are held have passed these tests
-abbrev Held : List Token → List (ℕ × Terminal) → List Test → Type 0
-Held all [] [] = Unit {0}
-Held all (y ∷ ys) (t ∷ ts) = Known t (terminal_at all y.0) × Held all ys ts
-Held all ys ts = ⊥
-
-held_push : (all : List Token) (ys : List (ℕ × Terminal)) (ts : List Test) (at : ℕ) (x : Terminal) (t : Test) → Known t (terminal_at all at) → Held all ys ts → Held all (ys ++ (at, x) ∷ []) (ts ++ t ∷ [])
-held_push all [] [] at x t k w = (k, tt)
-held_push all [] (u ∷ ts) at x t k w = absurd w
-held_push all (y ∷ ys) [] at x t k w = absurd w
-held_push all (y ∷ ys) (u ∷ ts) at x t k w = (w.0, held_push all ys ts at x t k w.1)
-
-first_has : {C : Type 0} (all : List Token) (P : C → Type 0) (t : Test) (ts : List Test) (c : C) (f : ℕ × Terminal → C) → ((y : ℕ × Terminal) → Known t (terminal_at all y.0) → P (f y))
-    → (hs : List (ℕ × Terminal)) → Held all hs (t ∷ ts) → P (of_first hs c f)
-first_has all P t ts c f r [] w = absurd w
-first_has all P t ts c f r (y ∷ ys) w = r y w.0
-
-one_or_two_has : {C : Type 0} (all : List Token) (P : C → Type 0) (t : Test) (ts : List Test) (c : C) (f : ℕ × Terminal → Option (ℕ × Terminal) → C) → ((y : ℕ × Terminal) (k : Option (ℕ × Terminal)) → Known t (terminal_at all y.0) → P (f y k))
-    → (hs : List (ℕ × Terminal)) → Held all hs (t ∷ ts) → P (of_one_or_two hs c f)
-one_or_two_has all P t ts c f r [] w = absurd w
-one_or_two_has all P t ts c f r (y ∷ []) w = r y None w.0
-one_or_two_has all P t ts c f r (y ∷ (z ∷ ys)) w = r y (Some z) w.0
-
-two_has : {C : Type 0} (all : List Token) (P : C → Type 0) (t u : Test) (ts : List Test) (c : C) (f : ℕ × Terminal → ℕ × Terminal → C) → ((y z : ℕ × Terminal) → Known t (terminal_at all y.0) → Known u (terminal_at all z.0) → P (f y z))
-    → (hs : List (ℕ × Terminal)) → Held all hs (t ∷ (u ∷ ts)) → P (of_two hs c f)
-two_has all P t u ts c f r [] w = absurd w
-two_has all P t u ts c f r (y ∷ []) w = absurd w.1
-two_has all P t u ts c f r (y ∷ (z ∷ ys)) w = r y z w.0 w.1.0
-
-three_has : {C : Type 0} (all : List Token) (P : C → Type 0) (t u : Test) (ts : List Test) (c : C) (f : ℕ × Terminal → ℕ × Terminal → ℕ × Terminal → C) → P c
-    → ((y z x : ℕ × Terminal) → Known t (terminal_at all y.0) → Known u (terminal_at all z.0) → P (f y z x)) → (hs : List (ℕ × Terminal)) → Held all hs (t ∷ (u ∷ ts)) → P (of_three hs c f)
-three_has all P t u ts c f p r [] w = p
-three_has all P t u ts c f p r (y ∷ []) w = p
-three_has all P t u ts c f p r (y ∷ (z ∷ [])) w = p
-three_has all P t u ts c f p r (y ∷ (z ∷ (x ∷ ys))) w = r y z x w.0 w.1.0
 
 -- ---- actions
 
@@ -177,62 +127,17 @@ behind_tests tensor_type ts = true
 behind_tests unread_rest ts = true
 behind_tests k ts = false
 
--- an action that names no token of a kind
-plain_added : (all : List Token) (p : Parts) (f : ℕ × Terminal → Parts) → ((y : ℕ × Terminal) → Inside all (f y)) → (hs : List (ℕ × Terminal)) → Inside all p → Inside all (of_first hs p f)
-plain_added all p f r [] w = w
-plain_added all p f r (y ∷ ys) w = r y
-
-kinds_added : (all : List Token) (k : Action) (ts : List Test) (hs : List (ℕ × Terminal)) (p : Parts) → behind_tests k ts ≡ true → Held all hs ts → Inside all p → Inside all (parts_by k hs p)
-kinds_added all defines (a_result l ∷ ts) hs p o w i = one_or_two_has all (Inside all) (a_result l) ts p _ (λ y k e. define_added all _ p e i) hs w
-kinds_added all argument_is (of_kind kind.Value ∷ ts) hs p o w i = first_has all (Inside all) (of_kind kind.Value) ts p _ (λ y e. arg_added all _ p e i) hs w
-kinds_added all operand (of_kind kind.Value ∷ ts) hs p o w i = one_or_two_has all (Inside all) (of_kind kind.Value) ts p _ (λ y k e. use_added all _ p e i) hs w
-kinds_added all symbol_is (short_symbol ∷ ts) hs p o w i = first_has all (Inside all) short_symbol ts p _ (λ y e. symbol_added all y.0 p e i) hs w
-kinds_added all (literal_is negative) (of_kind kind.Integer ∷ ts) hs p o w i = first_has all (Inside all) (of_kind kind.Integer) ts p _ (λ y e. literal_added all (literal.Integer negative y.0) p e i) hs w
-kinds_added all unit_entry (short_word ∷ ts) hs p o w i = first_has all (Inside all) short_word ts p _ (λ y e. entry_added all y.0 value.Unit p e tt i) hs w
-kinds_added all (truth_entry b) (short_word ∷ ts) hs p o w i = first_has all (Inside all) short_word ts p _ (λ y e. entry_added all y.0 (value.Truth b) p e tt i) hs w
-kinds_added all text_entry (short_word ∷ (short_text ∷ ts)) hs p o w i = two_has all (Inside all) short_word short_text ts p _ (λ y z e d. entry_added all y.0 (value.Text z.0) p e d i) hs w
-kinds_added all (integer_entry negative v) (short_word ∷ (integer_for n u ∷ ts)) hs p o w i =
-    two_has all (Inside all) short_word (integer_for n u) ts p _ (λ y z e d. entry_added all y.0 (value.Integer negative z.0 v) p e d i) hs w
-kinds_added all (typed_entry negative) (short_word ∷ (integer_for n u ∷ ts)) hs p o w i =
-    three_has all (Inside all) short_word (integer_for n u) ts p _ i (λ y z x e d. entry_added all y.0 _ p e d i) hs w
-kinds_added all begins ts hs p o w i = plain_added all p _ (λ y. same_inside all p _ refl refl refl refl refl refl i) hs i
-kinds_added all private_is ts hs p o w i = same_inside all p _ refl refl refl refl refl refl i
-kinds_added all predicate_is ts hs p o w i = plain_added all p _ (λ y. same_inside all p _ refl refl refl refl refl refl i) hs i
-kinds_added all (truth_is b) ts hs p o w i = same_inside all (with_literal (literal.Truth b) p) _ refl refl refl refl refl refl (literal_added all (literal.Truth b) p tt i)
-kinds_added all width_is ts hs p o w i = plain_added all p _ (λ y. same_inside all p _ refl refl refl refl refl refl i) hs i
-kinds_added all (width_left_out v) ts hs p o w i = same_inside all p _ refl refl refl refl refl refl i
-kinds_added all result_is ts hs p o w i = plain_added all p _ (λ y. same_inside all p _ refl refl refl refl refl refl i) hs i
-kinds_added all tensor_type ts hs p o w i = i
-kinds_added all unread_rest ts hs p o w i = i
-kinds_added all k ts hs p o w i = absurd cc
-
 -- ---- rules
 
 abbrev every : State → Bool
 every m = true
 
--- the tokens that are held have passed these tests, and those of the parts are of their kinds
-abbrev OfKinds : List Token → List Test → ℕ → Reading → Type 0
-OfKinds all ts n h = Held all h.held ts × Inside all h.parts
-
-guards : (all : List Token) → Guards language all behind_tests every (OfKinds all)
-guards all = record {
-  ended = λ x h. no_end x (map (λ y. y.1) h.held);
-  silent = λ m x e. silent m x;
-  on = λ ts at h lt w. w;
-  held = λ ts t at h lt e w. (held_push all h.held ts at (terminal_at all at) t (known t (terminal_at all at) h e) w.0, w.1);
-  added = λ ts at k h o e w. (tt, kinds_added all k ts h.held h.parts o w.0 w.1);
-}
-  where
-    silent : (m : State) (x : Terminal) → silent_step every (language.step m x) ≡ true
-    silent unread_text x = refl
-
--- where no token is held
-abbrev pub HasKinds : List Token → ℕ → Reading → Type 0
-HasKinds all = OfKinds all []
-
 slot_guarded : (s : FormatElement) → guarded behind_tests every (slot_rule s) none_held [] ≡ true
-unfolding kind_rule word_rule symbol_rule module_name_rule function_name_rule argument_rule use_rule width_rule type_rule result_rule predicate_rule block_name_rule number_rule literal_rule entry_width_rule entry_number_rule entry_value_rule entry_rule param_rule pair_rule until_rule dictionary_rule attributes_rule result_types_rule call_results_rule function_results_rule listed_results_rule if_results_rule operands_rule iter_args_rule loop_width_rule
+unfolding kind_rule word_rule symbol_rule module_name_rule function_name_rule argument_rule use_rule width_rule
+    type_rule result_rule predicate_rule block_name_rule number_rule literal_rule entry_width_rule entry_number_rule
+    entry_value_rule entry_rule param_rule pair_rule until_rule dictionary_rule attributes_rule result_types_rule
+    call_results_rule function_results_rule listed_results_rule if_results_rule operands_rule iter_args_rule
+    loop_width_rule
 slot_guarded (slot.Mark gap b) = refl
 slot_guarded s = refl
 
@@ -240,24 +145,167 @@ head_guarded : (l : Level) → guarded behind_tests every (head_rule l) none_hel
 unfolding kind_rule row_rule defines_rule head_rule
 head_guarded l = refl
 
-slots_hold : (all : List Token) (ss : List FormatElement) → Holds language all (HasKinds all) (slots_rule ss)
-slots_hold all [] n h at w = w
-slots_hold all (s ∷ ss) n h at w =
-    has_behind (HasKinds all) (HasKinds all) (read language n (slot_rule s) all h at) _ (guarded_has language all behind_tests every (OfKinds all) (guards all) n (slot_rule s) h at (slot_guarded s) w)
-    (λ x v. slots_hold all ss n x.0 x.1 v)
+module _ (all : List Token) where
+  -- ---- what is added
 
-pub no_kinds : (all : List Token) (r : Row) → Inside all (no_parts r)
-no_kinds all r = record { symbol = tt; literal = tt; entries = All-nil (EntryOf all); defines = All-nil (NameOf all); args = All-nil (NameOf all); uses = All-nil (UseOf all) }
+  -- parts by all that is said of them
+  parts_in : {h : Parts} → SymbolOf all h.symbol → LiteralOf all h.literal → All (EntryOf all) h.entries
+      → All (NameOf all) h.defines → All (NameOf all) h.args → All (UseOf all) h.uses → Inside all h
+  parts_in s l e d a u = record { symbol = s; literal = l; entries = e; defines = d; args = a; uses = u }
 
--- the operations of each tree are of their kinds
-pub trees_of_kinds : (all : List Token) → TreeKeeps format all (HasKinds all) (Inside all)
-trees_of_kinds all = record {
-  ended = λ x h. no_end x (map (λ y. y.1) h.held);
-  on = λ at h lt w. w;
-  head = λ l n h at w. guarded_has language all behind_tests every (OfKinds all) (guards all) n (head_rule l) h at (head_guarded l) w;
-  slots = λ r. slots_hold all (slots r);
-  header = λ r. slots_hold all (header r);
-  tail = λ r. slots_hold all (tail r);
-  start = λ at. (tt, no_kinds all row.Module);
-  parts = λ at h le w. w.1;
-}
+  symbol_added : (at : ℕ) (h : Parts) → is_symbol (terminal_at all at) ≡ true → Inside all h
+      → Inside all (with_symbol at h)
+  symbol_added at h p w = parts_in p w.literal w.entries w.defines w.args w.uses
+
+  literal_added : (l : Literal) (h : Parts) → LiteralOf all (Some l) → Inside all h → Inside all (with_literal l h)
+  literal_added l h p w = parts_in w.symbol p w.entries w.defines w.args w.uses
+
+  entry_added : (name : ℕ) (v : EntryValue) (h : Parts) → is_name (terminal_at all name) ≡ true → ValueOf all v
+      → Inside all h → Inside all (with_entry name v h)
+  entry_added name v h k p w =
+      parts_in w.symbol w.literal (All-push (EntryOf all) h.entries _ w.entries (k, p)) w.defines w.args w.uses
+
+  define_added : (r : Ref) (h : Parts) → NameOf all r → Inside all h → Inside all (with_define r h)
+  define_added r h p w =
+      parts_in w.symbol w.literal w.entries (All-push (NameOf all) h.defines r w.defines p) w.args w.uses
+
+  arg_added : (r : Ref) (h : Parts) → NameOf all r → Inside all h → Inside all (with_arg r h)
+  arg_added r h p w = parts_in w.symbol w.literal w.entries w.defines (All-push (NameOf all) h.args r w.args p) w.uses
+
+  use_added : (u : Use) (h : Parts) → UseOf all u → Inside all h → Inside all (with_use u h)
+  use_added u h p w = parts_in w.symbol w.literal w.entries w.defines w.args (All-push (UseOf all) h.uses u w.uses p)
+
+  -- the tokens that are held have passed these tests
+  abbrev Held : List (ℕ × Terminal) → List Test → Type 0
+  Held [] [] = Unit {0}
+  Held (y ∷ ys) (t ∷ ts) = Known t (terminal_at all y.0) × Held ys ts
+  Held ys ts = ⊥
+
+  held_push : (ys : List (ℕ × Terminal)) (ts : List Test) (at : ℕ) (x : Terminal) (t : Test)
+      → Known t (terminal_at all at) → Held ys ts → Held (ys ++ (at, x) ∷ []) (ts ++ t ∷ [])
+  held_push [] [] at x t k w = (k, tt)
+  held_push [] (u ∷ ts) at x t k w = absurd w
+  held_push (y ∷ ys) [] at x t k w = absurd w
+  held_push (y ∷ ys) (u ∷ ts) at x t k w = (w.0, held_push ys ts at x t k w.1)
+
+  first_has : {C : Type 0} (P : C → Type 0) (t : Test) (ts : List Test) (c : C) (f : ℕ × Terminal → C)
+      → ((y : ℕ × Terminal) → Known t (terminal_at all y.0) → P (f y)) → (hs : List (ℕ × Terminal)) → Held hs (t ∷ ts)
+      → P (of_first hs c f)
+  first_has P t ts c f r [] w = absurd w
+  first_has P t ts c f r (y ∷ ys) w = r y w.0
+
+  one_or_two_has : {C : Type 0} (P : C → Type 0) (t : Test) (ts : List Test) (c : C)
+      (f : ℕ × Terminal → Option (ℕ × Terminal) → C)
+      → ((y : ℕ × Terminal) (k : Option (ℕ × Terminal)) → Known t (terminal_at all y.0) → P (f y k))
+      → (hs : List (ℕ × Terminal)) → Held hs (t ∷ ts) → P (of_one_or_two hs c f)
+  one_or_two_has P t ts c f r [] w = absurd w
+  one_or_two_has P t ts c f r (y ∷ []) w = r y None w.0
+  one_or_two_has P t ts c f r (y ∷ (z ∷ ys)) w = r y (Some z) w.0
+
+  two_has : {C : Type 0} (P : C → Type 0) (t u : Test) (ts : List Test) (c : C) (f : ℕ × Terminal → ℕ × Terminal → C)
+      → ((y z : ℕ × Terminal) → Known t (terminal_at all y.0) → Known u (terminal_at all z.0) → P (f y z))
+      → (hs : List (ℕ × Terminal)) → Held hs (t ∷ (u ∷ ts)) → P (of_two hs c f)
+  two_has P t u ts c f r [] w = absurd w
+  two_has P t u ts c f r (y ∷ []) w = absurd w.1
+  two_has P t u ts c f r (y ∷ (z ∷ ys)) w = r y z w.0 w.1.0
+
+  three_has : {C : Type 0} (P : C → Type 0) (t u : Test) (ts : List Test) (c : C)
+      (f : ℕ × Terminal → ℕ × Terminal → ℕ × Terminal → C) → P c
+      → ((y z x : ℕ × Terminal) → Known t (terminal_at all y.0) → Known u (terminal_at all z.0) → P (f y z x))
+      → (hs : List (ℕ × Terminal)) → Held hs (t ∷ (u ∷ ts)) → P (of_three hs c f)
+  three_has P t u ts c f p r [] w = p
+  three_has P t u ts c f p r (y ∷ []) w = p
+  three_has P t u ts c f p r (y ∷ (z ∷ [])) w = p
+  three_has P t u ts c f p r (y ∷ (z ∷ (x ∷ ys))) w = r y z x w.0 w.1.0
+
+  -- an action that names no token of a kind
+  plain_added : (p : Parts) (f : ℕ × Terminal → Parts) → ((y : ℕ × Terminal) → Inside all (f y))
+      → (hs : List (ℕ × Terminal)) → Inside all p → Inside all (of_first hs p f)
+  plain_added p f r [] w = w
+  plain_added p f r (y ∷ ys) w = r y
+
+  kinds_added : (k : Action) (ts : List Test) (hs : List (ℕ × Terminal)) (p : Parts) → behind_tests k ts ≡ true
+      → Held hs ts → Inside all p → Inside all (parts_by k hs p)
+  kinds_added defines (a_result l ∷ ts) hs p o w i =
+      one_or_two_has (Inside all) _ _ p _ (λ y k e. define_added _ p e i) hs w
+  kinds_added argument_is (of_kind kind.Value ∷ ts) hs p o w i =
+      first_has (Inside all) _ _ p _ (λ y e. arg_added _ p e i) hs w
+  kinds_added operand (of_kind kind.Value ∷ ts) hs p o w i =
+      one_or_two_has (Inside all) _ _ p _ (λ y k e. use_added _ p e i) hs w
+  kinds_added symbol_is (short_symbol ∷ ts) hs p o w i =
+      first_has (Inside all) _ _ p _ (λ y e. symbol_added y.0 p e i) hs w
+  kinds_added (literal_is negative) (of_kind kind.Integer ∷ ts) hs p o w i =
+      first_has (Inside all) _ _ p _ (λ y e. literal_added (literal.Integer negative y.0) p e i) hs w
+  kinds_added unit_entry (short_word ∷ ts) hs p o w i =
+      first_has (Inside all) _ _ p _ (λ y e. entry_added y.0 value.Unit p e tt i) hs w
+  kinds_added (truth_entry b) (short_word ∷ ts) hs p o w i =
+      first_has (Inside all) _ _ p _ (λ y e. entry_added y.0 (value.Truth b) p e tt i) hs w
+  kinds_added text_entry (short_word ∷ (short_text ∷ ts)) hs p o w i =
+      two_has (Inside all) _ _ _ p _ (λ y z e d. entry_added y.0 (value.Text z.0) p e d i) hs w
+  kinds_added (integer_entry negative v) (short_word ∷ (integer_for n u ∷ ts)) hs p o w i =
+      two_has (Inside all) _ _ _ p _
+      (λ y z e d. entry_added y.0 (value.Integer negative z.0 v) p e d i) hs w
+  kinds_added (typed_entry negative) (short_word ∷ (integer_for n u ∷ ts)) hs p o w i =
+      three_has (Inside all) _ _ _ p _ i (λ y z x e d. entry_added y.0 _ p e d i) hs w
+  kinds_added begins ts hs p o w i =
+      plain_added p _ (λ y. parts_in i.symbol i.literal i.entries i.defines i.args i.uses) hs i
+  kinds_added private_is ts hs p o w i = parts_in i.symbol i.literal i.entries i.defines i.args i.uses
+  kinds_added predicate_is ts hs p o w i =
+      plain_added p _ (λ y. parts_in i.symbol i.literal i.entries i.defines i.args i.uses) hs i
+  kinds_added (truth_is b) ts hs p o w i = parts_in i.symbol tt i.entries i.defines i.args i.uses
+  kinds_added width_is ts hs p o w i =
+      plain_added p _ (λ y. parts_in i.symbol i.literal i.entries i.defines i.args i.uses) hs i
+  kinds_added (width_left_out v) ts hs p o w i = parts_in i.symbol i.literal i.entries i.defines i.args i.uses
+  kinds_added result_is ts hs p o w i =
+      plain_added p _ (λ y. parts_in i.symbol i.literal i.entries i.defines i.args i.uses) hs i
+  kinds_added tensor_type ts hs p o w i = i
+  kinds_added unread_rest ts hs p o w i = i
+  kinds_added k ts hs p o w i = absurd cc
+
+  -- the tokens that are held have passed these tests, and those of the parts are of their kinds
+  abbrev OfKinds : List Test → ℕ → Reading → Type 0
+  OfKinds ts n h = Held h.held ts × Inside all h.parts
+
+  guards : Guards language all behind_tests every OfKinds
+  guards = record {
+    ended = λ x h. no_end x (map (λ y. y.1) h.held);
+    silent = λ m x e. silent m x;
+    on = λ ts at h lt w. w;
+    held = λ ts t at h lt e w. (
+      held_push h.held ts at (terminal_at all at) t (known t (terminal_at all at) h e) w.0,
+      w.1,
+    );
+    added = λ ts at k h o e w. (tt, kinds_added k ts h.held h.parts o w.0 w.1);
+  }
+    where
+      silent : (m : State) (x : Terminal) → silent_step every (language.step m x) ≡ true
+      silent unread_text x = refl
+
+  -- where no token is held
+  abbrev pub HasKinds : ℕ → Reading → Type 0
+  HasKinds = OfKinds []
+
+  slots_hold : (ss : List FormatElement) → Holds language all HasKinds (slots_rule ss)
+  slots_hold [] n h at w = w
+  slots_hold (s ∷ ss) n h at w =
+      has_behind HasKinds HasKinds (read language n (slot_rule s) all h at) _
+      (guarded_has language all behind_tests every OfKinds guards n (slot_rule s) h at (slot_guarded s) w)
+      (λ x v. slots_hold ss n x.0 x.1 v)
+
+  pub no_kinds : (r : Row) → Inside all (no_parts r)
+  no_kinds r =
+      parts_in tt tt (All-nil (EntryOf all)) (All-nil (NameOf all)) (All-nil (NameOf all)) (All-nil (UseOf all))
+
+  -- the operations of each tree are of their kinds
+  pub trees_of_kinds : TreeKeeps format all HasKinds (Inside all)
+  trees_of_kinds = record {
+    ended = λ x h. no_end x (map (λ y. y.1) h.held);
+    on = λ at h lt w. w;
+    head = λ l n h at w. guarded_has language all behind_tests every OfKinds guards n (head_rule l) h at
+        (head_guarded l) w;
+    slots = λ r. slots_hold (slots r);
+    header = λ r. slots_hold (header r);
+    tail = λ r. slots_hold (tail r);
+    start = λ at. (tt, no_kinds row.Module);
+    parts = λ at h le w. w.1;
+  }

@@ -1,5 +1,7 @@
--- What the actions of the rules add to the parts of an operation, by the numbers of tokens, and what they say, by their bytes.
-use Rattle.std.specs.Prelude.{◌≡◌, ℕ, List, [], ◌∷◌, map, length, Option, Some, None, Bool, true, false, nat_lt, All, option_map}
+-- What the actions of the rules add to the parts of an operation, by the numbers of tokens, and what they say, by their
+-- bytes.
+use Rattle.std.specs.Prelude.{◌≡◌, ℕ, List, [], ◌∷◌, map, length, Option, Some, None, Bool, true, false, nat_lt, All}
+use Rattle.std.specs.Prelude.{option_map}
 use Rattle.xf_lex.specs.declared.token.Token.{Token}
 use Rattle.xf_type.specs.declared.payload_type.Width.{Width}
 use Rattle.xf_type.specs.declared.payload_type.Width.TheVariants as width
@@ -10,7 +12,11 @@ use Rattle.xf_format.specs.declared.expected.Expected.TheVariants as due
 use Rattle.xf_format.specs.declared.parts.EntryValue.TheVariants as value
 use Rattle.xf_format.specs.declared.parts.Literal.TheVariants as literal
 use Rattle.xf_format.specs.declared.parts.Parts.{Parts}
-use Rattle.xf_format.specs.Parts.{ref, use_of, count_of, with_row, with_symbol, as_private, with_predicate, with_literal, with_entry, with_define, with_arg, with_use, with_width, with_result, text_of, truth, number, no_value, truth_value, number_value, text_value, Said, said, says_row, says_symbol, says_private, says_predicate, says_literal, says_entry, says_define, says_arg, says_use, says_width, says_result}
+use Rattle.xf_format.specs.Parts.{ref, use_of, count_of, with_row, with_symbol, as_private, with_predicate}
+use Rattle.xf_format.specs.Parts.{with_literal, with_entry, with_define, with_arg, with_use, with_width, with_result}
+use Rattle.xf_format.specs.Parts.{text_of, truth, number, no_value, truth_value, number_value, text_value, Said, said}
+use Rattle.xf_format.specs.Parts.{says_row, says_symbol, says_private, says_predicate, says_literal, says_entry}
+use Rattle.xf_format.specs.Parts.{says_define, says_arg, says_use, says_width, says_result}
 use Rattle.xf_format.specs.Words.{width_meant, predicate_meant, row_begun, the_row}
 
 pub data Action : Type 0 where
@@ -86,7 +92,8 @@ one_or (Some k) = k
 
 abbrev pub parts_by : Action → List (ℕ × Terminal) → Parts → Parts
 parts_by begins hs p = of_first hs p (λ x. with_row (the_row (row_begun x.1)) p)
-parts_by defines hs p = of_one_or_two hs p (λ x k. with_define (ref x.0 (one_or (count_in (option_map (λ y. y.1) k)))) p)
+parts_by defines hs p =
+    of_one_or_two hs p (λ x k. with_define (ref x.0 (one_or (count_in (option_map (λ y. y.1) k)))) p)
 parts_by argument_is hs p = of_first hs p (λ x. with_arg (ref x.0 1) p)
 parts_by operand hs p = of_one_or_two hs p (λ x k. with_use (use_of x.0 (count_in (option_map (λ y. y.1) k))) p)
 parts_by symbol_is hs p = of_first hs p (λ x. with_symbol x.0 p)
@@ -101,7 +108,8 @@ parts_by unit_entry hs p = of_first hs p (λ x. with_entry x.0 value.Unit p)
 parts_by (truth_entry b) hs p = of_first hs p (λ x. with_entry x.0 (value.Truth b) p)
 parts_by text_entry hs p = of_two hs p (λ x y. with_entry x.0 (value.Text y.0) p)
 parts_by (integer_entry negative w) hs p = of_two hs p (λ x y. with_entry x.0 (value.Integer negative y.0 w) p)
-parts_by (typed_entry negative) hs p = of_three hs p (λ x y z. with_entry x.0 (value.Integer negative y.0 (width_meant z.1)) p)
+parts_by (typed_entry negative) hs p =
+    of_three hs p (λ x y z. with_entry x.0 (value.Integer negative y.0 (width_meant z.1)) p)
 parts_by tensor_type hs p = p
 parts_by unread_rest hs p = p
 
@@ -133,8 +141,10 @@ said_by result_is hs t = of_first hs t (λ x. says_result (width_meant x) t)
 said_by unit_entry hs t = of_first hs t (λ x. says_entry (text_of x) no_value t)
 said_by (truth_entry b) hs t = of_first hs t (λ x. says_entry (text_of x) (truth_value b) t)
 said_by text_entry hs t = of_two hs t (λ x y. says_entry (text_of x) (text_value (text_of y)) t)
-said_by (integer_entry negative w) hs t = of_two hs t (λ x y. says_entry (text_of x) (number_value negative (text_of y) w) t)
-said_by (typed_entry negative) hs t = of_three hs t (λ x y z. says_entry (text_of x) (number_value negative (text_of y) (width_meant z)) t)
+said_by (integer_entry negative w) hs t =
+    of_two hs t (λ x y. says_entry (text_of x) (number_value negative (text_of y) w) t)
+said_by (typed_entry negative) hs t =
+    of_three hs t (λ x y z. says_entry (text_of x) (number_value negative (text_of y) (width_meant z)) t)
 said_by tensor_type hs t = t
 said_by unread_rest hs t = t
 

@@ -2,13 +2,16 @@
 use Rattle.std.specs.Prelude.{ℕ, List, [], ◌∷◌, ◌++◌, map, codes, true, false}
 use Rattle.xf_type.specs.Spelling.{all_binaries, binary_spelling, all_conversions, conversion_spelling}
 use Rattle.xf_format.specs.declared.row.FormatElement.{FormatElement}
-use Rattle.xf_format.specs.declared.row.FormatElement.TheVariants.{Mark, Word, Dictionary, Literal, Predicate, Use, Width}
+use Rattle.xf_format.specs.declared.row.FormatElement.TheVariants.{Mark, Word, Dictionary, Literal, Predicate, Use}
+use Rattle.xf_format.specs.declared.row.FormatElement.TheVariants.{Width}
 use Rattle.xf_format.specs.declared.row.Keyword.TheVariants as key
 use Rattle.xf_format.specs.declared.row.Row.{Row}
 use Rattle.xf_format.specs.declared.row.Row.TheVariants as row
 
 abbrev pub singles : List (List ℕ × Row)
-singles = (codes "arith.constant", row.Constant) ∷ (codes "arith.cmpi", row.Compare) ∷ (codes "arith.select", row.Select) ∷ []
+singles =
+    (codes "arith.constant", row.Constant) ∷ (codes "arith.cmpi", row.Compare)
+    ∷ (codes "arith.select", row.Select) ∷ []
 
 abbrev pub binaries : List (List ℕ × Row)
 binaries = map (λ k. (binary_spelling k, row.Binary k)) all_binaries

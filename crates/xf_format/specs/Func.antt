@@ -1,7 +1,9 @@
 -- The rows of func (MLIR: the func dialect).
 use Rattle.std.specs.Prelude.{ℕ, List, [], ◌∷◌, codes, true, false}
 use Rattle.xf_format.specs.declared.row.FormatElement.{FormatElement}
-use Rattle.xf_format.specs.declared.row.FormatElement.TheVariants.{Mark, FunctionName, Symbol, Attributes, Dictionary, Uses, Types, Params, Operands, CallResults, FunctionResults}
+use Rattle.xf_format.specs.declared.row.FormatElement.TheVariants.{Mark, FunctionName, Symbol, Attributes, Dictionary}
+use Rattle.xf_format.specs.declared.row.FormatElement.TheVariants.{Uses, Types, Params, Operands, CallResults}
+use Rattle.xf_format.specs.declared.row.FormatElement.TheVariants.{FunctionResults}
 use Rattle.xf_format.specs.declared.row.Row.{Row}
 use Rattle.xf_format.specs.declared.row.Row.TheVariants as row
 

@@ -29,7 +29,8 @@ HeadStops all l at i d = payload_head_at all l at ≡ Err (i, d)
 -- a head that is read is written there, and says what was read
 abbrev pub HeadsAreWritten : Type 0
 HeadsAreWritten = (all : List Token) (l : Level) (at next : ℕ) (r : Row) (h : Reading) → HeadIsRead all l at r h next
-    → (p s : Fill) × (HeadStands format all l p s at next × ((row_of format l p ≡ r) × (said all h.parts ≡ head_says l p s)))
+    → (p s : Fill) × (HeadStands format all l p s at next
+    × ((row_of format l p ≡ r) × (said all h.parts ≡ head_says l p s)))
 
 -- a head that is written is read there, as what it says
 abbrev pub HeadsReadAgain : Type 0

@@ -1,4 +1,5 @@
--- The rows of tensor and linalg (MLIR: the tensor and linalg dialects): their words, and that their slots are not read yet.
+-- The rows of tensor and linalg (MLIR: the tensor and linalg dialects): their words, and that their slots are not read
+-- yet.
 use Rattle.std.specs.Prelude.{ℕ, List, [], ◌∷◌, codes, false}
 use Rattle.xf_format.specs.declared.row.FormatElement.{FormatElement}
 use Rattle.xf_format.specs.declared.row.FormatElement.TheVariants.{Mark, Unread, BlockName, Params, CallResults}
@@ -8,7 +9,8 @@ use Rattle.xf_format.specs.declared.row.Row.TheVariants as row
 abbrev pub words : List (List ℕ × Row)
 words =
     (codes "tensor.empty", row.Other) ∷ (codes "tensor.dim", row.Other) ∷ (codes "tensor.extract", row.Other)
-    ∷ (codes "tensor.insert", row.Other) ∷ (codes "tensor.extract_slice", row.Other) ∷ (codes "tensor.insert_slice", row.Other)
+    ∷ (codes "tensor.insert", row.Other) ∷ (codes "tensor.extract_slice", row.Other)
+    ∷ (codes "tensor.insert_slice", row.Other)
     ∷ (codes "tensor.cast", row.Other) ∷ (codes "linalg.matmul", row.Other) ∷ (codes "linalg.batch_matmul", row.Other)
     ∷ (codes "linalg.matvec", row.Other) ∷ (codes "linalg.dot", row.Other) ∷ (codes "linalg.fill", row.Other)
     ∷ (codes "linalg.yield", row.Other) ∷ (codes "linalg.generic", row.Generic) ∷ []

@@ -1,5 +1,6 @@
 -- What is read of a head, by the numbers of tokens, and what it says, by their bytes.
-use Rattle.std.specs.Prelude.{ℕ, ◌-◌, ◌^◌, min, List, [], ◌∷◌, ◌++◌, map, Option, Some, None, Bool, true, false, option_map}
+use Rattle.std.specs.Prelude.{ℕ, ◌-◌, ◌^◌, min, List, [], ◌∷◌, ◌++◌, map, Option, Some, None, Bool, true, false}
+use Rattle.std.specs.Prelude.{option_map}
 use Rattle.xf_lex.specs.declared.token.Token.{Token}
 use Rattle.xf_type.specs.declared.kind.CmpKind.{CmpKind}
 use Rattle.xf_type.specs.declared.payload_type.PayloadType.{PayloadType}

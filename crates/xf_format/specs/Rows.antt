@@ -1,5 +1,5 @@
--- The table of the operations: the words of each row, what stands behind its word up to the first brace, its bodies with what begins
--- each of them, and what stands behind them.
+-- The table of the operations: the words of each row, what stands behind its word up to the first brace, its bodies
+-- with what begins each of them, and what stands behind them.
 use Rattle.std.specs.Prelude.{ℕ, List, [], ◌∷◌, ◌++◌, Bool, true, false}
 use Rattle.xf_format.specs.declared.row.Body.{Body}
 use Rattle.xf_format.specs.declared.row.Body.TheVariants as body

@@ -16,8 +16,13 @@ use Rattle.xf_format.specs.declared.row.FormatElement.{FormatElement}
 use Rattle.xf_format.specs.declared.row.FormatElement.TheVariants as slot
 use Rattle.xf_format.specs.declared.row.Level.{Level}
 use Rattle.xf_format.specs.declared.row.Level.TheVariants as level
-use Rattle.xf_format.specs.Actions.{Action, begins, defines, argument_is, operand, symbol_is, private_is, predicate_is, literal_is, truth_is, width_is, width_left_out, result_is, unit_entry, truth_entry, text_entry, integer_entry, typed_entry, tensor_type, unread_rest, Reading, free, Saying, add, tell, room, space, full}
-use Rattle.xf_format.specs.Tests.{Test, of_kind, of_word, short_symbol, short_word, short_text, an_index, a_width, a_predicate, integer_for, width_for, an_operation, an_unread, a_result, passes, allows, State, unread_text, step, close}
+use Rattle.xf_format.specs.Actions.{Action, begins, defines, argument_is, operand, symbol_is, private_is, predicate_is}
+use Rattle.xf_format.specs.Actions.{literal_is, truth_is, width_is, width_left_out, result_is, unit_entry, truth_entry}
+use Rattle.xf_format.specs.Actions.{text_entry, integer_entry, typed_entry, tensor_type, unread_rest, Reading, free}
+use Rattle.xf_format.specs.Actions.{Saying, add, tell, room, space, full}
+use Rattle.xf_format.specs.Tests.{Test, of_kind, of_word, short_symbol, short_word, short_text, an_index, a_width}
+use Rattle.xf_format.specs.Tests.{a_predicate, integer_for, width_for, an_operation, an_unread, a_result, passes}
+use Rattle.xf_format.specs.Tests.{allows, State, unread_text, step, close}
 use Rattle.xf_format.specs.Words.{spelling}
 
 abbrev pub Rule : Type 0
@@ -44,7 +49,9 @@ by g all p at = read language (length all) g all (free p) at
 
 -- the same where the tokens with these numbers are held
 abbrev pub by_held : Rule → List Token → List ℕ → Parts → ℕ → Out Reading Expected
-by_held g all is p at = read language (length all) g all (record { held = map (λ i. (i, terminal_at all i)) is; parts = p }) at
+by_held g all is p at =
+    read language (length all) g all
+    (record { held = map (λ i. (i, terminal_at all i)) is; parts = p }) at
 
 -- ---- single tokens; a blank stands before the first one of a rule where `gap` is true
 
@@ -74,11 +81,15 @@ module_name_rule = symbol_or skip
 
 -- optional private, and a symbol
 unfoldable pub function_name_rule : Rule
-function_name_rule = take true false (of_word (codes "private")) (both (act private_is) symbol_rule) (symbol_or (refuse due.FunctionName))
+function_name_rule =
+    take true false (of_word (codes "private")) (both (act private_is) symbol_rule)
+    (symbol_or (refuse due.FunctionName))
 
 -- %n
 unfoldable pub argument_rule : Bool → Rule
-argument_rule gap = peek (of_kind kind.Value) (need argument_is (take gap true (of_kind kind.Value) (act argument_is) skip)) (refuse due.Other)
+argument_rule gap =
+    peek (of_kind kind.Value)
+    (need argument_is (take gap true (of_kind kind.Value) (act argument_is) skip)) (refuse due.Other)
 
 -- %n or %n#i
 unfoldable pub use_rule : Bool → Rule
@@ -95,15 +106,20 @@ width_rule gap d = peek a_width (need width_is (take gap true a_width (act width
 abbrev pub tensor_or : Bool → Rule → Rule
 tensor_or gap off =
     peek (of_word (codes "tensor"))
-    (need tensor_type (take gap false (of_word (codes "tensor")) (take false true (of_kind kind.Shape) (act tensor_type) (refuse due.Other)) skip))
+    (need tensor_type (take gap false (of_word (codes "tensor"))
+    (take false true (of_kind kind.Shape) (act tensor_type) (refuse due.Other)) skip))
     off
 
 unfoldable pub type_rule : Bool → Rule
-type_rule gap = peek a_width (need width_is (take gap true a_width (act width_is) skip)) (tensor_or gap (refuse due.Type))
+type_rule gap =
+    peek a_width (need width_is (take gap true a_width (act width_is) skip))
+    (tensor_or gap (refuse due.Type))
 
 -- a type of a result
 unfoldable pub result_rule : Bool → Rule
-result_rule gap = peek a_width (need result_is (take gap true a_width (act result_is) skip)) (tensor_or gap (refuse due.Type))
+result_rule gap =
+    peek a_width (need result_is (take gap true a_width (act result_is) skip))
+    (tensor_or gap (refuse due.Type))
 
 unfoldable pub predicate_rule : Rule
 predicate_rule = take true true a_predicate (act predicate_is) (refuse due.Other)
@@ -136,7 +152,9 @@ literal_rule =
 
 -- behind the name of an attribute and an integer: the width of it, which has room for it
 unfoldable pub entry_width_rule : Bool → Rule
-entry_width_rule negative = peek a_width (take true true (width_for negative) (act (typed_entry negative)) (refuse due.Other)) (refuse due.Width)
+entry_width_rule negative =
+    peek a_width
+    (take true true (width_for negative) (act (typed_entry negative)) (refuse due.Other)) (refuse due.Width)
 
 -- an integer, optionally with : and a width, else of the width of 64; else this is due
 unfoldable pub entry_number_rule : Bool → Bool → Expected → Rule
@@ -155,13 +173,15 @@ entry_value_rule =
     (take true false (of_word (codes "unit")) (act unit_entry)
     (take true true short_text (act text_entry)
     (unless_long kind.Text
-    (take true false (of_kind minus) (entry_number_rule false true due.Other) (entry_number_rule true false due.AttributeValue))))))
+    (take true false (of_kind minus) (entry_number_rule false true due.Other)
+    (entry_number_rule true false due.AttributeValue))))))
 
 -- a word, and optionally = and a value
 unfoldable pub entry_rule : Rule
 entry_rule =
     peek short_word
-    (need unit_entry (take false true short_word (take true false (of_kind equals) entry_value_rule (act unit_entry)) skip))
+    (need unit_entry (take false true short_word (take true false (of_kind equals) entry_value_rule (act unit_entry))
+    skip))
     (unless_long kind.Word (refuse due.Other))
 
 -- ---- lists
@@ -201,7 +221,8 @@ dictionary_rule = take true false (of_kind open_brace) (until_rule close_brace d
 -- optional attributes { entries }
 unfoldable pub attributes_rule : Rule
 attributes_rule =
-    take true false (of_word (codes "attributes")) (both (kind_rule true due.Other open_brace) (until_rule close_brace due.Other item.Entry)) skip
+    take true false (of_word (codes "attributes"))
+    (both (kind_rule true due.Other open_brace) (until_rule close_brace due.Other item.Entry)) skip
 
 -- ---- types and operands
 
@@ -229,7 +250,8 @@ if_results_rule = take true false (of_kind kind.Arrow) listed_results_rule skip
 unfoldable pub operands_rule : Rule
 operands_rule =
     peek (of_kind kind.Value)
-    (both (listed (item_rule (item.Use true))) (both (kind_rule true due.Other colon) (listed (item_rule (item.Type true)))))
+    (both (listed (item_rule (item.Use true)))
+    (both (kind_rule true due.Other colon) (listed (item_rule (item.Type true)))))
     skip
 
 -- optional iter_args ( pairs ) -> ( types )
@@ -243,7 +265,8 @@ iter_args_rule =
 -- optional : width, else index
 unfoldable pub loop_width_rule : Rule
 loop_width_rule =
-    take true false (of_kind colon) (width_rule true due.Width) (need (width_left_out width.Index) (act (width_left_out width.Index)))
+    take true false (of_kind colon) (width_rule true due.Width)
+    (need (width_left_out width.Index) (act (width_left_out width.Index)))
 
 -- ---- slots
 
@@ -287,7 +310,9 @@ due_at level.Any = due.Operation
 
 -- the word of an operation
 unfoldable pub row_rule : Level → Rule
-row_rule l = take true true (an_operation l) (act begins) (peek (an_unread l) (refuse due.OtherReader) (refuse (due_at l)))
+row_rule l =
+    take true true (an_operation l) (act begins)
+    (peek (an_unread l) (refuse due.OtherReader) (refuse (due_at l)))
 
 -- behind the name of results: = , or :k = for k results
 unfoldable pub defines_rule : Rule

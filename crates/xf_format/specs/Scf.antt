@@ -1,7 +1,8 @@
 -- The rows of scf (MLIR: the scf dialect).
 use Rattle.std.specs.Prelude.{ℕ, List, [], ◌∷◌, codes, true}
 use Rattle.xf_format.specs.declared.row.FormatElement.{FormatElement}
-use Rattle.xf_format.specs.declared.row.FormatElement.TheVariants.{Mark, Word, Argument, Use, IfResults, IterArgs, LoopWidth}
+use Rattle.xf_format.specs.declared.row.FormatElement.TheVariants.{Mark, Word, Argument, Use, IfResults, IterArgs}
+use Rattle.xf_format.specs.declared.row.FormatElement.TheVariants.{LoopWidth}
 use Rattle.xf_format.specs.declared.row.Keyword.TheVariants as key
 use Rattle.xf_format.specs.declared.row.Row.{Row}
 use Rattle.xf_format.specs.declared.row.Row.TheVariants as row

@@ -1,32 +1,21 @@
--- The words of operations, types and predicates, and what they mean.
-use Rattle.std.specs.Prelude.{ℕ, List, [], ◌∷◌, map, Option, Some, None, Bool, false, ◌&&◌, not, if◌then◌else◌, codes, is_some}
-use Rattle.std.specs.Str.{bytes_eq}
+-- What tokens mean by their bytes: the words of operations, types and predicates, and shapes.
+use Rattle.std.specs.Prelude.{ℕ, List, Option, Some, None, Bool, false, ◌&&◌, not, codes, is_some}
 use Rattle.xf_type.specs.declared.kind.CmpKind.{CmpKind}
 use Rattle.xf_type.specs.declared.kind.CmpKind.TheVariants as cmp
+use Rattle.xf_type.specs.declared.payload_type.Shape.{Shape}
 use Rattle.xf_type.specs.declared.payload_type.Width.{Width}
 use Rattle.xf_type.specs.declared.payload_type.Width.TheVariants as width
-use Rattle.xf_type.specs.Spelling.{all_widths, width_spelling, all_predicates, predicate_spelling}
-use Rattle.xf_grammar.specs.Tokens.{Terminal, word_of}
+use Rattle.xf_type.specs.Spelling.{all_predicates, predicate_spelling}
+use Rattle.xf_lex.specs.declared.token.TokenKind.TheVariants as token
+pub use Rattle.xf_shape.specs.Widths.{Table, lookup, spelt, widths}
+use Rattle.xf_shape.specs.Shapes.{shape_of}
+use Rattle.xf_grammar.specs.Tokens.{Terminal, terminal, word_of}
 use Rattle.xf_format.specs.declared.row.Keyword.{Keyword}
 use Rattle.xf_format.specs.declared.row.Keyword.TheVariants as key
 use Rattle.xf_format.specs.declared.row.Level.{Level}
 use Rattle.xf_format.specs.declared.row.Row.{Row}
 use Rattle.xf_format.specs.declared.row.Row.TheVariants as row
 use Rattle.xf_format.specs.Rows.{words, stands, is_unread, has_operations}
-
--- a table of words, and what each of them means
-abbrev pub Table : Type 0 → Type 0
-Table A = List (List ℕ × A)
-
-abbrev pub lookup : {A : Type 0} → Table A → List ℕ → Option A
-lookup [] w = None
-lookup (e ∷ es) w = if bytes_eq w e.0 then Some e.1 else lookup es w
-
-abbrev pub spelt : {A : Type 0} → (A → List ℕ) → List A → Table A
-spelt spelling all = map (λ a. (spelling a, a)) all
-
-abbrev pub widths : Table Width
-widths = spelt width_spelling all_widths
 
 abbrev pub predicates : Table CmpKind
 predicates = spelt predicate_spelling all_predicates
@@ -35,7 +24,7 @@ abbrev pub spelling : Keyword → List ℕ
 spelling key.To = codes "to"
 spelling key.Step = codes "step"
 
--- ---- the width and the predicate that a token means
+-- ---- the width, the tensor type and the predicate that a token means
 
 abbrev pub is_width : Terminal → Bool
 is_width x = is_some (lookup widths (word_of x))
@@ -46,6 +35,13 @@ the_width None = width.Index
 
 abbrev pub width_meant : Terminal → Width
 width_meant x = the_width (lookup widths (word_of x))
+
+abbrev pub shape_meant : Terminal → Option Shape
+shape_meant (terminal token.Shape bytes) = shape_of bytes
+shape_meant x = None
+
+abbrev pub is_shape : Terminal → Bool
+is_shape x = is_some (shape_meant x)
 
 abbrev pub is_predicate : Terminal → Bool
 is_predicate x = is_some (lookup predicates (word_of x))

@@ -11,9 +11,9 @@ ghost use Rattle.xf_format.specs.Tests.{has_room};
 use crate::expected::{Expected, Stopped};
 use crate::names::{is_name, is_string};
 use crate::parts::{AttrEntry, EntryValue, MOST_ENTRIES, Parts};
-use crate::word::width_of;
 use xf_grammar::{looks, number_at, says, word_at};
 use xf_lex::{Token, TokenKind};
+use xf_shape::width_of;
 use xf_type::{NoMemory, Width};
 
 /// Whether a width has room for a number: -2^(bits - 1) <= n <= 2^bits - 1.
@@ -53,7 +53,8 @@ fn entry_typed(
     at: usize,
 ) -> Result<usize, Stopped>
     requires { length parts.old.entries < most_entries }
-    ensures gives { Gives (λ n. (free parts.new, n)) result (by_held (entry_width_rule negative) tokens.now (name ∷ digits ∷ []) parts.old at) }
+    ensures gives { Gives (λ n. (free parts.new, n))
+        result (by_held (entry_width_rule negative) tokens.now (name ∷ digits ∷ []) parts.old at) }
     ensures within { IfOk result (λ n. (at ≤ n) × (n ≤ length tokens.now)) }
 {
     let Some(width) = width_of(word_at(tokens, at)) else {
@@ -85,7 +86,8 @@ fn entry_number(
     at: usize,
 ) -> Result<usize, Stopped>
     requires { length parts.old.entries < most_entries }
-    ensures gives { (gap : Bool) → Gives (λ n. (free parts.new, n)) result (by_held (entry_number_rule gap negative due) tokens.now (name ∷ []) parts.old at) }
+    ensures gives { (gap : Bool) → Gives (λ n. (free parts.new, n))
+        result (by_held (entry_number_rule gap negative due) tokens.now (name ∷ []) parts.old at) }
     ensures within { IfOk result (λ n. (at ≤ n) × (n ≤ length tokens.now)) }
 {
     if !looks(tokens, at, TokenKind::Integer) {
@@ -119,7 +121,8 @@ fn entry_value(
     at: usize,
 ) -> Result<usize, Stopped>
     requires { length parts.old.entries < most_entries }
-    ensures gives { Gives (λ n. (free parts.new, n)) result (by_held entry_value_rule tokens.now (name ∷ []) parts.old at) }
+    ensures gives { Gives (λ n. (free parts.new, n))
+        result (by_held entry_value_rule tokens.now (name ∷ []) parts.old at) }
     ensures within { IfOk result (λ n. (at ≤ n) × (n ≤ length tokens.now)) }
 {
     if says(tokens, at, b"true") {

@@ -4,50 +4,57 @@ ghost use Rattle.xf_format.specs.declared.expected.Stopped.TheVariants.{NoMemory
 
 use std::alloc::{AllocError, AllocFailed};
 
-/// What was due at the token that fits no head: what the fault's code depends on.
+/// What was due at the first token that does not fit, or at the end of the text: the code of the
+/// fault follows from it alone.
 #[derive(Clone, Copy, Debug, PartialEq, Eq)]
 pub enum Expected {
-    /// A module, an alias or a function, where a file begins.
+    /// A module, an alias or a function: at the first token of a file that begins none of them.
     File,
-    /// A function.
+    /// A function: where another operation, or none, begins between the functions of a module.
     Function,
-    /// An operation.
+    /// An operation of a body: where none begins in one, or behind the names of results.
     Operation,
-    /// An operation, and one of another reader stands there.
+    /// What is read here, and what a later reader reads stands there: at the word of an operation of
+    /// `tensor` or `linalg`, or at a `dense` literal.
     OtherReader,
-    /// A type.
+    /// A type: where neither a width nor a tensor type stands. A tensor type is refused at its word, as
+    /// none has room yet.
     Type,
-    /// The width of an integer.
+    /// The width of an integer: behind the `:` of a constant, of an attribute's number or of a loop.
     Width,
-    /// The width of an `arith` operation other than a constant.
+    /// The width of an `arith` operation other than a constant: behind a `:` or the word `to`.
     ArithWidth,
-    /// The value of an attribute.
+    /// The value of an attribute: behind its `=`, where no `-` stands.
     AttributeValue,
-    /// The value of a constant.
+    /// The value of a constant, where no `-` stands.
     ConstantValue,
-    /// The symbol of a function, or `private` before it.
+    /// The symbol of a function, or `private` before it: behind `func.func`. Behind `private` a missing
+    /// symbol is `Other`.
     FunctionName,
-    /// What follows the type of a function's argument.
+    /// `,` or `)`: behind the type of an argument of a function or of a block.
     AfterArgument,
-    /// What follows one of several result types of a function.
+    /// `,` or `)`: behind one of several result types of a function.
     AfterResult,
-    /// The body of a function, or what may stand before it.
+    /// The brace that opens the body of a function, or the result types or attributes before it.
     FunctionBody,
-    /// The end of a list that has as many items as it may have, of a name or a string that has as
-    /// many bytes, or of a text that has as many operations.
+    /// The end of a list that has 2^32 - 1 items or of a text that has 1000000 operations, at the first
+    /// token of one more (of a terminator that is left out, at the brace); or a shorter name or string,
+    /// at one of 2^32 bytes or more.
     ListEnd,
-    /// No region, inside as many as may be open.
+    /// No region: at a brace that opens one inside 32 that are open.
     NestLimit,
-    /// Anything else.
+    /// Anything else: a mark, a word, an operand or a symbol that the row of the operation has there, or
+    /// a number that its width has no room for.
     Other,
 }
 
 /// Why a reading stops.
 #[derive(Clone, Copy, Debug, PartialEq, Eq)]
 pub enum Stopped {
-    /// There was no memory.
+    /// There was no memory; the text may fit or not.
     NoMemory,
-    /// The token with this number, or the end, does not fit; this was due there.
+    /// The token with this number is the first that does not fit, where this was due. The number of
+    /// tokens stands for the end of the text.
     At(usize, Expected),
 }
 

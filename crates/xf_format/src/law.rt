@@ -1,5 +1,6 @@
 //! What holds of the heads of all lists of tokens.
-ghost use Rattle.xf_format.specs.Laws.{HeadsAreWritten, HeadsReadAgain, HeadsHaveRows, NoHeadGoesOn, StopsAgain, HeadsStay, HeadsAreShort, HeadsAreWithin};
+ghost use Rattle.xf_format.specs.Laws.{HeadsAreWritten, HeadsReadAgain, HeadsHaveRows, NoHeadGoesOn};
+ghost use Rattle.xf_format.specs.Laws.{StopsAgain, HeadsStay, HeadsAreShort, HeadsAreWithin};
 
 /// A head is read exactly where its tokens are written, its parts are what the tokens say, and it has
 /// the row of its word.

@@ -32,4 +32,5 @@ pub use row::{
     row_bodies, row_header, row_slots, row_tail, stands,
 };
 pub use slot::slots_at;
-pub use word::{predicate_of, row_of, width_of};
+pub use word::{predicate_of, row_of};
+pub use xf_shape::width_of;

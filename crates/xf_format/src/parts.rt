@@ -68,27 +68,36 @@ pub struct AttrEntry {
 /// Discardable attributes, in the order of the text.
 pub type EntryList = ListOf<AttrEntry>;
 
-/// What stands before the first brace of an operation.
+/// What is read of an operation but for the operations inside it: its head, which is the names of its
+/// results, its word and its slots, up to the first brace; and, behind that in each list, what the
+/// headers of its bodies and its tail behind them add. Tokens are named by their numbers in the text.
 #[derive(Drop)]
 pub struct Parts {
+    /// Which operation it is, by its word.
     pub row: Row,
-    /// The token of the symbol of a function, a callee or a module.
+    /// The token of the symbol of a function, a callee or a module; a module may have none, and other
+    /// operations have none.
     pub symbol: Option<usize>,
-    /// Whether a function is `private`.
+    /// Whether a function is `private`; false of other operations.
     pub private: bool,
+    /// The predicate of a comparison, and none of other operations.
     pub predicate: Option<CmpKind>,
+    /// The value of a scalar constant, and none of other operations.
     pub literal: Option<Literal>,
+    /// Discardable attributes, a name twice where the text has it twice.
     pub entries: EntryList,
-    /// The names of the results.
+    /// The names of the results, `%n` and `%n:k`: one at most.
     pub defines: RefList,
-    /// The names of the block arguments.
+    /// The names that the operation gives to arguments of its blocks: of a function, of a loop with its
+    /// `iter_args`, and of the headers of its bodies.
     pub args: RefList,
-    /// The names of the operands.
+    /// The names of the operands, those of `iter_args` included.
     pub uses: UseList,
     /// The types that are stated but for those of results, in order: of arguments, of operands, and
-    /// the widths of the operation; of a loop without a width, `index`.
+    /// the widths of the operation; of a loop without a width, `index`; of a constant that is `true` or
+    /// `false`, `i1`.
     pub types: TypeList,
-    /// The types behind `->`, in order.
+    /// The types behind `->`, in order, those of the tail included.
     pub results: TypeList,
 }
 

@@ -59,55 +59,58 @@ impl Keyword {
     }
 }
 
-/// A part of a row. `true` in a mark says that a blank stands before it in print; before every other
-/// part stands one, but before what goes on in parentheses.
+/// A slot of a row: what its operations write at one place, and where they have what it reads among
+/// their parts. In print a blank stands before a slot, but for a mark with `false` and for what goes on
+/// in parentheses. Where a slot may be left out, the next token alone tells whether it is.
 #[derive(Clone, Copy)]
 pub enum FormatElement {
-    /// A mark of one byte, with a blank before it in print or none.
+    /// A mark of one byte, with a blank before it in print or none. It is no part.
     Mark(bool, u8),
-    /// A word.
+    /// A word. It is no part.
     Word(Keyword),
     /// The symbol of a module, which may be left out.
     ModuleName,
     /// The symbol of a function, with `private` before it or not.
     FunctionName,
-    /// A symbol.
+    /// The symbol of a callee.
     Symbol,
-    /// `attributes` and discardable attributes, which may be left out.
+    /// `attributes` and discardable attributes in braces, which may be left out.
     Attributes,
-    /// Discardable attributes, which may be left out.
+    /// Discardable attributes in braces, which may be left out.
     Dictionary,
-    /// The value of a constant.
+    /// The value of a constant: `true` or `false`, whose width is 1; or an integer, with a `-` before it
+    /// or not, `:` and its width. A `dense` literal is not read yet.
     Literal,
     /// The predicate of a comparison.
     Predicate,
     /// The name of a block argument.
     Argument,
-    /// The operand with this number.
+    /// One operand, `%n` or `%n#i`; the number says which of the operation's it is, from 0 on.
     Use(u8),
-    /// The width with this number of an `arith` operation.
+    /// One width of an `arith` operation, among its types; the number says which, from 0 on.
     Width(u8),
-    /// Operands up to a `)`.
+    /// Operands, possibly none, and the `)` behind them. The `(` is a mark of its own, here and below.
     Uses,
-    /// Types up to a `)`.
+    /// Types of operands, possibly none, and the `)` behind them.
     Types,
-    /// Arguments with their types up to a `)`.
+    /// Arguments with their types, `%n: type`, possibly none, and the `)` behind them.
     Params,
-    /// Operands, `:` and their types, which may be left out.
+    /// One or several operands, `:` and as many types as are written, which may be left out together.
     Operands,
-    /// `->` and the result types of a call.
+    /// `->` and one result type, or result types in parentheses.
     CallResults,
-    /// `->` and the result types of a function, which may be left out.
+    /// The same of a function, which may be left out.
     FunctionResults,
     /// `->` and result types in parentheses, which may be left out.
     IfResults,
-    /// `iter_args` with its pairs, and `->` with the result types in parentheses, which may be left out.
+    /// `iter_args` with pairs `%n = %m` of an argument and an operand in parentheses, and `->` with
+    /// result types in parentheses, which may be left out together.
     IterArgs,
     /// `:` and the width of a loop, which may be left out and then is `index`.
     LoopWidth,
-    /// The name of a block.
+    /// The name of a block. It is no part.
     BlockName,
-    /// What is not read yet.
+    /// What is not read yet: no token fits, and a later reader is due.
     Unread,
 }
 

@@ -11,9 +11,10 @@ ghost use Rattle.xf_format.specs.declared.expected.Expected.TheVariants as due;
 use crate::expected::{Expected, Stopped};
 use crate::names::is_symbol;
 use crate::parts::{MOST_ENTRIES, Parts, Ref, Use};
-use crate::word::{predicate_of, width_of};
+use crate::word::predicate_of;
 use xf_grammar::{is_index_at, looks, number_at, says, word_at};
 use xf_lex::{Token, TokenKind};
+use xf_shape::width_of;
 use xf_type::PayloadType;
 
 /// A token of this kind, which is due.
@@ -25,7 +26,8 @@ pub fn expects(
     parts: &Parts,
     at: usize,
 ) -> Result<usize, Stopped>
-    ensures gives { (gap : Bool) → Gives (λ n. (free parts.now, n)) result (by (kind_rule gap due kind) tokens.now parts.now at) }
+    ensures gives { (gap : Bool) → Gives (λ n. (free parts.now, n))
+        result (by (kind_rule gap due kind) tokens.now parts.now at) }
     ensures within { IfOk result (λ n. (at ≤ n) × (n ≤ length tokens.now)) }
 {
     if looks(tokens, at, kind) {
@@ -104,7 +106,8 @@ pub fn function_name_at(tokens: &[Token], parts: &mut Parts, at: usize) -> Resul
 /// The name of a block argument.
 #[tactic(auto, unfolding(crate::specs::Rules::argument_rule))]
 pub fn argument_at(tokens: &[Token], parts: &mut Parts, at: usize) -> Result<usize, Stopped>
-    ensures gives { (gap : Bool) → Gives (λ n. (free parts.new, n)) result (by (argument_rule gap) tokens.now parts.old at) }
+    ensures gives { (gap : Bool) → Gives (λ n. (free parts.new, n))
+        result (by (argument_rule gap) tokens.now parts.old at) }
     ensures within { IfOk result (λ n. (at ≤ n) × (n ≤ length tokens.now)) }
 {
     if !looks(tokens, at, TokenKind::Value) {
@@ -165,7 +168,8 @@ pub fn width_at(
     parts: &mut Parts,
     at: usize,
 ) -> Result<usize, Stopped>
-    ensures gives { (gap : Bool) → Gives (λ n. (free parts.new, n)) result (by (width_rule gap due) tokens.now parts.old at) }
+    ensures gives { (gap : Bool) → Gives (λ n. (free parts.new, n))
+        result (by (width_rule gap due) tokens.now parts.old at) }
     ensures within { IfOk result (λ n. (at ≤ n) × (n ≤ length tokens.now)) }
 {
     match width_of(word_at(tokens, at)) {
@@ -183,7 +187,8 @@ pub fn width_at(
 /// A type. A tensor type is not read yet.
 #[tactic(auto, unfolding(crate::specs::Rules::type_rule))]
 pub fn type_at(tokens: &[Token], parts: &mut Parts, at: usize) -> Result<usize, Stopped>
-    ensures gives { (gap : Bool) → Gives (λ n. (free parts.new, n)) result (by (type_rule gap) tokens.now parts.old at) }
+    ensures gives { (gap : Bool) → Gives (λ n. (free parts.new, n))
+        result (by (type_rule gap) tokens.now parts.old at) }
     ensures within { IfOk result (λ n. (at ≤ n) × (n ≤ length tokens.now)) }
 {
     match width_of(word_at(tokens, at)) {
@@ -201,7 +206,8 @@ pub fn type_at(tokens: &[Token], parts: &mut Parts, at: usize) -> Result<usize, 
 /// A type of a result. A tensor type is not read yet.
 #[tactic(auto, unfolding(crate::specs::Rules::result_rule))]
 pub fn result_at(tokens: &[Token], parts: &mut Parts, at: usize) -> Result<usize, Stopped>
-    ensures gives { (gap : Bool) → Gives (λ n. (free parts.new, n)) result (by (result_rule gap) tokens.now parts.old at) }
+    ensures gives { (gap : Bool) → Gives (λ n. (free parts.new, n))
+        result (by (result_rule gap) tokens.now parts.old at) }
     ensures within { IfOk result (λ n. (at ≤ n) × (n ≤ length tokens.now)) }
 {
     match width_of(word_at(tokens, at)) {

@@ -31,7 +31,8 @@ fn number_is(
     parts: &mut Parts,
     at: usize,
 ) -> Result<usize, Stopped>
-    ensures gives { (gap : Bool) → Gives (λ n. (free parts.new, n)) result (by (number_rule gap negative due) tokens.now parts.old at) }
+    ensures gives { (gap : Bool) → Gives (λ n. (free parts.new, n))
+        result (by (number_rule gap negative due) tokens.now parts.old at) }
     ensures within { IfOk result (λ n. (at ≤ n) × (n ≤ length tokens.now)) }
 {
     if !looks(tokens, at, TokenKind::Integer) {

@@ -1,21 +1,11 @@
-//! The words of types, predicates and operations.
+//! The words of predicates and operations.
 ghost use Rattle.std.specs.Prelude.{◌≡◌};
 ghost use Rattle.xf_format.specs.Rows.{words};
-ghost use Rattle.xf_format.specs.Words.{lookup, widths, predicates};
+ghost use Rattle.xf_format.specs.Words.{lookup, predicates};
 
 use crate::row::Row;
 use crate::{arith, builtin, func, linalg, scf};
-use xf_type::{CmpKind, Width};
-
-/// All widths.
-const WIDTHS: [Width; 6] = [
-    Width::I1,
-    Width::I8,
-    Width::I16,
-    Width::I32,
-    Width::I64,
-    Width::Index,
-];
+use xf_type::CmpKind;
 
 /// All predicates.
 const PREDICATES: [CmpKind; 10] = [
@@ -30,19 +20,6 @@ const PREDICATES: [CmpKind; 10] = [
     CmpKind::Ugt,
     CmpKind::Uge,
 ];
-
-/// The width that a word means.
-pub fn width_of(word: &[u8]) -> Option<Width>
-    ensures { result ≡ lookup widths word.now }
-{
-    let all = WIDTHS.as_slice();
-    for width in all {
-        if word == width.spelling() {
-            return Some(*width);
-        }
-    }
-    None
-}
 
 /// The predicate that a word means.
 pub fn predicate_of(word: &[u8]) -> Option<CmpKind>

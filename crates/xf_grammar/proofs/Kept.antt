@@ -1,14 +1,19 @@
 -- What reading keeps of what was read so far, at the number that it has come to: once, by the forms of a grammar.
-use Rattle.std.proofs.Common.{◌≡◌, inl, inr, ℕ, zero, suc, ◌+◌, ◌<◌, ◌==◌, Bool, true, false, cond, List, length, Option, Some, None, Ok, Err, refl, sym, subst}
+use Rattle.std.proofs.Common.{◌≡◌, inl, inr, ℕ, zero, suc, ◌+◌, ◌<◌, ◌==◌, Bool, true, false, cond, List, length}
+use Rattle.std.proofs.Common.{Option, Some, None, Ok, Err, refl, sym, subst}
 use Rattle.xf_lex.specs.declared.token.Token.{Token}
 use Rattle.xf_grammar.specs.Tokens.{Terminal, the_end, terminal, terminal_at, is_kind, comma}
 use Rattle.xf_grammar.specs.Reading.{Out, ◌>>=◌, one_too_many}
-use Rattle.xf_grammar.specs.Grammar.{Grammar, skip, refuse, take, peek, need, act, both, listed, scan, Step, ends, fails, goes, Language, pushed, acted, acted_if, closed, stepped, looked, scan_at, more, read, is_token, may_act, step_only, acts_only, Confined}
+use Rattle.xf_grammar.specs.Grammar.{Grammar, skip, refuse, take, peek, need, act, both, listed, scan, Step, ends}
+use Rattle.xf_grammar.specs.Grammar.{fails, goes, Language, pushed, acted, acted_if, closed, stepped, looked, scan_at}
+use Rattle.xf_grammar.specs.Grammar.{more, read, is_token, may_act, step_only, acts_only, Confined}
 use Rattle.xf_grammar.proofs.Basics.{both_true, and_is, token_or_end, before_end}
 use Rattle.xf_grammar.proofs.Again.{look_is}
 
--- a property of what was read before a number: going on keeps it, a token that is held, and an allowed action where there is room
-pub record Keeps {A T K D X M : Type 0} (L : Language A T K D X M) (all : List Token) (ok : K → Bool) (runs : M → Bool) (P : ℕ → A → Type 0) : Type 0 where
+-- a property of what was read before a number: going on keeps it, a token that is held, and an allowed action where
+-- there is room
+pub record Keeps {A T K D X M : Type 0} (L : Language A T K D X M) (all : List Token) (ok : K → Bool) (runs : M → Bool)
+    (P : ℕ → A → Type 0) : Type 0 where
   pub ended : (x : X) (h : A) → L.passes x the_end h ≡ false
   pub confined : Confined L ok runs
   pub on : (at : ℕ) (h : A) → at < length all → P at h → P (at + 1) h
@@ -20,23 +25,22 @@ abbrev pub Has : {A D : Type 0} → (ℕ → A → Type 0) → Out A D → Type 
 Has P (Ok x) = P x.1 x.0
 Has P (Err e) = Unit {0}
 
-pub has_either : {A D : Type 0} (P : ℕ → A → Type 0) (b : Bool) (y n : Out A D) → (b ≡ true → Has P y) → (b ≡ false → Has P n) → Has P (cond b y n)
+pub has_either : {A D : Type 0} (P : ℕ → A → Type 0) (b : Bool) (y n : Out A D) → (b ≡ true → Has P y)
+    → (b ≡ false → Has P n) → Has P (cond b y n)
 has_either P true y n p q = p refl
 has_either P false y n p q = q refl
 
-pub has_behind : {A B D : Type 0} (P : ℕ → A → Type 0) (Q : ℕ → B → Type 0) (r : Out A D) (f : A × ℕ → Out B D) → Has P r → ((x : A × ℕ) → P x.1 x.0 → Has Q (f x)) → Has Q (r >>= f)
+pub has_behind : {A B D : Type 0} (P : ℕ → A → Type 0) (Q : ℕ → B → Type 0) (r : Out A D) (f : A × ℕ → Out B D)
+    → Has P r → ((x : A × ℕ) → P x.1 x.0 → Has Q (f x)) → Has Q (r >>= f)
 has_behind P Q (Ok x) f p q = q x p
 has_behind P Q (Err e) f p q = tt
 
-pub too_many_has : {A D : Type 0} (P : ℕ → A → Type 0) (at : ℕ) (full : D) (o : Out A D) → Has P (one_too_many at full o)
+pub too_many_has : {A D : Type 0} (P : ℕ → A → Type 0) (at : ℕ) (full : D) (o : Out A D)
+    → Has P (one_too_many at full o)
 too_many_has P at full (Ok x) = tt
 too_many_has P at full (Err e) = has_either P (e.0 == at) _ _ (λ q. tt) (λ q. tt)
 
 -- ---- which actions
-
--- no machine, and any machine
-pub confined_none : {A T K D X M : Type 0} (L : Language A T K D X M) (ok : K → Bool) → Confined L ok (λ m. false)
-confined_none L ok m x e = absurd cc
 
 any_act : {K : Type 0} (k : Option K) → may_act (λ k. true) k ≡ true
 any_act None = refl
@@ -47,7 +51,7 @@ any_step (goes gap keep m k) = any_act k
 any_step s = refl
 
 pub confined_all : {A T K D X M : Type 0} (L : Language A T K D X M) → Confined L (λ k. true) (λ m. true)
-confined_all L m x e = any_step (L.step m x)
+confined_all L m x e = any_step _
 
 pub acts_all : {K D X M : Type 0} (g : Grammar K D X M) → acts_only (λ k. true) (λ m. true) g ≡ true
 acts_all (take gap keep x on off) = and_is _ _ (acts_all on) (acts_all off)
@@ -59,47 +63,14 @@ acts_all g = refl
 
 -- ---- the forms
 
-pub passed_token : {A T K D X M : Type 0} (L : Language A T K D X M) → ((x : X) (h : A) → L.passes x the_end h ≡ false) → (x : X) (y : Terminal) (h : A) → L.passes x y h ≡ true → is_token y ≡ true
+pub passed_token : {A T K D X M : Type 0} (L : Language A T K D X M) → ((x : X) (h : A) → L.passes x the_end h ≡ false)
+    → (x : X) (y : Terminal) (h : A) → L.passes x y h ≡ true → is_token y ≡ true
 passed_token L ended x the_end h e = absurd (let o = ended x h in cc)
-passed_token L ended x (terminal k bs) h e = refl
-
-pushed_has : {A T K D X M : Type 0} (L : Language A T K D X M) (all : List Token) (ok : K → Bool) (runs : M → Bool) (P : ℕ → A → Type 0) (c : Keeps L all ok runs P) (keep : Bool) (h : A) (at : ℕ)
-    → at < length all → P at h → P (at + 1) (pushed L keep at (terminal_at all at) h)
-pushed_has L all ok runs P c true h at lt p = c.held at h lt p
-pushed_has L all ok runs P c false h at lt p = c.on at h lt p
-
-acted_has : {A T K D X M : Type 0} (L : Language A T K D X M) (all : List Token) (ok : K → Bool) (runs : M → Bool) (P : ℕ → A → Type 0) (c : Keeps L all ok runs P) (k : K) (h : A) (place next : ℕ)
-    → ok k ≡ true → P next h → Has P (acted L k h place next)
-acted_has L all ok runs P c k h place next o p = has_either P (L.room k h) _ _ (λ e. c.added next k h o e p) (λ e. tt)
-
-acted_if_has : {A T K D X M : Type 0} (L : Language A T K D X M) (all : List Token) (ok : K → Bool) (runs : M → Bool) (P : ℕ → A → Type 0) (c : Keeps L all ok runs P) (k : Option K) (h : A) (place next : ℕ)
-    → may_act ok k ≡ true → P next h → Has P (acted_if L k h place next)
-acted_if_has L all ok runs P c None h place next o p = p
-acted_if_has L all ok runs P c (Some k) h place next o p = acted_has L all ok runs P c k h place next o p
+passed_token L ended x _ h e = refl
 
 pub closed_has : {A D : Type 0} (P : ℕ → A → Type 0) (o : Option D) (h : A) (at : ℕ) → P at h → Has P (closed o h at)
 closed_has P None h at p = p
 closed_has P (Some d) h at p = tt
-
-stepped_has : {A T K D X M : Type 0} (L : Language A T K D X M) (all : List Token) (ok : K → Bool) (runs : M → Bool) (P : ℕ → A → Type 0) (c : Keeps L all ok runs P) (go : M → A → ℕ → Out A D)
-    → ((m : M) (h : A) (at : ℕ) → runs m ≡ true → P at h → Has P (go m h at))
-    → (s : Step K D M) (h : A) (at : ℕ) → step_only ok runs s ≡ true → at < length all → P at h → Has P (stepped L go s (terminal_at all at) h at)
-stepped_has L all ok runs P c go r ends h at o lt p = p
-stepped_has L all ok runs P c go r (fails d) h at o lt p = tt
-stepped_has L all ok runs P c go r (goes gap keep m k) h at o lt p =
-    let b = both_true (runs m) (may_act ok k) o in
-    has_behind P P (acted_if L k (pushed L keep at (terminal_at all at) h) at (at + 1)) (λ x. go m x.0 x.1)
-    (acted_if_has L all ok runs P c k (pushed L keep at (terminal_at all at) h) at (at + 1) b.1 (pushed_has L all ok runs P c keep h at lt p)) (λ x q. r m x.0 x.1 b.0 q)
-
-scan_has : {A T K D X M : Type 0} (L : Language A T K D X M) (all : List Token) (ok : K → Bool) (runs : M → Bool) (P : ℕ → A → Type 0) (c : Keeps L all ok runs P) (f : ℕ) (m : M) (h : A) (at : ℕ)
-    → runs m ≡ true → P at h → Has P (scan_at L f all m h at)
-scan_has L all ok runs P c zero m h at e p = closed_has P (L.close m) h at p
-scan_has L all ok runs P c (suc f) m h at e p = elim (token_or_end (terminal_at all at)) [
-  | inl o ↦ subst (λ x. Has P (looked L (scan_at L f all) m x h at)) (sym o) (closed_has P (L.close m) h at p)
-  | inr o ↦ subst (Has P) (sym (look_is L (scan_at L f all) m (terminal_at all at) h at o)) (
-      stepped_has L all ok runs P c (scan_at L f all) (λ n k i v q. scan_has L all ok runs P c f n k i v q)
-      (L.step m (terminal_at all at)) h at (c.confined m (terminal_at all at) e) (before_end all at o) p)
-]
 
 comma_before : (all : List Token) (at : ℕ) → is_kind comma (terminal_at all at) ≡ true → at < length all
 comma_before all at e = before_end all at (comma_is_token (terminal_at all at) e)
@@ -109,41 +80,79 @@ comma_before all at e = before_end all at (comma_is_token (terminal_at all at) e
     comma_is_token (terminal k bs) e = refl
 
 -- a comma of a list is not held: the number goes on alone
-pub more_has : {A D : Type 0} (P : ℕ → A → Type 0) (all : List Token) (on : (at : ℕ) (h : A) → at < length all → P at h → P (at + 1) h) (f : ℕ) (item : A → ℕ → Out A D) → ((h : A) (at : ℕ) → P at h → Has P (item h at))
-    → (h : A) (at : ℕ) → P at h → Has P (more f all item h at)
+pub more_has : {A D : Type 0} (P : ℕ → A → Type 0) (all : List Token)
+    (on : (at : ℕ) (h : A) → at < length all → P at h → P (at + 1) h) (f : ℕ) (item : A → ℕ → Out A D)
+    → ((h : A) (at : ℕ) → P at h → Has P (item h at)) → (h : A) (at : ℕ) → P at h → Has P (more f all item h at)
 more_has P all on zero item r h at p = p
 more_has P all on (suc f) item r h at p =
-    has_either P (is_kind comma (terminal_at all at)) _ _
-    (λ e. has_behind P P (item h (at + 1)) (λ x. more f all item x.0 x.1) (r h (at + 1) (on at h (comma_before all at e) p)) (λ x q. more_has P all on f item r x.0 x.1 q)) (λ e. p)
+    has_either P _ _ _
+    (λ e. has_behind P P _ _
+    (r h (at + 1) (on at h (comma_before all at e) p)) (λ x q. more_has P all on f item r x.0 x.1 q)) (λ e. p)
 
-pub kept : {A T K D X M : Type 0} (L : Language A T K D X M) (all : List Token) (ok : K → Bool) (runs : M → Bool) (P : ℕ → A → Type 0) (c : Keeps L all ok runs P) (f : ℕ) (g : Grammar K D X M) (h : A) (at : ℕ)
-    → acts_only ok runs g ≡ true → P at h → Has P (read L f g all h at)
-kept L all ok runs P c f skip h at o p = p
-kept L all ok runs P c f (refuse d) h at o p = tt
-kept L all ok runs P c f (take gap keep x on off) h at o p =
-    let b = both_true _ _ o in
-    has_either P (L.passes x (terminal_at all at) h) _ _
-    (λ e. kept L all ok runs P c f on (pushed L keep at (terminal_at all at) h) (at + 1) b.0 (pushed_has L all ok runs P c keep h at (before_end all at (passed_token L c.ended x (terminal_at all at) h e)) p))
-    (λ e. kept L all ok runs P c f off h at b.1 p)
-kept L all ok runs P c f (peek x on off) h at o p =
-    let b = both_true _ _ o in
-    has_either P (L.passes x (terminal_at all at) h) _ _ (λ e. kept L all ok runs P c f on h at b.0 p) (λ e. kept L all ok runs P c f off h at b.1 p)
-kept L all ok runs P c f (need k g) h at o p = has_either P (L.room k h) _ _ (λ e. kept L all ok runs P c f g h at o p) (λ e. tt)
-kept L all ok runs P c f (act k) h at o p = acted_has L all ok runs P c k h at at o p
-kept L all ok runs P c f (both g k) h at o p =
-    let b = both_true _ _ o in
-    has_behind P P (read L f g all h at) (λ x. read L f k all x.0 x.1) (kept L all ok runs P c f g h at b.0 p) (λ x q. kept L all ok runs P c f k x.0 x.1 b.1 q)
-kept L all ok runs P c f (listed g) h at o p =
-    has_behind P P (read L f g all h at) (λ x. more f all (read L f g all) x.0 x.1) (kept L all ok runs P c f g h at o p)
-    (λ x q. more_has P all c.on f (read L f g all) (λ k i r. kept L all ok runs P c f g k i o r) x.0 x.1 q)
-kept L all ok runs P c f (scan m) h at o p = scan_has L all ok runs P c f m h at o p
+module _ {A T K D X M : Type 0} (L : Language A T K D X M) (all : List Token) (ok : K → Bool) (runs : M → Bool)
+    (P : ℕ → A → Type 0) (c : Keeps L all ok runs P) where
+  pushed_has : (keep : Bool) (h : A) (at : ℕ) → at < length all → P at h
+      → P (at + 1) (pushed L keep at (terminal_at all at) h)
+  pushed_has true h at lt p = c.held at h lt p
+  pushed_has false h at lt p = c.on at h lt p
 
--- where a reading succeeds
-pub kept_at : {A T K D X M : Type 0} (L : Language A T K D X M) (all : List Token) (ok : K → Bool) (runs : M → Bool) (P : ℕ → A → Type 0) (c : Keeps L all ok runs P) (f : ℕ) (g : Grammar K D X M) (h h' : A) (at next : ℕ)
-    → acts_only ok runs g ≡ true → P at h → read L f g all h at ≡ Ok (h', next) → P next h'
-kept_at L all ok runs P c f g h h' at next o p e = subst (Has P) e (kept L all ok runs P c f g h at o p)
+  acted_has : (k : K) (h : A) (place next : ℕ) → ok k ≡ true → P next h → Has P (acted L k h place next)
+  acted_has k h place next o p = has_either P _ _ _ (λ e. c.added next k h o e p) (λ e. tt)
+
+  acted_if_has : (k : Option K) (h : A) (place next : ℕ) → may_act ok k ≡ true → P next h
+      → Has P (acted_if L k h place next)
+  acted_if_has None h place next o p = p
+  acted_if_has (Some k) h place next o p = acted_has k h place next o p
+
+  stepped_has : (go : M → A → ℕ → Out A D) → ((m : M) (h : A) (at : ℕ) → runs m ≡ true → P at h → Has P (go m h at))
+      → (s : Step K D M) (h : A) (at : ℕ) → step_only ok runs s ≡ true → at < length all → P at h
+      → Has P (stepped L go s (terminal_at all at) h at)
+  stepped_has go r ends h at o lt p = p
+  stepped_has go r (fails d) h at o lt p = tt
+  stepped_has go r (goes gap keep m k) h at o lt p =
+      let b = both_true _ _ o in
+      has_behind P P _ _ (acted_if_has k _ at _ b.1 (pushed_has keep h at lt p))
+      (λ x q. r m x.0 x.1 b.0 q)
+
+  scan_has : (f : ℕ) (m : M) (h : A) (at : ℕ) → runs m ≡ true → P at h → Has P (scan_at L f all m h at)
+  scan_has zero m h at e p = closed_has P _ h at p
+  scan_has (suc f) m h at e p = elim (token_or_end _) [
+    | inl o ↦ subst (λ x. Has P (looked L (scan_at L f all) m x h at)) (sym o) (closed_has P _ h at p)
+    | inr o ↦ subst (Has P) (sym (look_is L _ m _ h at o)) (
+        stepped_has _ (λ n k i v q. scan_has f n k i v q)
+        _ h at (c.confined m (terminal_at all at) e) (before_end all at o) p)
+  ]
+
+  pub kept : (f : ℕ) (g : Grammar K D X M) (h : A) (at : ℕ) → acts_only ok runs g ≡ true → P at h
+      → Has P (read L f g all h at)
+  kept f skip h at o p = p
+  kept f (refuse d) h at o p = tt
+  kept f (take gap keep x on off) h at o p =
+      let b = both_true _ _ o in
+      has_either P (L.passes x (terminal_at all at) h) _ _
+      (λ e. kept f on _ _ b.0 (pushed_has keep h at (before_end all at (passed_token L c.ended x _ h e)) p))
+      (λ e. kept f off h at b.1 p)
+  kept f (peek x on off) h at o p =
+      let b = both_true _ _ o in
+      has_either P (L.passes x (terminal_at all at) h) _ _ (λ e. kept f on h at b.0 p) (λ e. kept f off h at b.1 p)
+  kept f (need k g) h at o p = has_either P (L.room k h) _ _ (λ e. kept f g h at o p) (λ e. tt)
+  kept f (act k) h at o p = acted_has k h at at o p
+  kept f (both g k) h at o p =
+      let b = both_true _ _ o in
+      has_behind P P (read L f g all h at) _ (kept f g h at b.0 p)
+      (λ x q. kept f k x.0 x.1 b.1 q)
+  kept f (listed g) h at o p =
+      has_behind P P (read L f g all h at) _ (kept f g h at o p)
+      (λ x q. more_has P all c.on f (read L f g all) (λ k i r. kept f g k i o r) x.0 x.1 q)
+  kept f (scan m) h at o p = scan_has f m h at o p
+
+  -- where a reading succeeds
+  pub kept_at : (f : ℕ) (g : Grammar K D X M) (h h' : A) (at next : ℕ) → acts_only ok runs g ≡ true → P at h
+      → read L f g all h at ≡ Ok (h', next) → P next h'
+  kept_at f g h h' at next o p e = subst (Has P) e (kept f g h at o p)
 
 -- with each action
-pub kept_all : {A T K D X M : Type 0} (L : Language A T K D X M) (all : List Token) (P : ℕ → A → Type 0) (c : Keeps L all (λ k. true) (λ m. true) P) (f : ℕ) (g : Grammar K D X M) (h : A) (at : ℕ)
-    → P at h → Has P (read L f g all h at)
-kept_all L all P c f g h at p = kept L all (λ k. true) (λ m. true) P c f g h at (acts_all g) p
+pub kept_all : {A T K D X M : Type 0} (L : Language A T K D X M) (all : List Token) (P : ℕ → A → Type 0)
+    (c : Keeps L all (λ k. true) (λ m. true) P) (f : ℕ) (g : Grammar K D X M) (h : A) (at : ℕ) → P at h
+    → Has P (read L f g all h at)
+kept_all L all P c f g h at p = kept L all _ _ P c f g h at (acts_all g) p

@@ -1,6 +1,7 @@
 -- Which tokens may stand behind one another without a blank, and the test that no way through a grammar lets two
 -- of them run together.
-use Rattle.std.specs.Prelude.{◌≡◌, ◌⊎◌, ℕ, List, [], ◌∷◌, ◌++◌, length, map, Option, Some, None, Bool, true, false, not, ◌==◌, ◌&&◌, ◌||◌, if◌then◌else◌, is_some, option_and_then, nat_lt}
+use Rattle.std.specs.Prelude.{◌≡◌, ◌⊎◌, ℕ, List, [], ◌∷◌, ◌++◌, length, map, Option, Some, None, Bool, true, false, not}
+use Rattle.std.specs.Prelude.{◌==◌, ◌&&◌, ◌||◌, if◌then◌else◌, is_some, option_and_then, nat_lt}
 use Rattle.std.specs.List.{list_all}
 use Rattle.std.specs.Str.{IsUtf8}
 use Rattle.xf_type.specs.Bytes.{is_digit, is_word_byte}
@@ -12,7 +13,9 @@ use Rattle.xf_lex.specs.Lexemes.{token_at}
 use Rattle.xf_lex.specs.Lexes.{is_tensor}
 use Rattle.xf_lex.specs.Layout.{SpacedToken, layout, AllStay}
 use Rattle.xf_grammar.specs.Tokens.{Terminal, the_end, terminal, telling, same_kind, comma, open_brace, close_brace}
-use Rattle.xf_grammar.specs.Grammar.{Grammar, skip, refuse, take, peek, need, act, both, listed, scan, Language, Gap, none, Spaced, Fill, nothing, yes, here, other, two, list, run, run_written, run_fits}
+use Rattle.xf_grammar.specs.Grammar.{Grammar, skip, refuse, take, peek, need, act, both, listed, scan, Language, Gap}
+use Rattle.xf_grammar.specs.Grammar.{none, Spaced, Fill, nothing, yes, here, other, two, list, run, run_written}
+use Rattle.xf_grammar.specs.Grammar.{run_fits}
 use Rattle.xf_grammar.specs.Layout.{token_text, terminals_plain}
 use Rattle.xf_grammar.specs.Tree.{Shape, bare, regions, Format, Docs, no_docs, doc, Blocks, no_blocks, a_block}
 
@@ -101,8 +104,8 @@ last b [] = b
 last b (p ∷ ps) = last (before p.token) ps
 
 -- a text is laid out of these tokens
-abbrev pub HasLayout : List ℕ → List Terminal → Type 0
-HasLayout text xs =
+abbrev pub IsLaidOut : List ℕ → List Terminal → Type 0
+IsLaidOut text xs =
     (ws : List SpacedToken) × ((tail : List ℕ) × ((layout ws tail ≡ text)
     × (AllStay false ws tail × (IsUtf8 (layout ws tail) × (terminals_plain (map (λ w. w.token) ws) ≡ xs)))))
 

@@ -1,5 +1,6 @@
 -- Grammars as first-order data: what is read, what is written, what that says, and what may stand behind it.
-use Rattle.std.specs.Prelude.{◌≡◌, ℕ, zero, suc, ◌+◌, List, [], ◌∷◌, ◌++◌, map, Option, Some, None, Ok, Err, Bool, true, false, not, ◌&&◌, if◌then◌else◌}
+use Rattle.std.specs.Prelude.{◌≡◌, ℕ, zero, suc, ◌+◌, List, [], ◌∷◌, ◌++◌, map, Option, Some, None, Ok, Err, Bool, true}
+use Rattle.std.specs.Prelude.{false, not, ◌&&◌, if◌then◌else◌}
 use Rattle.xf_lex.specs.declared.token.Token.{Token}
 use Rattle.xf_grammar.specs.Tokens.{Terminal, the_end, terminal, terminal_at, is_kind, comma}
 use Rattle.xf_grammar.specs.Reading.{Out, ◌>>=◌}
@@ -10,8 +11,8 @@ pub data Grammar (K D X M : Type 0) : Type 0 where
   skip : Grammar K D X M
   -- no token fits
   refuse : (due : D) → Grammar K D X M
-  -- a token that passes a test, which is held or not, and what follows it; or else another way. In print a blank stands before it, or
-  -- none
+  -- a token that passes a test, which is held or not, and what follows it; or else another way. In print a blank stands
+  -- before it, or none
   take : (gap keep : Bool) (test : X) (on off : Grammar K D X M) → Grammar K D X M
   -- one way where the next token passes a test, or else another way
   peek : (test : X) (on off : Grammar K D X M) → Grammar K D X M
@@ -71,12 +72,14 @@ abbrev pub closed : {A D : Type 0} → Option D → A → ℕ → Out A D
 closed None h at = Ok (h, at)
 closed (Some d) h at = Err (at, d)
 
-abbrev pub stepped : {A T K D X M : Type 0} → Language A T K D X M → (M → A → ℕ → Out A D) → Step K D M → Terminal → A → ℕ → Out A D
+abbrev pub stepped : {A T K D X M : Type 0} → Language A T K D X M → (M → A → ℕ → Out A D) → Step K D M → Terminal → A
+    → ℕ → Out A D
 stepped L run ends x h at = Ok (h, at)
 stepped L run (fails d) x h at = Err (at, d)
 stepped L run (goes gap keep m k) x h at = acted_if L k (pushed L keep at x h) at (at + 1) >>= λ y. run m y.0 y.1
 
-abbrev pub looked : {A T K D X M : Type 0} → Language A T K D X M → (M → A → ℕ → Out A D) → M → Terminal → A → ℕ → Out A D
+abbrev pub looked : {A T K D X M : Type 0} → Language A T K D X M → (M → A → ℕ → Out A D) → M → Terminal → A → ℕ
+    → Out A D
 looked L run m the_end h at = closed (L.close m) h at
 looked L run m (terminal k bytes) h at = stepped L run (L.step m (terminal k bytes)) (terminal k bytes) h at
 
@@ -88,15 +91,21 @@ scan_at L (suc f) all m h at = looked L (scan_at L f all) m (terminal_at all at)
 -- behind an item: a comma and an item, as often as there is a comma
 abbrev pub more : {A D : Type 0} → ℕ → List Token → (A → ℕ → Out A D) → A → ℕ → Out A D
 more zero all item h at = Ok (h, at)
-more (suc f) all item h at = if is_kind comma (terminal_at all at) then (item h (at + 1) >>= λ x. more f all item x.0 x.1) else Ok (h, at)
+more (suc f) all item h at =
+    if is_kind comma (terminal_at all at)
+    then (item h (at + 1) >>= λ x. more f all item x.0 x.1)
+    else Ok (h, at)
 
 -- f is at least the number of tokens
 abbrev pub read : {A T K D X M : Type 0} → Language A T K D X M → ℕ → Grammar K D X M → List Token → A → ℕ → Out A D
 read L f skip all h at = Ok (h, at)
 read L f (refuse d) all h at = Err (at, d)
 read L f (take gap keep x on off) all h at =
-    if L.passes x (terminal_at all at) h then read L f on all (pushed L keep at (terminal_at all at) h) (at + 1) else read L f off all h at
-read L f (peek x on off) all h at = if L.passes x (terminal_at all at) h then read L f on all h at else read L f off all h at
+    if L.passes x (terminal_at all at) h
+    then read L f on all (pushed L keep at (terminal_at all at) h) (at + 1)
+    else read L f off all h at
+read L f (peek x on off) all h at =
+    if L.passes x (terminal_at all at) h then read L f on all h at else read L f off all h at
 read L f (need k on) all h at = if L.room k h then read L f on all h at else Err (at, L.full k)
 read L f (act k) all h at = acted L k h at at
 read L f (both g k) all h at = read L f g all h at >>= λ x. read L f k all x.0 x.1
@@ -249,10 +258,13 @@ is_token (terminal k bytes) = true
 abbrev pub run_fits : {A T K D X M : Type 0} → Language A T K D X M → M → List Terminal → Terminal → T → Bool
 run_fits L m [] y t = stops L m y
 run_fits L m (x ∷ xs) y t =
-    is_token x && (step_fits L (L.step m x) x t && run_fits L (step_next m (L.step m x)) xs y (step_tells L (L.step m x) x t))
+    is_token x
+    && (step_fits L (L.step m x) x t
+    && run_fits L (step_next m (L.step m x)) xs y (step_tells L (L.step m x) x t))
 
 -- the items behind the first: how they are written, what they say, and which fit
-abbrev pub more_fits : {T : Type 0} → (Fill → List Spaced) → (Fill → T → T) → (Fill → Terminal → T → Bool) → Fill → Terminal → T → Bool
+abbrev pub more_fits : {T : Type 0} → (Fill → List Spaced) → (Fill → T → T) → (Fill → Terminal → T → Bool) → Fill
+    → Terminal → T → Bool
 more_fits W S F (list f r) y t = F f (first_seen (tokens_of (more_written W r)) y) t && more_fits W S F r y (S f t)
 more_fits W S F nothing y t = not (is_kind comma y)
 more_fits W S F f y t = false
@@ -267,7 +279,8 @@ fits L (need k on) f y t = L.space k t && fits L on f y t
 fits L (act k) nothing y t = L.space k t
 fits L (both g k) (two f e) y t = fits L g f (first_seen (tokens L k e) y) t && fits L k e y (tells L g f t)
 fits L (listed g) (list f r) y t =
-    fits L g f (first_seen (more_tokens L g r) y) t && more_fits (written L g) (tells L g) (fits L g) r y (tells L g f t)
+    fits L g f (first_seen (more_tokens L g r) y) t
+    && more_fits (written L g) (tells L g) (fits L g) r y (tells L g f t)
 fits L (scan m) (run xs) y t = run_fits L m xs y t
 fits L g f y t = false
 
@@ -279,12 +292,14 @@ AllStand all at [] next = at ≡ next
 AllStand all at (p ∷ ps) next = (terminal_at all at ≡ p) × AllStand all (at + 1) ps next
 
 -- `Says h t`: what was read of a text says so much. Each step of a reading keeps it
-pub record Lawful {A T K D X M : Type 0} (L : Language A T K D X M) (all : List Token) (Says : A → T → Type 0) : Type 0 where
-  pub ended : (x : X) (h : A) → L.passes x the_end h ≡ false
-  pub pushed : (h : A) (t : T) (at : ℕ) → Says h t → Says (L.push at (terminal_at all at) h) (L.hold (terminal_at all at) t)
-  pub added : (k : K) (h : A) (t : T) → Says h t → Says (L.add k h) (L.tell k t)
-  pub roomy : (k : K) (h : A) (t : T) → Says h t → L.room k h ≡ L.space k t
-  pub tested : (x : X) (y : Terminal) (h : A) (t : T) → Says h t → L.passes x y h ≡ L.allows x y t
+pub record Lawful {A T K D X M : Type 0} (L : Language A T K D X M) (all : List Token) (Says : A → T → Type 0) : Type 0
+  where
+    pub ended : (x : X) (h : A) → L.passes x the_end h ≡ false
+    pub pushed : (h : A) (t : T) (at : ℕ) → Says h t
+        → Says (L.push at (terminal_at all at) h) (L.hold (terminal_at all at) t)
+    pub added : (k : K) (h : A) (t : T) → Says h t → Says (L.add k h) (L.tell k t)
+    pub roomy : (k : K) (h : A) (t : T) → Says h t → L.room k h ≡ L.space k t
+    pub tested : (x : X) (y : Terminal) (h : A) (t : T) → Says h t → L.passes x y h ≡ L.allows x y t
 
 -- ---- which actions a grammar may come to
 

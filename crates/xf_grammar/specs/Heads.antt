@@ -16,7 +16,8 @@ head_fits F l p s y =
     && fits F.language (F.slots (row_of F l p)) s y (head_says F l p)
 
 -- so filled they stand from one number up to another
-abbrev pub HeadStands : {A T K D X M R V P S : Type 0} → Format A T K D X M R V P S → List Token → V → Fill → Fill → ℕ → ℕ
+abbrev pub HeadStands : {A T K D X M R V P S : Type 0} → Format A T K D X M R V P S → List Token → V → Fill → Fill → ℕ
+    → ℕ
     → Type 0
 HeadStands F all l p s at next =
     AllStand all at (tokens_of (head_written F l p s)) next × (head_fits F l p s (terminal_at all next) ≡ true)

@@ -1,7 +1,8 @@
 -- Readings of a list of tokens, from a number on.
 use Rattle.std.specs.Prelude.{ℕ, ◌==◌, Result, Ok, Err, if◌then◌else◌}
 
--- what is read, and the number of the token behind it; or the number of the first token that does not fit, and what was due there
+-- what is read, and the number of the token behind it; or the number of the first token that does not fit, and what was
+-- due there
 abbrev pub Out : Type 0 → Type 0 → Type 0
 Out A D = Result (A × ℕ) (ℕ × D)
 

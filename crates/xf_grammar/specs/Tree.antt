@@ -1,12 +1,16 @@
--- Trees of operations by a table of rows: a head, the slots of its row, blocks in braces with headers, regions behind one another, and
--- what stands behind them; within limits of nesting and number, and with terminators that may be left out.
-use Rattle.std.specs.Prelude.{◌≡◌, ℕ, zero, suc, ◌+◌, List, [], ◌∷◌, ◌++◌, Ok, Err, Bool, true, false, not, ◌&&◌, if◌then◌else◌, nat_lt}
+-- Trees of operations by a table of rows: a head, the slots of its row, blocks in braces with headers, regions behind
+-- one another, and what stands behind them; within limits of nesting and number, and with terminators that may be left
+-- out.
+use Rattle.std.specs.Prelude.{◌≡◌, ℕ, zero, suc, ◌+◌, List, [], ◌∷◌, ◌++◌, Ok, Err, Bool, true, false, not, ◌&&◌}
+use Rattle.std.specs.Prelude.{if◌then◌else◌, nat_lt}
 use Rattle.xf_lex.specs.declared.token.Token.{Token}
 use Rattle.xf_grammar.specs.Tokens.{Terminal, the_end, terminal, terminal_at, is_kind, open_brace, close_brace}
 use Rattle.xf_grammar.specs.Reading.{Out, ◌>>=◌, one_too_many}
-use Rattle.xf_grammar.specs.Grammar.{Grammar, Language, read, blank, line, gap_of, Spaced, spaced, tokens_of, begun, Fill, written, tells, fits, first_seen, Lawful}
+use Rattle.xf_grammar.specs.Grammar.{Grammar, Language, read, blank, line, gap_of, Spaced, spaced, tokens_of, begun}
+use Rattle.xf_grammar.specs.Grammar.{Fill, written, tells, fits, first_seen, Lawful}
 
--- the regions of an operation: none; or one and so many others at most, each behind a token that passes this test and is written so
+-- the regions of an operation: none; or one and so many others at most, each behind a token that passes this test and
+-- is written so
 pub data Shape (X : Type 0) : Type 0 where
   bare : Shape X
   regions : (gap : Bool) (test : X) (between : Terminal) (others : ℕ) → Shape X
@@ -37,7 +41,8 @@ pub record Format (A T K D X M R V P S : Type 0) : Type 0 where
   -- how many regions may be open, and how many operations there may be
   pub most_open : ℕ
   pub most_nodes : ℕ
-  -- what is due where a block of a row begins, where one ends, where one is too deep, and where an operation is one too many
+  -- what is due where a block of a row begins, where one ends, where one is too deep, and where an operation is one too
+  -- many
   pub due_open : R → D
   pub due_close : D
   pub due_nest : D
@@ -105,13 +110,21 @@ limited most full count at r = if nat_lt count most then r else one_too_many at 
 -- the brace that closes a block, with the terminator that is left out before it
 abbrev pub ended : {P D : Type 0} → ℕ → D → Bool → Nodes P → ℕ → ℕ → Counted (Block P) D
 ended most full lacking ns count at =
-    if lacking then (if nat_lt count most then Ok ((block ns at, count + 1), at + 1) else Err (at, full)) else Ok ((block ns at, count), at + 1)
+    if lacking
+    then (if nat_lt count most then Ok ((block ns at, count + 1), at + 1) else Err (at, full))
+    else Ok ((block ns at, count), at + 1)
 
-abbrev pub shut : {A T K D X M R V P S : Type 0} → Format A T K D X M R V P S → List Token → P → Nodes P → ℕ → ℕ → Counted (Block P) D
-shut F all p ns count at = if is_kind close_brace (terminal_at all at) then ended F.most_nodes F.due_many (lacks F p ns) ns count at else Err (at, F.due_close)
+abbrev pub shut : {A T K D X M R V P S : Type 0} → Format A T K D X M R V P S → List Token → P → Nodes P → ℕ → ℕ
+    → Counted (Block P) D
+shut F all p ns count at =
+    if is_kind close_brace (terminal_at all at)
+    then ended F.most_nodes F.due_many (lacks F p ns) ns count at
+    else Err (at, F.due_close)
 
--- a block in braces, inside so many open regions: what its header adds to what was read of the operation, and its operations
-abbrev pub block_at : {A T K D X M R V P S : Type 0} → Format A T K D X M R V P S → ℕ → List Token → (V → ℕ → From (Nodes P) D) → R → ℕ → A → From (A × Block P) D
+-- a block in braces, inside so many open regions: what its header adds to what was read of the operation, and its
+-- operations
+abbrev pub block_at : {A T K D X M R V P S : Type 0} → Format A T K D X M R V P S → ℕ → List Token
+    → (V → ℕ → From (Nodes P) D) → R → ℕ → A → From (A × Block P) D
 block_at F n all inner r depth h count at =
     if is_kind open_brace (terminal_at all at)
     then (if nat_lt depth F.most_open
@@ -123,7 +136,8 @@ block_at F n all inner r depth h count at =
     else Err (at, F.due_open r)
 
 -- further blocks, each behind a token that passes the test
-abbrev pub others_at : {A P D : Type 0} → ℕ → (Terminal → A → Bool) → List Token → (A → From (A × Block P) D) → A → From (A × Bodies P) D
+abbrev pub others_at : {A P D : Type 0} → ℕ → (Terminal → A → Bool) → List Token → (A → From (A × Block P) D) → A
+    → From (A × Bodies P) D
 others_at zero test all one h count at = Ok (((h, no_bodies), count), at)
 others_at (suc o) test all one h count at =
     if test (terminal_at all at) h
@@ -132,7 +146,8 @@ others_at (suc o) test all one h count at =
     >>= λ r. Ok (((r.0.0.0, body x.0.0.1.nodes x.0.0.1.close r.0.0.1), r.0.1), r.1))
     else Ok (((h, no_bodies), count), at)
 
-abbrev pub bodies_at : {A P D X : Type 0} → (X → Terminal → A → Bool) → Shape X → List Token → (A → From (A × Block P) D) → A → From (A × Bodies P) D
+abbrev pub bodies_at : {A P D X : Type 0} → (X → Terminal → A → Bool) → Shape X → List Token
+    → (A → From (A × Block P) D) → A → From (A × Bodies P) D
 bodies_at passes bare all one h count at = Ok (((h, no_bodies), count), at)
 bodies_at passes (regions gap x t o) all one h count at =
     one h count at
@@ -140,14 +155,16 @@ bodies_at passes (regions gap x t o) all one h count at =
     >>= λ r. Ok (((r.0.0.0, body b.0.0.1.nodes b.0.0.1.close r.0.0.1), r.0.1), r.1)
 
 -- the head of an operation and its slots: the row, and what is read
-abbrev pub head_at : {A T K D X M R V P S : Type 0} → Format A T K D X M R V P S → ℕ → List Token → V → ℕ → Out (R × A) D
+abbrev pub head_at : {A T K D X M R V P S : Type 0} → Format A T K D X M R V P S → ℕ → List Token → V → ℕ
+    → Out (R × A) D
 head_at F n all l at =
     read F.language n (F.head l) all F.empty at
     >>= λ h. read F.language n (F.slots (F.row (F.parts h.0))) all h.0 h.1
     >>= λ s. Ok ((F.row (F.parts h.0), s.0), s.1)
 
 -- an operation, the operations of its blocks read by inner
-abbrev pub node_at : {A T K D X M R V P S : Type 0} → Format A T K D X M R V P S → ℕ → List Token → (V → ℕ → From (Nodes P) D) → V → ℕ → From (Tree P) D
+abbrev pub node_at : {A T K D X M R V P S : Type 0} → Format A T K D X M R V P S → ℕ → List Token
+    → (V → ℕ → From (Nodes P) D) → V → ℕ → From (Tree P) D
 node_at F n all inner l depth count at =
     limited F.most_nodes F.due_many count at (head_at F n all l at)
     >>= λ h. bodies_at F.language.passes (F.shape h.0.0) all (block_at F n all inner h.0.0 depth) h.0.1 (count + 1) h.1
@@ -155,7 +172,8 @@ node_at F n all inner l depth count at =
     >>= λ t. Ok ((tree at (F.parts t.0) bs.0.0.1, bs.0.1), t.1)
 
 -- operations up to a brace or the end; f is more than the tokens that are left, n at least all
-abbrev pub nodes_at : {A T K D X M R V P S : Type 0} → Format A T K D X M R V P S → ℕ → ℕ → List Token → V → ℕ → From (Nodes P) D
+abbrev pub nodes_at : {A T K D X M R V P S : Type 0} → Format A T K D X M R V P S → ℕ → ℕ → List Token → V → ℕ
+    → From (Nodes P) D
 nodes_at F n zero all l depth count at = Err (at, F.due_close)
 nodes_at F n (suc f) all l depth count at =
     if closes (terminal_at all at) then Ok ((no_nodes, count), at)
@@ -216,7 +234,8 @@ abbrev mutual
       between (F.shape r) first
       ++ (spaced blank (terminal open_brace [])
       ∷ (begun (line margin) (written F.language (F.header r) h)
-      ++ (docs_written F (F.inside r) (margin + 1) ds ++ (spaced (line margin) (terminal close_brace []) ∷ blocks_written F r margin false rest))))
+      ++ (docs_written F (F.inside r) (margin + 1) ds
+      ++ (spaced (line margin) (terminal close_brace []) ∷ blocks_written F r margin false rest))))
 
 -- ---- which fillings fit
 
@@ -258,18 +277,22 @@ abbrev mutual
       begins (written F.language (F.head l) p)
       && (fits F.language (F.head l) p
       (follow (written F.language (F.slots (row_of F l p)) s
-      ++ (blocks_written F (row_of F l p) 0 true bs ++ (written F.language (F.tail (row_of F l p)) q ++ docs_written F (F.behind l) 0 rest))) y)
+      ++ (blocks_written F (row_of F l p) 0 true bs
+      ++ (written F.language (F.tail (row_of F l p)) q ++ docs_written F (F.behind l) 0 rest))) y)
       F.nothing
       && (fits F.language (F.slots (row_of F l p)) s
-      (follow (blocks_written F (row_of F l p) 0 true bs ++ (written F.language (F.tail (row_of F l p)) q ++ docs_written F (F.behind l) 0 rest)) y)
+      (follow (blocks_written F (row_of F l p) 0 true bs
+      ++ (written F.language (F.tail (row_of F l p)) q ++ docs_written F (F.behind l) 0 rest)) y)
       (head_says F l p)
       && (blocks_fit F (row_of F l p) depth (others_of (F.shape (row_of F l p))) true bs
       (follow (written F.language (F.tail (row_of F l p)) q ++ docs_written F (F.behind l) 0 rest) y)
       (slots_say F l p s)
-      && (fits F.language (F.tail (row_of F l p)) q (follow (docs_written F (F.behind l) 0 rest) y) (headers_say F (row_of F l p) bs (slots_say F l p s))
+      && (fits F.language (F.tail (row_of F l p)) q (follow (docs_written F (F.behind l) 0 rest) y)
+      (headers_say F (row_of F l p) bs (slots_say F l p s))
       && docs_fit F (F.behind l) depth rest y))))
 
-  pub blocks_fit : {A T K D X M R V P S : Type 0} → Format A T K D X M R V P S → R → ℕ → ℕ → Bool → Blocks → Terminal → T → Bool
+  pub blocks_fit : {A T K D X M R V P S : Type 0} → Format A T K D X M R V P S → R → ℕ → ℕ → Bool → Blocks → Terminal
+      → T → Bool
   blocks_fit F r depth k first no_blocks y t = may_end F.language.allows (F.shape r) k first y t
   blocks_fit F r depth k first (a_block h ds rest) y t =
       may_go F.language.allows (F.shape r) k first t
@@ -303,7 +326,8 @@ abbrev mutual
   pub docs_say : {A T K D X M R V P S : Type 0} → Format A T K D X M R V P S → V → Docs → SaidNodes S
   docs_say F l no_docs = no_nodes_said
   docs_say F l (doc p s bs q rest) =
-      node_said (F.says (tail_says F (row_of F l p) bs q (slots_say F l p s))) (blocks_say F (row_of F l p) bs) (docs_say F (F.behind l) rest)
+      node_said (F.says (tail_says F (row_of F l p) bs q (slots_say F l p s))) (blocks_say F (row_of F l p) bs)
+      (docs_say F (F.behind l) rest)
 
   pub blocks_say : {A T K D X M R V P S : Type 0} → Format A T K D X M R V P S → R → Blocks → SaidBodies S
   blocks_say F r no_blocks = no_bodies_said

@@ -18,7 +18,7 @@ pub fn looks(tokens: &[Token], at: usize, kind: TokenKind) -> bool
 }
 
 /// The bytes of the word that stands there; no bytes where no word stands there.
-pub fn word_at(tokens: &[Token], at: usize) -> &[u8]
+pub fn word_at<'a>(tokens: &'a [Token], at: usize) -> &'a [u8]
     ensures { result.now ≡ word_at tokens.now at }
 {
     if at < tokens.len() {

@@ -1,5 +1,6 @@
 //! Files and a sink in memory, with failures that a test plans.
-ghost use Rattle.std.specs.Prelude.{◌≡◌, ◌≢◌, ◌≤◌, ◌++◌, ◌⊎◌, ℕ, List, [], ◌∷◌, Some, None, take, OnOk, OnErr, IfSome, IsErrOf, IsSome, IsNone, IsSomeAnd};
+ghost use Rattle.std.specs.Prelude.{◌≡◌, ◌≢◌, ◌≤◌, ◌++◌, ◌⊎◌, ℕ, List, [], ◌∷◌, Some, None, take, OnOk, OnErr, IfSome};
+ghost use Rattle.std.specs.Prelude.{IsErrOf, IsSome, IsNone, IsSomeAnd};
 
 use crate::NoMemory;
 use crate::counts::PathCounts;
@@ -67,7 +68,8 @@ impl MemFiles {
 }
 
 impl Files for MemFiles {
-    ghost use Rattle.xf_host.specs.Memory.{file_at, read_faults, reads_made, planned_reads, IsPlannedRead, reads_after, read_faults_after};
+    ghost use Rattle.xf_host.specs.Memory.{file_at, read_faults, reads_made, planned_reads, IsPlannedRead, reads_after};
+    ghost use Rattle.xf_host.specs.Memory.{read_faults_after};
 
     ghost holds = { λ s q. file_at s q };
 
@@ -163,7 +165,8 @@ impl MemSink {
 }
 
 impl Sink for MemSink {
-    ghost use Rattle.xf_host.specs.Memory.{taken_bytes, write_faults, writes_made, planned_write, writes_after, write_faults_after};
+    ghost use Rattle.xf_host.specs.Memory.{taken_bytes, write_faults, writes_made, planned_write, writes_after};
+    ghost use Rattle.xf_host.specs.Memory.{write_faults_after};
 
     ghost written = { λ s. Some (taken_bytes s) };
 

@@ -19,8 +19,10 @@ same_by_pairs [] (y ∷ ys) = refl
 same_by_pairs (x ∷ xs) [] = refl
 same_by_pairs (x ∷ xs) (y ∷ ys) = ap (λ b. (x == y) && b) (same_by_pairs xs ys)
 
-pub before_by_pairs : (xs ys : List ℕ) (r : Bool) → r ≡ is_some_and is_lt (slice_partial_cmp (λ x y. Some (nat_cmp x y)) xs ys) → r ≡ bytes_before xs ys
-before_by_pairs = same_from_slice_cmp_tested nat_cmp is_lt bytes_before refl (λ _ _. refl) (λ _ _. refl) (λ x y xs ys o h. grind (arith, nat_tests))
+pub before_by_pairs : (xs ys : List ℕ) (r : Bool)
+    → r ≡ is_some_and is_lt (slice_partial_cmp (λ x y. Some (nat_cmp x y)) xs ys) → r ≡ bytes_before xs ys
+before_by_pairs = same_from_slice_cmp_tested nat_cmp is_lt bytes_before refl (λ _ _. refl) (λ _ _. refl)
+    (λ x y xs ys o h. grind (arith, nat_tests))
 
 -- ---- the place of an attribute
 

@@ -5,7 +5,8 @@ use Rattle.std.proofs.lemmas.Bool.Decides.{nat_tests}
 use Rattle.xf_ir.specs.Lists.{same_bytes}
 use Rattle.xf_ir.specs.Attributes.{bytes_before}
 
-ordered : (x y : ℕ) (xs ys : List ℕ) → bytes_before (x ∷ xs) (y ∷ ys) ≡ true → (x < y) ⊎ ((x ≡ y) × (bytes_before xs ys ≡ true))
+ordered : (x y : ℕ) (xs ys : List ℕ) → bytes_before (x ∷ xs) (y ∷ ys) ≡ true
+    → (x < y) ⊎ ((x ≡ y) × (bytes_before xs ys ≡ true))
 ordered x y xs ys h = grind (arith, nat_tests)
 
 first_before : (x y : ℕ) (xs ys : List ℕ) → x < y → bytes_before (x ∷ xs) (y ∷ ys) ≡ true
@@ -14,7 +15,8 @@ first_before x y xs ys h = grind (arith, nat_tests)
 rest_before : (x y : ℕ) (xs ys : List ℕ) → x ≡ y → bytes_before xs ys ≡ true → bytes_before (x ∷ xs) (y ∷ ys) ≡ true
 rest_before x y xs ys e h = grind (arith, nat_tests)
 
-pub before_trans : (xs ys zs : List ℕ) → bytes_before xs ys ≡ true → bytes_before ys zs ≡ true → bytes_before xs zs ≡ true
+pub before_trans : (xs ys zs : List ℕ) → bytes_before xs ys ≡ true → bytes_before ys zs ≡ true
+    → bytes_before xs zs ≡ true
 before_trans [] [] zs h k = absurd (cc)
 before_trans [] (y ∷ ys) [] h k = absurd (cc)
 before_trans [] (y ∷ ys) (z ∷ zs) h k = refl
@@ -33,7 +35,8 @@ before_trans (x ∷ xs) (y ∷ ys) (z ∷ zs) h k =
     ]
 
 -- of two texts that differ one comes before the other
-pub before_or_behind : (xs ys : List ℕ) → bytes_before xs ys ≡ false → same_bytes xs ys ≡ false → bytes_before ys xs ≡ true
+pub before_or_behind : (xs ys : List ℕ) → bytes_before xs ys ≡ false → same_bytes xs ys ≡ false
+    → bytes_before ys xs ≡ true
 before_or_behind [] [] h k = absurd (cc)
 before_or_behind [] (y ∷ ys) h k = absurd (cc)
 before_or_behind (x ∷ xs) [] h k = refl
@@ -62,6 +65,7 @@ same_itself (x ∷ xs) = grind (arith, nat_tests, same_itself xs)
 pub before_other : (xs ys : List ℕ) → bytes_before xs ys ≡ true → same_bytes ys xs ≡ false
 before_other xs ys h =
     elim (cases_Bool (same_bytes ys xs)) [
-      | inl e ↦ absurd (let z = subst (λ zs. bytes_before xs zs ≡ true) (same_is ys xs e) h in let n = not_itself xs in cc)
+      | inl e ↦ absurd (let z = subst (λ zs. bytes_before xs zs ≡ true) (same_is ys xs e) h in
+          let n = not_itself xs in cc)
       | inr e ↦ e
     ]

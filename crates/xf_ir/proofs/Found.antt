@@ -1,5 +1,6 @@
 -- What look-ups by name find where names occur once.
-use Rattle.std.proofs.Common.{◌≡◌, ℕ, List, length, ◌++◌, true, false, eqb, Option, None, Some, ◌⊎◌, inl, inr, refl, sym, subst, ◌∙◌}
+use Rattle.std.proofs.Common.{◌≡◌, ℕ, List, length, ◌++◌, true, false, eqb, Option, None, Some, ◌⊎◌, inl, inr, refl}
+use Rattle.std.proofs.Common.{sym, subst, ◌∙◌}
 use Rattle.std.proofs.lemmas.Bool.{cases_Bool, or_from, or_parts}
 use Rattle.xf_ir.specs.declared.name.OpName.{OpName}
 use Rattle.xf_type.specs.declared.payload_type.PayloadType.{PayloadType}
@@ -11,13 +12,15 @@ use Rattle.xf_ir.specs.Walk.{ops_names, regions_names, tree_names, first_of, ops
 use Rattle.xf_ir.specs.Lists.{same_name, is_among, Once}
 use Rattle.xf_ir.specs.Places.{Numbering}
 use Rattle.xf_ir.specs.Valid.{block_of}
-use Rattle.xf_ir.proofs.Lists.{not_both, name_is, not_left, not_right, once_left, once_right, once_apart, among_left, among_right, absent_before, apart_names}
+use Rattle.xf_ir.proofs.Lists.{not_both, name_is, not_left, not_right, once_left, once_right, once_apart, among_left}
+use Rattle.xf_ir.proofs.Lists.{among_right, absent_before, apart_names}
 
 -- one operation, as a tree
 abbrev pub tree : OpName → Kind → List Attr → List ValueName → List PayloadType → Regions → Tree
 tree n k ds os ts rs = record { name = n; kind = k; attrs = ds; operands = os; results = ts; regions = rs }
 
-pub first_cases : {A : Type 0} (o o' : Option A) (x : A) → first_of o o' ≡ Some x → (o ≡ Some x) ⊎ ((o ≡ None) × (o' ≡ Some x))
+pub first_cases : {A : Type 0} (o o' : Option A) (x : A) → first_of o o' ≡ Some x
+    → (o ≡ Some x) ⊎ ((o ≡ None) × (o' ≡ Some x))
 first_cases None o' x h = inr (refl, h)
 first_cases (Some y) o' x h = inl h
 
@@ -28,18 +31,22 @@ some_or_none (Some x) = inl (x, refl)
 -- ---- names and look-ups
 
 mutual
-  pub found_name : (name : OpName) (t : Tree) (ops : Ops) → ops_find name ops ≡ Some t → is_among name (ops_names ops) ≡ true
+  pub found_name : (name : OpName) (t : Tree) (ops : Ops) → ops_find name ops ≡ Some t
+      → is_among name (ops_names ops) ≡ true
   found_name name t no_ops h = absurd (cc)
   found_name name t (op n k ds os ts rs rest) h =
       elim (cases_Bool (eqb n.0 name.0)) [
         | inl e ↦ rw e refl
         | inr e ↦ elim (first_cases (regions_find name rs) (ops_find name rest) t (rw e at h)) [
-          | inl g ↦ (let m = found_name_regions name t rs g in rw (e, among_left name (regions_names rs) (ops_names rest) m) refl)
-          | inr g ↦ (let m = found_name name t rest g.1 in rw (e, among_right name (regions_names rs) (ops_names rest) m) refl)
+          | inl g ↦ (let m = found_name_regions name t rs g in
+              rw (e, among_left name (regions_names rs) (ops_names rest) m) refl)
+          | inr g ↦ (let m = found_name name t rest g.1 in
+              rw (e, among_right name (regions_names rs) (ops_names rest) m) refl)
         ]
       ]
 
-  pub found_name_regions : (name : OpName) (t : Tree) (rs : Regions) → regions_find name rs ≡ Some t → is_among name (regions_names rs) ≡ true
+  pub found_name_regions : (name : OpName) (t : Tree) (rs : Regions) → regions_find name rs ≡ Some t
+      → is_among name (regions_names rs) ≡ true
   found_name_regions name t no_regions h = absurd (cc)
   found_name_regions name t (region args ops rest) h =
       elim (first_cases (ops_find name ops) (regions_find name rest) t h) [
@@ -56,7 +63,8 @@ mutual
       let b = lost_name name rest (not_right name (regions_names rs) (ops_names rest) p.1) in
       rw (p.0, a, b) refl
 
-  pub lost_name_regions : (name : OpName) (rs : Regions) → is_among name (regions_names rs) ≡ false → regions_find name rs ≡ None
+  pub lost_name_regions : (name : OpName) (rs : Regions) → is_among name (regions_names rs) ≡ false
+      → regions_find name rs ≡ None
   lost_name_regions name no_regions h = refl
   lost_name_regions name (region args ops rest) h =
       let a = lost_name name ops (not_left name (ops_names ops) (regions_names rest) h) in
@@ -66,7 +74,8 @@ mutual
 -- ---- what an operation holds is found from outside it
 
 mutual
-  pub find_inside : (ops : Ops) (target name : OpName) (s t : Tree) → Once (ops_names ops) → ops_find target ops ≡ Some s → regions_find name s.regions ≡ Some t → ops_find name ops ≡ Some t
+  pub find_inside : (ops : Ops) (target name : OpName) (s t : Tree) → Once (ops_names ops)
+      → ops_find target ops ≡ Some s → regions_find name s.regions ≡ Some t → ops_find name ops ≡ Some t
   find_inside no_ops target name s t o h g = absurd (cc)
   find_inside (op n k ds os ts rs rest) target name s t o h g =
       let ms = regions_names rs in
@@ -92,7 +101,8 @@ mutual
         ]
       ]
 
-  pub find_inside_regions : (rs : Regions) (target name : OpName) (s t : Tree) → Once (regions_names rs) → regions_find target rs ≡ Some s → regions_find name s.regions ≡ Some t → regions_find name rs ≡ Some t
+  pub find_inside_regions : (rs : Regions) (target name : OpName) (s t : Tree) → Once (regions_names rs)
+      → regions_find target rs ≡ Some s → regions_find name s.regions ≡ Some t → regions_find name rs ≡ Some t
   find_inside_regions no_regions target name s t o h g = absurd (cc)
   find_inside_regions (region args ops rest) target name s t o h g =
       let ms = ops_names ops in
@@ -131,22 +141,30 @@ mutual
 abbrev mutual
   pub OpsWhere : OpName → (Tree → Type 0) → Ops → Type 0
   OpsWhere name Q no_ops = Unit {0}
-  OpsWhere name Q (op n k ds os ts rs rest) = (eqb n.0 name.0 ≡ true → Q (tree n k ds os ts rs)) × (RegionsWhere name Q rs × OpsWhere name Q rest)
+  OpsWhere name Q (op n k ds os ts rs rest) =
+      (eqb n.0 name.0 ≡ true → Q (tree n k ds os ts rs)) × (RegionsWhere name Q rs × OpsWhere name Q rest)
 
   pub RegionsWhere : OpName → (Tree → Type 0) → Regions → Type 0
   RegionsWhere name Q no_regions = Unit {0}
   RegionsWhere name Q (region args ops rest) = OpsWhere name Q ops × RegionsWhere name Q rest
 
 mutual
-  where_absent : (name : OpName) (Q : Tree → Type 0) (ops : Ops) → is_among name (ops_names ops) ≡ false → OpsWhere name Q ops
+  where_absent : (name : OpName) (Q : Tree → Type 0) (ops : Ops) → is_among name (ops_names ops) ≡ false
+      → OpsWhere name Q ops
   where_absent name Q no_ops h = tt
   where_absent name Q (op n k ds os ts rs rest) h =
       let ms = regions_names rs in
       let ns = ops_names rest in
-      let p = or_parts (same_name n name) (is_among name (ms ++ ns)) h in
-      (λ e. absurd (let z = p.0 in cc), (where_absent_regions name Q rs (not_left name ms ns p.1), where_absent name Q rest (not_right name ms ns p.1)))
+      let p = or_parts (same_name n name) (is_among name (ms ++ ns)) h in (
+        λ e. absurd (let z = p.0 in cc),
+        (
+          where_absent_regions name Q rs (not_left name ms ns p.1),
+          where_absent name Q rest (not_right name ms ns p.1),
+        ),
+      )
 
-  where_absent_regions : (name : OpName) (Q : Tree → Type 0) (rs : Regions) → is_among name (regions_names rs) ≡ false → RegionsWhere name Q rs
+  where_absent_regions : (name : OpName) (Q : Tree → Type 0) (rs : Regions) → is_among name (regions_names rs) ≡ false
+      → RegionsWhere name Q rs
   where_absent_regions name Q no_regions h = tt
   where_absent_regions name Q (region args ops rest) h =
       let ms = ops_names ops in
@@ -155,7 +173,8 @@ mutual
 
 mutual
   -- where names occur once, what the operation that is found has each of its name has
-  pub where_found : (name : OpName) (Q : Tree → Type 0) (t : Tree) (ops : Ops) → Once (ops_names ops) → ops_find name ops ≡ Some t → Q t → OpsWhere name Q ops
+  pub where_found : (name : OpName) (Q : Tree → Type 0) (t : Tree) (ops : Ops) → Once (ops_names ops)
+      → ops_find name ops ≡ Some t → Q t → OpsWhere name Q ops
   where_found name Q t no_ops o h q = tt
   where_found name Q t (op n k ds os ts rs rest) o h q =
       let ms = regions_names rs in
@@ -164,8 +183,14 @@ mutual
         | inl e ↦ (
             let h' = rw e at h in
             let s : tree n k ds os ts rs ≡ t = cc in
-            let a : is_among name (ms ++ ns) ≡ false = subst (λ x. is_among x (ms ++ ns) ≡ false) (name_is n name e) o.0 in
-            (λ _. subst Q (sym s) q, (where_absent_regions name Q rs (not_left name ms ns a), where_absent name Q rest (not_right name ms ns a))))
+            let a : is_among name (ms ++ ns) ≡ false =
+            subst (λ x. is_among x (ms ++ ns) ≡ false) (name_is n name e) o.0 in (
+              λ _. subst Q (sym s) q,
+              (
+                where_absent_regions name Q rs (not_left name ms ns a),
+                where_absent name Q rest (not_right name ms ns a),
+              ),
+            ))
         | inr e ↦ elim (first_cases (regions_find name rs) (ops_find name rest) t (rw e at h)) [
           | inl g ↦ (
             λ f. absurd (cc),
@@ -184,14 +209,21 @@ mutual
         ]
       ]
 
-  pub where_found_regions : (name : OpName) (Q : Tree → Type 0) (t : Tree) (rs : Regions) → Once (regions_names rs) → regions_find name rs ≡ Some t → Q t → RegionsWhere name Q rs
+  pub where_found_regions : (name : OpName) (Q : Tree → Type 0) (t : Tree) (rs : Regions) → Once (regions_names rs)
+      → regions_find name rs ≡ Some t → Q t → RegionsWhere name Q rs
   where_found_regions name Q t no_regions o h q = tt
   where_found_regions name Q t (region args ops rest) o h q =
       let ms = ops_names ops in
       let ns = regions_names rest in
       elim (first_cases (ops_find name ops) (regions_find name rest) t h) [
-        | inl g ↦ (where_found name Q t ops (once_left ms ns o) g q, where_absent_regions name Q rest (once_apart name ms ns o (found_name name t ops g)))
-        | inr g ↦ (where_absent name Q ops (absent_before name ms ns o (found_name_regions name t rest g.1)), where_found_regions name Q t rest (once_right ms ns o) g.1 q)
+        | inl g ↦ (
+          where_found name Q t ops (once_left ms ns o) g q,
+          where_absent_regions name Q rest (once_apart name ms ns o (found_name name t ops g)),
+        )
+        | inr g ↦ (
+          where_absent name Q ops (absent_before name ms ns o (found_name_regions name t rest g.1)),
+          where_found_regions name Q t rest (once_right ms ns o) g.1 q,
+        )
       ]
 
 -- ---- what is not found has no name there
@@ -209,17 +241,20 @@ mutual
         | inr e ↦ (
             let p = none_of (regions_find name rs) (ops_find name rest) (rw e at h) in
             or_from (same_name n name) (is_among name (regions_names rs ++ ops_names rest)) e
-            (not_both name (regions_names rs) (ops_names rest) (none_name_regions name rs p.0) (none_name name rest p.1)))
+            (not_both name (regions_names rs) (ops_names rest) (none_name_regions name rs p.0)
+            (none_name name rest p.1)))
       ]
 
-  pub none_name_regions : (name : OpName) (rs : Regions) → regions_find name rs ≡ None → is_among name (regions_names rs) ≡ false
+  pub none_name_regions : (name : OpName) (rs : Regions) → regions_find name rs ≡ None
+      → is_among name (regions_names rs) ≡ false
   none_name_regions name no_regions h = refl
   none_name_regions name (region args ops rest) h =
       let p = none_of (ops_find name ops) (regions_find name rest) h in
       not_both name (ops_names ops) (regions_names rest) (none_name name ops p.0) (none_name_regions name rest p.1)
 
 -- a name that stands among them is found
-pub found_in : (name : OpName) (rs : Regions) → is_among name (regions_names rs) ≡ true → (t : Tree) × (regions_find name rs ≡ Some t)
+pub found_in : (name : OpName) (rs : Regions) → is_among name (regions_names rs) ≡ true
+    → (t : Tree) × (regions_find name rs ≡ Some t)
 found_in name rs i =
     elim (some_or_none (regions_find name rs)) [
       | inl f ↦ f
@@ -230,7 +265,8 @@ pub tree_none_name : (name : OpName) (t : Tree) → tree_find name t ≡ None �
 tree_none_name name t h =
     elim (cases_Bool (eqb t.name.0 name.0)) [
       | inl e ↦ absurd (let z = rw e at h in cc)
-      | inr e ↦ or_from (same_name t.name name) (is_among name (regions_names t.regions)) e (none_name_regions name t.regions (rw e at h))
+      | inr e ↦ or_from (same_name t.name name) (is_among name (regions_names t.regions)) e
+          (none_name_regions name t.regions (rw e at h))
     ]
 
 pub tree_lost_name : (name : OpName) (t : Tree) → is_among name (tree_names t) ≡ false → tree_find name t ≡ None
@@ -241,7 +277,8 @@ tree_lost_name name t h =
 
 -- ---- the first block, and the values of an operation
 
-pub block_where : (name : OpName) (Q : Tree → Type 0) (rs : Regions) → RegionsWhere name Q rs → OpsWhere name Q (block_of rs)
+pub block_where : (name : OpName) (Q : Tree → Type 0) (rs : Regions) → RegionsWhere name Q rs
+    → OpsWhere name Q (block_of rs)
 block_where name Q no_regions w = tt
 block_where name Q (region args ops rest) w = w.0
 

@@ -1,5 +1,6 @@
 -- Lists of names, parts of lists, and tests.
-use Rattle.std.proofs.Common.{◌≡◌, ℕ, List, [], ◌∷◌, ◌++◌, Option, None, Some, Bool, true, false, eqb, inl, inr, refl, ap, subst}
+use Rattle.std.proofs.Common.{◌≡◌, ℕ, List, [], ◌∷◌, ◌++◌, Option, None, Some, Bool, true, false, eqb, inl, inr, refl}
+use Rattle.std.proofs.Common.{ap, subst}
 use Rattle.std.specs.Prelude.{if◌then◌else◌}
 use Rattle.std.proofs.lemmas.Bool.{cases_Bool, eqb-true, eq-eqb, or_from, or_parts}
 use Rattle.xf_ir.specs.declared.name.OpName.{OpName}
@@ -8,7 +9,8 @@ use Rattle.xf_ir.specs.Lists.{Each, same_name, is_among, Once, same_bytes, is_te
 -- ---- tests
 
 -- what holds of both branches holds of the choice
-pub at_cases : {A : Type 0} (b : Bool) (x y : A) (P : A → Type 0) → (b ≡ true → P x) → (b ≡ false → P y) → P (if b then x else y)
+pub at_cases : {A : Type 0} (b : Bool) (x y : A) (P : A → Type 0) → (b ≡ true → P x) → (b ≡ false → P y)
+    → P (if b then x else y)
 at_cases true x y P h k = h refl
 at_cases false x y P h k = k refl
 
@@ -19,7 +21,8 @@ pub own_name : (m : OpName) → eqb m.0 m.0 ≡ true
 own_name m = eq-eqb m.0 m.0 refl
 
 pub other_way : (m n : OpName) → eqb m.0 n.0 ≡ false → eqb n.0 m.0 ≡ false
-other_way m n h = elim (cases_Bool (eqb n.0 m.0)) [ inl t ↦ (let e = name_is n m t in let o = own_name m in cc) | inr f ↦ f ]
+other_way m n h =
+    elim (cases_Bool (eqb n.0 m.0)) [ inl t ↦ (let e = name_is n m t in let o = own_name m in cc) | inr f ↦ f ]
 
 -- ---- names among others
 
@@ -33,7 +36,8 @@ pub not_right : (n : OpName) (xs ys : List OpName) → is_among n (xs ++ ys) ≡
 not_right n [] ys h = h
 not_right n (x ∷ xs) ys h = not_right n xs ys (or_parts (same_name x n) (is_among n (xs ++ ys)) h).1
 
-pub not_both : (n : OpName) (xs ys : List OpName) → is_among n xs ≡ false → is_among n ys ≡ false → is_among n (xs ++ ys) ≡ false
+pub not_both : (n : OpName) (xs ys : List OpName) → is_among n xs ≡ false → is_among n ys ≡ false
+    → is_among n (xs ++ ys) ≡ false
 not_both n [] ys h k = k
 not_both n (x ∷ xs) ys h k =
     let p = or_parts (same_name x n) (is_among n xs) h in
@@ -59,7 +63,10 @@ once_apart n (x ∷ xs) ys h k =
 pub among_left : (n : OpName) (xs ys : List OpName) → is_among n xs ≡ true → is_among n (xs ++ ys) ≡ true
 among_left n [] ys h = absurd (cc)
 among_left n (x ∷ xs) ys h =
-    elim (cases_Bool (same_name x n)) [ inl t ↦ rw t refl | inr f ↦ (let m = among_left n xs ys (rw f at h) in rw (f, m) refl) ]
+    elim (cases_Bool (same_name x n)) [
+      | inl t ↦ rw t refl
+      | inr f ↦ (let m = among_left n xs ys (rw f at h) in rw (f, m) refl)
+    ]
 
 pub among_right : (n : OpName) (xs ys : List OpName) → is_among n ys ≡ true → is_among n (xs ++ ys) ≡ true
 among_right n [] ys h = h
@@ -68,11 +75,16 @@ among_right n (x ∷ xs) ys h =
 
 -- a name of the second part is not in the first
 pub absent_before : (n : OpName) (xs ys : List OpName) → Once (xs ++ ys) → is_among n ys ≡ true → is_among n xs ≡ false
-absent_before n xs ys o h = elim (cases_Bool (is_among n xs)) [ inl t ↦ (let z = once_apart n xs ys o t in absurd (cc)) | inr f ↦ f ]
+absent_before n xs ys o h =
+    elim (cases_Bool (is_among n xs)) [ inl t ↦ (let z = once_apart n xs ys o t in absurd (cc)) | inr f ↦ f ]
 
 -- a name that is not among others is another than one of them
 pub apart_names : (m n : OpName) (xs : List OpName) → is_among m xs ≡ true → is_among n xs ≡ false → eqb n.0 m.0 ≡ false
-apart_names m n xs h k = elim (cases_Bool (eqb n.0 m.0)) [ inl t ↦ (let z = subst (λ x. is_among x xs ≡ false) (name_is n m t) k in absurd (cc)) | inr f ↦ f ]
+apart_names m n xs h k = elim (cases_Bool (eqb n.0 m.0)) [
+  | inl t ↦
+      (let z = subst (λ x. is_among x xs ≡ false) (name_is n m t) k in absurd (cc))
+  | inr f ↦ f
+]
 
 -- ---- parts of lists
 
@@ -126,7 +138,8 @@ once_part none h = tt
 once_part (skip p) h = once_part p h.1
 once_part (keep {x = x} p) h = (not_part x p h.0, once_part p h.1)
 
-pub text_not_part : (s : List ℕ) {ys xs : List (List ℕ)} → Part ys xs → is_text_among s xs ≡ false → is_text_among s ys ≡ false
+pub text_not_part : (s : List ℕ) {ys xs : List (List ℕ)} → Part ys xs → is_text_among s xs ≡ false
+    → is_text_among s ys ≡ false
 text_not_part s none h = refl
 text_not_part s (skip {x = x} {xs = xs} p) h = text_not_part s p (or_parts (same_bytes x s) (is_text_among s xs) h).1
 text_not_part s (keep {x = x} {xs = xs} {ys = ys} p) h =

@@ -25,11 +25,13 @@ mutual
       let b = located_ops name p r (i + 1) rest in
       elim (cases_Bool (eqb n.0 name.0)) [
         | inl e ↦ rw e refl
-        | inr e ↦ (let a = located_tree name n 0 rs in rw e (tree_of_first (regions_locate name n 0 rs) (ops_locate name p r (i + 1) rest) ∙ rw (a, b) refl))
+        | inr e ↦ (let a = located_tree name n 0 rs in
+            rw e (tree_of_first (regions_locate name n 0 rs) (ops_locate name p r (i + 1) rest) ∙ rw (a, b) refl))
       ]
 
   -- the operation that is found with its spot is the one that is found
-  pub located_tree : (name p : OpName) (r : ℕ) (rs : Regions) → tree_at_spot (regions_locate name p r rs) ≡ regions_find name rs
+  pub located_tree : (name p : OpName) (r : ℕ) (rs : Regions)
+      → tree_at_spot (regions_locate name p r rs) ≡ regions_find name rs
   located_tree name p r no_regions = refl
   located_tree name p r (region args ops rest) =
       let a = located_ops name p r 0 ops in
@@ -37,7 +39,8 @@ mutual
       tree_of_first (ops_locate name p r 0 ops) (regions_locate name p (r + 1) rest) ∙ rw (a, b) refl
 
 -- what a spot and an operation that were looked for apart make together
-pub both_found : (o : Option Located) (s : Spot) (t : Tree) → spot_at o ≡ Some s → tree_at_spot o ≡ Some t → (let x : Located = record { spot = s; tree = t } in Some x) ≡ o
+pub both_found : (o : Option Located) (s : Spot) (t : Tree) → spot_at o ≡ Some s → tree_at_spot o ≡ Some t
+    → (let x : Located = record { spot = s; tree = t } in Some x) ≡ o
 both_found None s t h k = absurd (cc)
 both_found (Some x) s t h k = (let a : x.spot ≡ s = cc in let b : x.tree ≡ t = cc in rw (← a, ← b) refl)
 

@@ -1,6 +1,7 @@
 //! Edits of a module.
 ghost use Rattle.std.specs.Prelude.{◌≡◌, IfOk, OnOk, OnErr, IsOk, false, min, ◌+◌, ◌-◌, ◌^◌, nat_lt, if◌then◌else◌};
-ghost use Rattle.xf_ir.specs.Edits.{ops_at, regions_at, tail, tree_erased, edited, inverse_of, next_above, wants_memory, tree_moved};
+ghost use Rattle.xf_ir.specs.Edits.{ops_at, regions_at, tail, tree_erased, edited, inverse_of, next_above};
+ghost use Rattle.xf_ir.specs.Edits.{wants_memory, tree_moved};
 ghost use Rattle.xf_ir.specs.Attributes.{attr_set};
 ghost use Rattle.xf_ir.specs.Bounds.{ListsAreShort};
 ghost use Rattle.xf_ir.specs.Changes.{tree_changed, tree_attributed};

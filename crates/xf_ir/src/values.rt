@@ -6,10 +6,10 @@ use smallvec::SmallVec;
 use std::alloc::{AllocError, Global};
 use std::marker::Model;
 
-/// The operands of an operation, in order; up to four stay in the value.
+/// The operands of an operation, in order; up to two stay in the value, as most operations have no more.
 #[derive(Drop)]
 pub struct ValueList {
-    items: SmallVec<ValueName, 4>,
+    items: SmallVec<ValueName, 2>,
 }
 
 impl Model for ValueList {

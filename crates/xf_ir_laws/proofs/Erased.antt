@@ -14,7 +14,8 @@ use Rattle.xf_ir.specs.Edits.{ops_at, regions_at, tail}
 use Rattle.xf_ir.specs.Calls.{first_args}
 use Rattle.xf_ir.specs.RuleBlocks.{block_args, is_end, block_ends, blocks_end, stands_at_end}
 use Rattle.xf_ir.specs.Valid.{OpsInner, RegionsInner, FunctionsAlone, BlocksAlone, symbols_of, symbols_in, block_of}
-use Rattle.xf_ir.proofs.Lists.{at_cases, not_left, not_right, Part, none, skip, keep, item_skip, item_keep, part_all, part_append, part_behind}
+use Rattle.xf_ir.proofs.Lists.{at_cases, not_left, not_right, Part, none, skip, keep, item_skip, item_keep, part_all}
+use Rattle.xf_ir.proofs.Lists.{part_append, part_behind}
 use Rattle.xf_ir.proofs.Found.{OpsWhere, RegionsWhere}
 
 -- ---- names
@@ -23,11 +24,13 @@ mutual
   pub names_part : (name : OpName) (ops : Ops) → Part (ops_names (ops_at name tail ops)) (ops_names ops)
   names_part name no_ops = none
   names_part name (op n k ds os ts rs rest) =
-      at_cases (eqb n.0 name.0) rest (op n k ds os ts (regions_at name tail rs) (ops_at name tail rest)) (λ o. Part (ops_names o) (ops_names (op n k ds os ts rs rest)))
+      at_cases (eqb n.0 name.0) rest (op n k ds os ts (regions_at name tail rs) (ops_at name tail rest))
+      (λ o. Part (ops_names o) (ops_names (op n k ds os ts rs rest)))
       (λ _. skip (part_behind (regions_names rs) (ops_names rest)))
       (λ _. keep (part_append (names_part_regions name rs) (names_part name rest)))
 
-  pub names_part_regions : (name : OpName) (rs : Regions) → Part (regions_names (regions_at name tail rs)) (regions_names rs)
+  pub names_part_regions : (name : OpName) (rs : Regions)
+      → Part (regions_names (regions_at name tail rs)) (regions_names rs)
   names_part_regions name no_regions = none
   names_part_regions name (region args ops rest) = part_append (names_part name ops) (names_part_regions name rest)
 
@@ -57,7 +60,8 @@ blocks_kept name (region args ops rest) h = (functions_kept name ops h.0, blocks
 symbols_part : (name : OpName) (fs : Ops) → Part (symbols_of (ops_at name tail fs)) (symbols_of fs)
 symbols_part name no_ops = none
 symbols_part name (op n k ds os ts rs rest) =
-    at_cases (eqb n.0 name.0) rest (op n k ds os ts (regions_at name tail rs) (ops_at name tail rest)) (λ o. Part (symbols_of o) (symbols_of (op n k ds os ts rs rest)))
+    at_cases (eqb n.0 name.0) rest (op n k ds os ts (regions_at name tail rs) (ops_at name tail rest))
+    (λ o. Part (symbols_of o) (symbols_of (op n k ds os ts rs rest)))
     (λ _. item_skip (symbol_of k) (part_all (symbols_of rest)))
     (λ _. item_keep (symbol_of k) (symbols_part name rest))
 
@@ -65,7 +69,8 @@ pub symbols_part_in : (name : OpName) (rs : Regions) → Part (symbols_in (regio
 symbols_part_in name no_regions = none
 symbols_part_in name (region args ops rest) = part_append (symbols_part name ops) (symbols_part_in name rest)
 
-pub block_at : (name : OpName) (f : Ops → Ops) (rs : Regions) → block_of (regions_at name f rs) ≡ ops_at name f (block_of rs)
+pub block_at : (name : OpName) (f : Ops → Ops) (rs : Regions)
+    → block_of (regions_at name f rs) ≡ ops_at name f (block_of rs)
 block_at name f no_regions = refl
 block_at name f (region args ops rest) = refl
 
@@ -80,7 +85,8 @@ mutual
       let b = at_absent name rest (not_right name (regions_names rs) (ops_names rest) p.1) in
       rw (p.0, a, b) refl
 
-  pub at_absent_regions : (name : OpName) (rs : Regions) → is_among name (regions_names rs) ≡ false → regions_at name tail rs ≡ rs
+  pub at_absent_regions : (name : OpName) (rs : Regions) → is_among name (regions_names rs) ≡ false
+      → regions_at name tail rs ≡ rs
   at_absent_regions name no_regions h = refl
   at_absent_regions name (region args ops rest) h =
       let a = at_absent name ops (not_left name (ops_names ops) (regions_names rest) h) in
@@ -123,34 +129,48 @@ ends_none (kind.Generic maps iterators) k h = no_linalg_yield k h
 ends_none _ k h = refl
 
 -- before what is left of a block that ends
-ended : (holder k : Kind) (ops : Ops) → block_ends holder ops ≡ true → (if is_end ops then (is_endless holder || ends_for holder k) else block_ends holder ops) ≡ true
+ended : (holder k : Kind) (ops : Ops) → block_ends holder ops ≡ true
+    → (if is_end ops then (is_endless holder || ends_for holder k) else block_ends holder ops) ≡ true
 ended holder k no_ops h = rw h refl
 ended holder k (op n k' ds os ts rs rest) h = h
 
 -- without an operation that ends no block
-end_left : (holder k : Kind) (rest : Ops) → is_terminator k ≡ false → (if is_end rest then (is_endless holder || ends_for holder k) else block_ends holder rest) ≡ true → block_ends holder rest ≡ true
-end_left holder k no_ops e h = elim (or_cases (is_endless holder) (ends_for holder k) h) [ inl t ↦ t | inr t ↦ absurd (let z = ends_none holder k e in cc) ]
+end_left : (holder k : Kind) (rest : Ops) → is_terminator k ≡ false
+    → (if is_end rest then (is_endless holder || ends_for holder k) else block_ends holder rest) ≡ true
+    → block_ends holder rest ≡ true
+end_left holder k no_ops e h = elim (or_cases (is_endless holder) (ends_for holder k) h) [
+  | inl t ↦ t
+  | inr t ↦ absurd (let z = ends_none holder k e in cc)
+]
 end_left holder k (op n k' ds os ts rs rest) e h = h
 
 -- what is left behind an operation
-left_behind : (holder k : Kind) (rest rest' : Ops) → (rest ≡ no_ops → rest' ≡ no_ops) → (block_ends holder rest ≡ true → block_ends holder rest' ≡ true) → (if is_end rest then (is_endless holder || ends_for holder k) else block_ends holder rest) ≡ true → (if is_end rest' then (is_endless holder || ends_for holder k) else block_ends holder rest') ≡ true
+left_behind : (holder k : Kind) (rest rest' : Ops)
+    → (rest ≡ no_ops → rest' ≡ no_ops) → (block_ends holder rest ≡ true → block_ends holder rest' ≡ true)
+    → (if is_end rest then (is_endless holder || ends_for holder k) else block_ends holder rest) ≡ true
+    → (if is_end rest' then (is_endless holder || ends_for holder k) else block_ends holder rest') ≡ true
 left_behind holder k no_ops rest' e f h = (let z = e refl in rw z h)
 left_behind holder k (op n k' ds os ts rs rest) rest' e f h = ended holder k rest' (f h)
 
-block_kept : (name : OpName) (holder : Kind) (ops : Ops) → OpsWhere name Goes ops → block_ends holder ops ≡ true → block_ends holder (ops_at name tail ops) ≡ true
+block_kept : (name : OpName) (holder : Kind) (ops : Ops) → OpsWhere name Goes ops → block_ends holder ops ≡ true
+    → block_ends holder (ops_at name tail ops) ≡ true
 block_kept name holder no_ops w h = h
 block_kept name holder (op n k ds os ts rs rest) w h =
-    at_cases (eqb n.0 name.0) rest (op n k ds os ts (regions_at name tail rs) (ops_at name tail rest)) (λ o. block_ends holder o ≡ true)
+    at_cases (eqb n.0 name.0) rest (op n k ds os ts (regions_at name tail rs) (ops_at name tail rest))
+    (λ o. block_ends holder o ≡ true)
     (λ t. end_left holder k rest (w.0 t) h)
-    (λ _. left_behind holder k rest (ops_at name tail rest) (λ e. ap (ops_at name tail) e) (block_kept name holder rest w.1.1) h)
+    (λ _. left_behind holder k rest (ops_at name tail rest) (λ e. ap (ops_at name tail) e)
+    (block_kept name holder rest w.1.1) h)
 
-pub ends_kept : (name : OpName) (holder : Kind) (rs : Regions) → RegionsWhere name Goes rs → blocks_end holder rs ≡ true → blocks_end holder (regions_at name tail rs) ≡ true
+pub ends_kept : (name : OpName) (holder : Kind) (rs : Regions) → RegionsWhere name Goes rs → blocks_end holder rs ≡ true
+    → blocks_end holder (regions_at name tail rs) ≡ true
 ends_kept name holder no_regions w h = refl
 ends_kept name holder (region args ops rest) w h =
     let p = and_parts (block_ends holder ops) (blocks_end holder rest) h in
     and_from _ _ (block_kept name holder ops w.0 p.0) (ends_kept name holder rest w.1 p.1)
 
-pub end_kept : (name : OpName) (holder k : Kind) (rest : Ops) → stands_at_end holder k rest ≡ true → stands_at_end holder k (ops_at name tail rest) ≡ true
+pub end_kept : (name : OpName) (holder k : Kind) (rest : Ops) → stands_at_end holder k rest ≡ true
+    → stands_at_end holder k (ops_at name tail rest) ≡ true
 end_kept name holder k no_ops h = h
 end_kept name holder k (op n k' ds os ts rs rest) h =
     elim (cases_Bool (is_terminator k)) [ inl t ↦ absurd (let z = rw t at h in cc) | inr f ↦ rw f refl ]

@@ -1,5 +1,6 @@
 -- Erasing an operation that may be erased fits a valid module, leaves it valid, and lowers its weight and its count.
-use Rattle.std.proofs.Common.{◌≡◌, ◌+◌, ◌<◌, ◌≤◌, ℕ, List, [], length, Bool, true, false, eqb, Option, None, Some, inl, inr, refl, sym, ap, subst, ◌∙◌, arith}
+use Rattle.std.proofs.Common.{◌≡◌, ◌+◌, ◌<◌, ◌≤◌, ℕ, List, [], length, Bool, true, false, eqb, Option, None, Some, inl}
+use Rattle.std.proofs.Common.{inr, refl, sym, ap, subst, ◌∙◌, arith}
 use Rattle.std.specs.Prelude.{map}
 use Rattle.std.proofs.lemmas.Bool.{cases_Bool}
 use Rattle.xf_ir.specs.declared.name.OpName.{OpName}
@@ -16,7 +17,8 @@ use Rattle.xf_ir.specs.Lists.{Each, Once, is_among}
 use Rattle.xf_ir.specs.Places.{results_of}
 use Rattle.xf_ir.specs.Uses.{ops_operands, regions_operands, tree_operands}
 use Rattle.xf_ir.specs.Edits.{ops_at, regions_at, tail, tree_erased, edited, FitsErase}
-use Rattle.xf_ir.specs.Choices.{bare, scope_of, scope_at, is_in_scope, MayErase, weight_of, ops_weight, regions_weight, weight_at}
+use Rattle.xf_ir.specs.Choices.{bare, scope_of, scope_at, is_in_scope, MayErase, weight_of, ops_weight, regions_weight}
+use Rattle.xf_ir.specs.Choices.{weight_at}
 use Rattle.xf_ir.specs.Placed.{Placed, type_at, top, root_holder, Everywhere}
 use Rattle.xf_ir.specs.Calls.{signature, function_of, signatures, has_its_callee, has_short_chains}
 use Rattle.xf_ir.specs.RuleBlocks.{has_its_regions, ends_its_blocks}
@@ -24,26 +26,35 @@ use Rattle.xf_ir.specs.RuleTypes.{has_its_types}
 use Rattle.xf_ir.specs.RuleAttributes.{has_its_attributes, has_types_in_range}
 use Rattle.xf_ir.specs.RuleLinalg.{has_its_maps, has_its_iterators, has_its_reduction, has_its_extents, fits_its_body}
 use Rattle.xf_ir.specs.RuleSlices.{has_its_slices}
-use Rattle.xf_ir.specs.Valid.{IsValid, IsNamedOnce, IsModule, FunctionsAlone, BlocksAlone, block_of, functions_of, FunctionsSee}
-use Rattle.xf_ir.proofs.Lists.{at_cases, each_left, each_right, each_part, once_part, texts_part, not_part, not_left, not_right, once_left, once_right, absent_before, apart_names, keep}
-use Rattle.xf_ir.proofs.Found.{first_cases, found_in, found_name, found_name_regions, found_named_regions, lost_name, lost_name_regions, find_inside, find_inside_regions, tree, RegionsWhere, where_found_regions, block_where, HasResults, Outside}
-use Rattle.xf_ir_laws.proofs.Erased.{names_part, names_part_regions, blocks_kept as alone_kept, symbols_part_in, block_at, Goes}
+use Rattle.xf_ir.specs.Valid.{IsValid, IsNamedOnce, IsModule, block_of, functions_of, FunctionsSee}
+use Rattle.xf_ir.proofs.Lists.{at_cases, each_left, each_right, each_part, once_part, texts_part, not_part, not_left}
+use Rattle.xf_ir.proofs.Lists.{not_right, once_left, once_right, absent_before, apart_names, keep}
+use Rattle.xf_ir.proofs.Found.{first_cases, found_in, found_name, found_name_regions, found_named_regions, lost_name}
+use Rattle.xf_ir.proofs.Found.{lost_name_regions, find_inside, find_inside_regions, tree, RegionsWhere}
+use Rattle.xf_ir.proofs.Found.{where_found_regions, block_where, HasResults, Outside}
+use Rattle.xf_ir_laws.proofs.Erased.{names_part, names_part_regions, blocks_kept as alone_kept, symbols_part_in}
+use Rattle.xf_ir_laws.proofs.Erased.{block_at, Goes}
 use Rattle.xf_ir_laws.proofs.ErasedUses.{functions_see_kept}
 use Rattle.xf_ir_laws.proofs.Obeys.{Passes, blocks_obey, each_blocks}
 use Rattle.xf_ir_laws.proofs.Kept.{RegionsApart, OpsStay, BlocksStay, KeptStep, blocks_kept}
 use Rattle.xf_ir_laws.proofs.BareErased.{found_apart, bare_erased}
-use Rattle.xf_ir_laws.proofs.KeptRules.{Inner, blocks_stay, signature_kept, regions_step, blocks_step, types_step, attributes_step, callees_step, chains_step, maps_step, iterators_step, reductions_step, extents_step, bodies_step, ranges_step, slices_step}
+use Rattle.xf_ir_laws.proofs.KeptRules.{Inner, blocks_stay, signature_kept, regions_step, blocks_step, types_step}
+use Rattle.xf_ir_laws.proofs.KeptRules.{attributes_step, callees_step, chains_step, maps_step, iterators_step}
+use Rattle.xf_ir_laws.proofs.KeptRules.{reductions_step, extents_step, bodies_step, ranges_step, slices_step}
 use Rattle.xf_ir.proofs.Bare.{below_bare, once_bare, in_scope}
 
 -- an operation of a scope stands in no body of linalg.generic
-stands_apart : (m : Module) (target name : OpName) → IsNamedOnce m → is_in_scope m target name ≡ true → RegionsApart name m.root.regions
+stands_apart : (m : Module) (target name : OpName) → IsNamedOnce m → is_in_scope m target name ≡ true
+    → RegionsApart name m.root.regions
 stands_apart m target name o i =
     let f = found_in name (scope_at m target) i in
-    found_apart m.root.regions name f.0 o.once.1 (below_bare m.root f.0 name (in_scope (bare m.root) target name f.0 (once_bare m.root o.once.1) f.1))
+    found_apart m.root.regions name f.0 o.once.1
+    (below_bare m.root f.0 name (in_scope (bare m.root) target name f.0 (once_bare m.root o.once.1) f.1))
 
 -- ---- the module stays valid
 
-block_operands : (P : ValueName → Type 0) (rs : Regions) → Each P (regions_operands rs) → Each P (ops_operands (block_of rs))
+block_operands : (P : ValueName → Type 0) (rs : Regions) → Each P (regions_operands rs)
+    → Each P (ops_operands (block_of rs))
 block_operands P no_regions h = tt
 block_operands P (region args ops rest) h = each_left P (ops_operands ops) (regions_operands rest) h
 
@@ -54,10 +65,6 @@ no_generic _ i g = (cc)
 names_kept : (m : Module) (name : OpName) → IsNamedOnce m → IsNamedOnce (edited m (Erase name))
 names_kept m name n = (let p = keep {x = m.root.name} (names_part_regions name m.root.regions) in
     record { once = once_part p n.once; below = each_part (λ x. x.0 < m.next) p n.below })
-
-first_alone : (rs : Regions) → BlocksAlone rs → FunctionsAlone (block_of rs)
-first_alone no_regions a = tt
-first_alone (region args ops rest) a = a.0
 
 first_stay : (name : OpName) (rs : Regions) → BlocksStay name rs → OpsStay name (block_of rs)
 first_stay name no_regions t = tt
@@ -87,23 +94,27 @@ module _ (m : Module) (target name : OpName) (v : IsValid m) (e : MayErase m tar
       subst (λ x. Each (Outside (results_of x (length e.tree.results))) (tree_operands m.root)) n e.suits.unused
 
   inner : Each (Outside (results_of name (length e.tree.results))) (regions_operands m.root.regions)
-  inner = each_right (Outside (results_of name (length e.tree.results))) m.root.operands (regions_operands m.root.regions) outside
+  inner = each_right (Outside (results_of name (length e.tree.results))) m.root.operands
+      (regions_operands m.root.regions) outside
 
   sees_kept : FunctionsSee (functions_of after)
   sees_kept =
       let count = length e.tree.results in
       subst FunctionsSee (sym (block_at name tail m.root.regions))
-      (functions_see_kept name count (functions_of m) (block_where name (HasResults count) m.root.regions gives) (block_operands (Outside (results_of name count)) m.root.regions inner) v.uses.functions)
+      (functions_see_kept name count (functions_of m) (block_where name (HasResults count) m.root.regions gives)
+      (block_operands (Outside (results_of name count)) m.root.regions inner) v.uses.functions)
 
   -- a rule stays that the step keeps
-  kept : (passes passes' : Placed → Bool) → KeptStep name (Passes passes) (Passes passes') → Everywhere passes m → Everywhere passes' after
+  kept : (passes passes' : Placed → Bool) → KeptStep name (Passes passes) (Passes passes') → Everywhere passes m
+      → Everywhere passes' after
   kept passes passes' step h =
       let P = Passes passes in
       let P' = Passes passes' in
       let root = root_holder m.root in (
         step.turn top (map (type_at []) m.root.operands) m.root no_ops root_apart goes h.0,
         each_blocks P' root (regions_at name tail m.root.regions)
-            (blocks_kept name (length e.tree.results) P P' step root m.root.regions stay v.names.once.1 gives goes (stands_apart m target name v.names e.within) inner (blocks_obey P root m.root.regions h.1)),
+            (blocks_kept name (length e.tree.results) P P' step root m.root.regions stay v.names.once.1 gives goes
+            (stands_apart m target name v.names e.within) inner (blocks_obey P root m.root.regions h.1)),
       )
     where
       root_apart : is_generic m.root.kind ≡ true → is_among name (regions_names m.root.regions) ≡ false
@@ -111,7 +122,8 @@ module _ (m : Module) (target name : OpName) (v : IsValid m) (e : MayErase m tar
 
   same_signatures : (s : List ℕ) → signatures after s ≡ signatures m s
   same_signatures s =
-      ap (λ fs. signature (function_of s fs)) (block_at name tail m.root.regions) ∙ signature_kept name s (functions_of m) (first_stay name m.root.regions stay)
+      ap (λ fs. signature (function_of s fs)) (block_at name tail m.root.regions)
+      ∙ signature_kept name s (functions_of m) (first_stay name m.root.regions stay)
 
   pub valid_after : IsValid (edited m (Erase name))
   valid_after = record {
@@ -124,11 +136,14 @@ module _ (m : Module) (target name : OpName) (v : IsValid m) (e : MayErase m tar
     regions = kept has_its_regions has_its_regions (regions_step name) v.regions;
     blocks = kept ends_its_blocks ends_its_blocks (blocks_step name) v.blocks;
     uses = record { root = v.uses.root; functions = sees_kept };
-    types = kept (has_its_types (signatures m)) (has_its_types (signatures after)) (types_step name (signatures m) (signatures after) same_signatures) v.types;
+    types = kept (has_its_types (signatures m)) (has_its_types (signatures after))
+        (types_step name (signatures m) (signatures after) same_signatures) v.types;
     attributes = kept has_its_attributes has_its_attributes (attributes_step name) v.attributes;
-    callees = kept (has_its_callee (signatures m)) (has_its_callee (signatures after)) (callees_step name (signatures m) (signatures after) same_signatures) v.callees;
+    callees = kept (has_its_callee (signatures m)) (has_its_callee (signatures after))
+        (callees_step name (signatures m) (signatures after) same_signatures) v.callees;
     chains = subst (λ fs. Everywhere (has_short_chains fs) after) (sym (block_at name tail m.root.regions))
-        (kept (has_short_chains (functions_of m)) (has_short_chains (ops_at name tail (functions_of m))) (chains_step name (functions_of m) (first_stay name m.root.regions stay)) v.chains);
+        (kept (has_short_chains (functions_of m)) (has_short_chains (ops_at name tail (functions_of m)))
+        (chains_step name (functions_of m) (first_stay name m.root.regions stay)) v.chains);
     maps = kept has_its_maps has_its_maps (maps_step name) v.maps;
     iterators = kept has_its_iterators has_its_iterators (iterators_step name) v.iterators;
     reductions = kept has_its_reduction has_its_reduction (reductions_step name) v.reductions;
@@ -138,11 +153,13 @@ module _ (m : Module) (target name : OpName) (v : IsValid m) (e : MayErase m tar
     slices = kept has_its_slices has_its_slices (slices_step name) v.slices;
   }
 
-pub valid_kept : (m : Module) (target name : OpName) → IsValid m → MayErase m target name → IsValid (edited m (Erase name))
+pub valid_kept : (m : Module) (target name : OpName) → IsValid m → MayErase m target name
+    → IsValid (edited m (Erase name))
 valid_kept m target name v e = valid_after m target name v e
 
 pub fits : (m : Module) (target name : OpName) → IsValid m → MayErase m target name → FitsErase m name
-fits m target name v e = (let k = valid_kept m target name v e in record { tree = e.tree; inside = e.inside; names = k.names; uses = k.uses })
+fits m target name v e = (let k = valid_kept m target name v e in
+    record { tree = e.tree; inside = e.inside; names = k.names; uses = k.uses })
 
 -- ---- the count falls
 
@@ -150,7 +167,8 @@ mutual
   count_stays : (name : OpName) (ops : Ops) → ops_count (ops_at name tail ops) ≤ ops_count ops
   count_stays name no_ops = omega arith
   count_stays name (op n k ds os ts rs rest) =
-      at_cases (eqb n.0 name.0) rest (op n k ds os ts (regions_at name tail rs) (ops_at name tail rest)) (λ o. ops_count o ≤ ops_count (op n k ds os ts rs rest))
+      at_cases (eqb n.0 name.0) rest (op n k ds os ts (regions_at name tail rs) (ops_at name tail rest))
+      (λ o. ops_count o ≤ ops_count (op n k ds os ts rs rest))
       (λ _. omega arith) (λ _. omega (arith, count_stays_regions name rs, count_stays name rest))
 
   pub count_stays_regions : (name : OpName) (rs : Regions) → regions_count (regions_at name tail rs) ≤ regions_count rs
@@ -158,17 +176,20 @@ mutual
   count_stays_regions name (region args ops rest) = omega (arith, count_stays name ops, count_stays_regions name rest)
 
 mutual
-  count_falls : (name : OpName) (t : Tree) (ops : Ops) → ops_find name ops ≡ Some t → ops_count (ops_at name tail ops) < ops_count ops
+  count_falls : (name : OpName) (t : Tree) (ops : Ops) → ops_find name ops ≡ Some t
+      → ops_count (ops_at name tail ops) < ops_count ops
   count_falls name t no_ops h = absurd (cc)
   count_falls name t (op n k ds os ts rs rest) h =
-      at_cases (eqb n.0 name.0) rest (op n k ds os ts (regions_at name tail rs) (ops_at name tail rest)) (λ o. ops_count o < ops_count (op n k ds os ts rs rest))
+      at_cases (eqb n.0 name.0) rest (op n k ds os ts (regions_at name tail rs) (ops_at name tail rest))
+      (λ o. ops_count o < ops_count (op n k ds os ts rs rest))
       (λ _. omega arith)
       (λ e. elim (first_cases (regions_find name rs) (ops_find name rest) t (rw e at h)) [
         | inl g ↦ omega (arith, count_falls_regions name t rs g, count_stays name rest)
         | inr g ↦ omega (arith, count_stays_regions name rs, count_falls name t rest g.1)
       ])
 
-  count_falls_regions : (name : OpName) (t : Tree) (rs : Regions) → regions_find name rs ≡ Some t → regions_count (regions_at name tail rs) < regions_count rs
+  count_falls_regions : (name : OpName) (t : Tree) (rs : Regions) → regions_find name rs ≡ Some t
+      → regions_count (regions_at name tail rs) < regions_count rs
   count_falls_regions name t no_regions h = absurd (cc)
   count_falls_regions name t (region args ops rest) h =
       elim (first_cases (ops_find name ops) (regions_find name rest) t h) [
@@ -176,7 +197,8 @@ mutual
         | inr g ↦ omega (arith, count_stays name ops, count_falls_regions name t rest g.1)
       ]
 
-pub lowers_count : (m : Module) (target name : OpName) → IsValid m → MayErase m target name → tree_count (edited m (Erase name)).root < tree_count m.root
+pub lowers_count : (m : Module) (target name : OpName) → IsValid m → MayErase m target name
+    → tree_count (edited m (Erase name)).root < tree_count m.root
 lowers_count m target name v e = omega (arith, count_falls_regions name e.tree m.root.regions e.inside)
 
 -- ---- the weight of a scope falls
@@ -190,25 +212,30 @@ mutual
   weight_stays : (name : OpName) (ops : Ops) → ops_weight (ops_at name tail ops) ≤ ops_weight ops
   weight_stays name no_ops = omega arith
   weight_stays name (op n k ds os ts rs rest) =
-      at_cases (eqb n.0 name.0) rest (op n k ds os ts (regions_at name tail rs) (ops_at name tail rest)) (λ o. ops_weight o ≤ ops_weight (op n k ds os ts rs rest))
+      at_cases (eqb n.0 name.0) rest (op n k ds os ts (regions_at name tail rs) (ops_at name tail rest))
+      (λ o. ops_weight o ≤ ops_weight (op n k ds os ts rs rest))
       (λ _. omega arith) (λ _. omega (arith, weight_stays_regions name rs, weight_stays name rest))
 
   weight_stays_regions : (name : OpName) (rs : Regions) → regions_weight (regions_at name tail rs) ≤ regions_weight rs
   weight_stays_regions name no_regions = omega arith
-  weight_stays_regions name (region args ops rest) = omega (arith, weight_stays name ops, weight_stays_regions name rest)
+  weight_stays_regions name (region args ops rest) =
+      omega (arith, weight_stays name ops, weight_stays_regions name rest)
 
 mutual
-  weight_falls : (name : OpName) (t : Tree) (ops : Ops) → ops_find name ops ≡ Some t → ops_weight (ops_at name tail ops) < ops_weight ops
+  weight_falls : (name : OpName) (t : Tree) (ops : Ops) → ops_find name ops ≡ Some t
+      → ops_weight (ops_at name tail ops) < ops_weight ops
   weight_falls name t no_ops h = absurd (cc)
   weight_falls name t (op n k ds os ts rs rest) h =
-      at_cases (eqb n.0 name.0) rest (op n k ds os ts (regions_at name tail rs) (ops_at name tail rest)) (λ o. ops_weight o < ops_weight (op n k ds os ts rs rest))
+      at_cases (eqb n.0 name.0) rest (op n k ds os ts (regions_at name tail rs) (ops_at name tail rest))
+      (λ o. ops_weight o < ops_weight (op n k ds os ts rs rest))
       (λ _. omega (arith, some_weight k))
       (λ e. elim (first_cases (regions_find name rs) (ops_find name rest) t (rw e at h)) [
         | inl g ↦ omega (arith, weight_falls_regions name t rs g, weight_stays name rest)
         | inr g ↦ omega (arith, weight_stays_regions name rs, weight_falls name t rest g.1)
       ])
 
-  weight_falls_regions : (name : OpName) (t : Tree) (rs : Regions) → regions_find name rs ≡ Some t → regions_weight (regions_at name tail rs) < regions_weight rs
+  weight_falls_regions : (name : OpName) (t : Tree) (rs : Regions) → regions_find name rs ≡ Some t
+      → regions_weight (regions_at name tail rs) < regions_weight rs
   weight_falls_regions name t no_regions h = absurd (cc)
   weight_falls_regions name t (region args ops rest) h =
       elim (first_cases (ops_find name ops) (regions_find name rest) t h) [
@@ -219,7 +246,8 @@ mutual
 -- ---- what holds an operation is found again without it
 
 mutual
-  find_erased : (ops : Ops) (target name : OpName) (s t : Tree) → Once (ops_names ops) → ops_find target ops ≡ Some s → regions_find name s.regions ≡ Some t → ops_find target (ops_at name tail ops) ≡ Some (tree_erased name s)
+  find_erased : (ops : Ops) (target name : OpName) (s t : Tree) → Once (ops_names ops) → ops_find target ops ≡ Some s
+      → regions_find name s.regions ≡ Some t → ops_find target (ops_at name tail ops) ≡ Some (tree_erased name s)
   find_erased no_ops target name s t o h g = absurd (cc)
   find_erased (op n k ds os ts rs rest) target name s t o h g =
       let ms = regions_names rs in
@@ -241,13 +269,16 @@ mutual
               let i = found_name name t rest (find_inside rest target name s t (once_right ms ns o.1) f.1 g) in
               let d = apart_names name n ns i (not_right n ms ns o.0) in
               let a = absent_before target ms ns o.1 (found_name target s rest f.1) in
-              let b = lost_name_regions target (regions_at name tail rs) (not_part target (names_part_regions name rs) a) in
+              let b =
+              lost_name_regions target (regions_at name tail rs) (not_part target (names_part_regions name rs) a) in
               let l = find_erased rest target name s t (once_right ms ns o.1) f.1 g in
               rw (d, e, b, l) refl)
         ]
       ]
 
-  find_erased_regions : (rs : Regions) (target name : OpName) (s t : Tree) → Once (regions_names rs) → regions_find target rs ≡ Some s → regions_find name s.regions ≡ Some t → regions_find target (regions_at name tail rs) ≡ Some (tree_erased name s)
+  find_erased_regions : (rs : Regions) (target name : OpName) (s t : Tree)
+      → Once (regions_names rs) → regions_find target rs ≡ Some s → regions_find name s.regions ≡ Some t
+      → regions_find target (regions_at name tail rs) ≡ Some (tree_erased name s)
   find_erased_regions no_regions target name s t o h g = absurd (cc)
   find_erased_regions (region args ops rest) target name s t o h g =
       let ms = ops_names ops in
@@ -261,18 +292,23 @@ mutual
             rw (b, l) refl)
       ]
 
-scope_falls : (t : Tree) (target name : OpName) (s : Tree) → Once (regions_names t.regions) → regions_find name (scope_of (tree_find target t)) ≡ Some s → regions_weight (scope_of (tree_find target (tree_erased name t))) < regions_weight (scope_of (tree_find target t))
+scope_falls : (t : Tree) (target name : OpName) (s : Tree)
+    → Once (regions_names t.regions) → regions_find name (scope_of (tree_find target t)) ≡ Some s
+    → regions_weight (scope_of (tree_find target (tree_erased name t))) < regions_weight (scope_of (tree_find target t))
 scope_falls t target name s o h =
     elim (cases_Bool (eqb t.name.0 target.0)) [
       | inl e ↦ (let h' = rw e at h in rw e (weight_falls_regions name s t.regions h'))
       | inr e ↦ (let h' = rw e at h in rw e (deeper (regions_find target t.regions) refl h'))
     ]
   where
-    deeper : (u : Option Tree) → regions_find target t.regions ≡ u → regions_find name (scope_of u) ≡ Some s → regions_weight (scope_of (regions_find target (regions_at name tail t.regions))) < regions_weight (scope_of u)
+    deeper : (u : Option Tree) → regions_find target t.regions ≡ u → regions_find name (scope_of u) ≡ Some s
+        → regions_weight (scope_of (regions_find target (regions_at name tail t.regions))) < regions_weight (scope_of u)
     deeper None e g = absurd (cc)
-    deeper (Some x) e g = (let l = find_erased_regions t.regions target name x s o e g in rw l (weight_falls_regions name s x.regions g))
+    deeper (Some x) e g =
+        (let l = find_erased_regions t.regions target name x s o e g in rw l (weight_falls_regions name s x.regions g))
 
-pub lowers_weight : (m : Module) (target name : OpName) → IsValid m → MayErase m target name → weight_at (edited m (Erase name)) target + 1 ≤ weight_at m target
+pub lowers_weight : (m : Module) (target name : OpName) → IsValid m → MayErase m target name
+    → weight_at (edited m (Erase name)) target + 1 ≤ weight_at m target
 lowers_weight m target name v e =
     let q = ap (λ t. regions_weight (scope_of (tree_find target t))) (bare_erased name m.root) in
     let f = found_in name (scope_at m target) e.within in

@@ -1,5 +1,6 @@
 -- A tree that is taken out: its names are gone from what is left, and its spot is one of it.
-use Rattle.std.proofs.Common.{◌≡◌, ◌⊎◌, ℕ, zero, suc, ◌<◌, List, [], ◌∷◌, ◌++◌, Some, None, true, false, eqb, inl, inr, refl, sym, ◌∙◌, subst, arith}
+use Rattle.std.proofs.Common.{◌≡◌, ◌⊎◌, ℕ, zero, suc, ◌<◌, List, [], ◌∷◌, ◌++◌, Some, None, true, false, eqb, inl, inr}
+use Rattle.std.proofs.Common.{refl, sym, ◌∙◌, subst, arith}
 use Rattle.std.proofs.lemmas.Bool.{cases_Bool, cases_lt, or_from, or_parts}
 use Rattle.xf_ir.specs.declared.name.OpName.{OpName}
 use Rattle.xf_ir.specs.declared.spot.Spot.{Spot}
@@ -7,10 +8,13 @@ use Rattle.xf_ir.specs.declared.spot.Located.{Located}
 use Rattle.xf_ir.specs.Tree.{Ops, no_ops, op, Regions, no_regions, region, Tree}
 use Rattle.xf_ir.specs.Walk.{ops_names, regions_names, tree_names, ops_find, regions_find, tree_find}
 use Rattle.xf_ir.specs.Lists.{Each, same_name, is_among, Once}
-use Rattle.xf_ir.specs.Spots.{tree_locate, ops_insert, regions_insert, ops_put, regions_put, tree_put, ops_length, regions_get, IsSpot}
+use Rattle.xf_ir.specs.Spots.{tree_locate, ops_insert, regions_insert, ops_put, regions_put, tree_put, ops_length}
+use Rattle.xf_ir.specs.Spots.{regions_get, IsSpot}
 use Rattle.xf_ir.specs.Edits.{ops_at, regions_at, tail, tree_erased}
-use Rattle.xf_ir.proofs.Lists.{not_left, not_right, not_both, once_left, once_right, once_apart, absent_before, apart_names, Part, none, skip, keep, part_all, part_none, not_part, once_part}
-use Rattle.xf_ir.proofs.Found.{tree, first_cases, some_or_none, tree_none_name, OpsWhere, RegionsWhere, where_found_regions}
+use Rattle.xf_ir.proofs.Lists.{not_left, not_right, not_both, once_left, once_right, once_apart, absent_before}
+use Rattle.xf_ir.proofs.Lists.{apart_names, Part, none, skip, keep, part_all, part_none, not_part, once_part}
+use Rattle.xf_ir.proofs.Found.{tree, first_cases, some_or_none, tree_none_name, OpsWhere, RegionsWhere}
+use Rattle.xf_ir.proofs.Found.{where_found_regions}
 use Rattle.xf_ir_laws.proofs.Erased.{names_part, names_part_regions}
 use Rattle.xf_ir_laws.proofs.PutBack.{put_lacking_regions, erased_back, among_own, among_behind}
 use Rattle.xf_ir_laws.proofs.MovedBack.{gone_tree}
@@ -30,7 +34,10 @@ among_part : (n : OpName) {ys xs : List OpName} → Part ys xs → is_among n ys
 among_part n none h = h
 among_part n (skip {x = x} {xs = xs} p) h = among_behind n x xs (among_part n p h)
 among_part n (keep {x = x} p) h =
-    elim (cases_Bool (same_name x n)) [ inl t ↦ rw t refl | inr f ↦ (let a = among_part n p (rw f at h) in rw (f, a) refl) ]
+    elim (cases_Bool (same_name x n)) [
+      | inl t ↦ rw t refl
+      | inr f ↦ (let a = among_part n p (rw f at h) in rw (f, a) refl)
+    ]
 
 mutual
   found_part_ops : (n : OpName) (ops : Ops) (t : Tree) → ops_find n ops ≡ Some t → Part (tree_names t) (ops_names ops)
@@ -50,7 +57,8 @@ mutual
       ]
 
   -- they are some of all names, in their order
-  pub found_part : (n : OpName) (rs : Regions) (t : Tree) → regions_find n rs ≡ Some t → Part (tree_names t) (regions_names rs)
+  pub found_part : (n : OpName) (rs : Regions) (t : Tree) → regions_find n rs ≡ Some t
+      → Part (tree_names t) (regions_names rs)
   found_part n no_regions t h = absurd (cc)
   found_part n (region args ops rest) t h =
       elim (first_cases (ops_find n ops) (regions_find n rest) t h) [
@@ -61,7 +69,8 @@ mutual
 -- ---- are gone without it
 
 mutual
-  gone_ops : (n m : OpName) (ops : Ops) (t : Tree) → Once (ops_names ops) → ops_find n ops ≡ Some t → is_among m (tree_names t) ≡ true → is_among m (ops_names (ops_at n tail ops)) ≡ false
+  gone_ops : (n m : OpName) (ops : Ops) (t : Tree) → Once (ops_names ops) → ops_find n ops ≡ Some t
+      → is_among m (tree_names t) ≡ true → is_among m (ops_names (ops_at n tail ops)) ≡ false
   gone_ops n m no_ops t o h i = absurd (cc)
   gone_ops n m (op a k ds os ts rs rest) t o h i =
       let ms = regions_names rs in
@@ -79,16 +88,19 @@ mutual
               let j = among_part m (found_part n rs t g) i in
               let d = apart_names m a ms j (not_left a ms ns o.0) in
               let b = not_part m (names_part n rest) (once_apart m ms ns o.1 j) in
-              rw e (or_from (same_name a m) (is_among m (ms' ++ ns')) d (not_both m ms' ns' (gone_regions n m rs t (once_left ms ns o.1) g i) b)))
+              rw e (or_from (same_name a m) (is_among m (ms' ++ ns')) d
+              (not_both m ms' ns' (gone_regions n m rs t (once_left ms ns o.1) g i) b)))
           | inr g ↦ (
               let j = among_part m (found_part_ops n rest t g.1) i in
               let d = apart_names m a ns j (not_right a ms ns o.0) in
               let b = not_part m (names_part_regions n rs) (absent_before m ms ns o.1 j) in
-              rw e (or_from (same_name a m) (is_among m (ms' ++ ns')) d (not_both m ms' ns' b (gone_ops n m rest t (once_right ms ns o.1) g.1 i))))
+              rw e (or_from (same_name a m) (is_among m (ms' ++ ns')) d
+              (not_both m ms' ns' b (gone_ops n m rest t (once_right ms ns o.1) g.1 i))))
         ]
       ]
 
-  gone_regions : (n m : OpName) (rs : Regions) (t : Tree) → Once (regions_names rs) → regions_find n rs ≡ Some t → is_among m (tree_names t) ≡ true → is_among m (regions_names (regions_at n tail rs)) ≡ false
+  gone_regions : (n m : OpName) (rs : Regions) (t : Tree) → Once (regions_names rs) → regions_find n rs ≡ Some t
+      → is_among m (tree_names t) ≡ true → is_among m (regions_names (regions_at n tail rs)) ≡ false
   gone_regions n m no_regions t o h i = absurd (cc)
   gone_regions n m (region args ops rest) t o h i =
       let ms = ops_names ops in
@@ -98,10 +110,12 @@ mutual
       elim (first_cases (ops_find n ops) (regions_find n rest) t h) [
         | inl g ↦ (
             let j = among_part m (found_part_ops n ops t g) i in
-            not_both m ms' ns' (gone_ops n m ops t (once_left ms ns o) g i) (not_part m (names_part_regions n rest) (once_apart m ms ns o j)))
+            not_both m ms' ns' (gone_ops n m ops t (once_left ms ns o) g i)
+            (not_part m (names_part_regions n rest) (once_apart m ms ns o j)))
         | inr g ↦ (
             let j = among_part m (found_part n rest t g.1) i in
-            not_both m ms' ns' (not_part m (names_part n ops) (absent_before m ms ns o j)) (gone_regions n m rest t (once_right ms ns o) g.1 i))
+            not_both m ms' ns' (not_part m (names_part n ops) (absent_before m ms ns o j))
+            (gone_regions n m rest t (once_right ms ns o) g.1 i))
       ]
 
 each_among : (P : OpName → Type 0) (xs : List OpName) → ((x : OpName) → is_among x xs ≡ true → P x) → Each P xs
@@ -109,7 +123,8 @@ each_among P [] f = tt
 each_among P (x ∷ xs) f = (f x (among_own x xs), each_among P xs (λ y h. f y (among_behind y x xs h)))
 
 -- where names occur once, none of the operation that is taken out is in what is left
-pub all_gone : (n : OpName) (root t : Tree) → Once (tree_names root) → regions_find n root.regions ≡ Some t → Each (λ m. is_among m (tree_names (tree_erased n root)) ≡ false) (tree_names t)
+pub all_gone : (n : OpName) (root t : Tree) → Once (tree_names root) → regions_find n root.regions ≡ Some t
+    → Each (λ m. is_among m (tree_names (tree_erased n root)) ≡ false) (tree_names t)
 all_gone n root t o h =
     each_among (λ m. is_among m (tree_names (tree_erased n root)) ≡ false) (tree_names t)
     (λ m i. let j = among_part m (found_part n root.regions t h) i in
@@ -123,13 +138,15 @@ insert_past zero t ops h = absurd (omega (arith, h))
 insert_past (suc i) t no_ops h = refl
 insert_past (suc i) t (op n k ds os ts rs rest) h = (let a = insert_past i t rest (omega (arith, h)) in rw a refl)
 
-insert_past_regions : (r i : ℕ) (t : Tree) (rs : Regions) (block : Ops) → regions_get r rs ≡ Some block → ops_length block < i → regions_insert r i t rs ≡ rs
+insert_past_regions : (r i : ℕ) (t : Tree) (rs : Regions) (block : Ops) → regions_get r rs ≡ Some block
+    → ops_length block < i → regions_insert r i t rs ≡ rs
 insert_past_regions r i t no_regions block g w = refl
 insert_past_regions zero i t (region args ops rest) block g w =
     let e : block ≡ ops = cc in
     let a = insert_past i t ops (subst (λ b. ops_length b < i) e w) in
     rw a refl
-insert_past_regions (suc r) i t (region args ops rest) block g w = (let a = insert_past_regions r i t rest block g w in rw a refl)
+insert_past_regions (suc r) i t (region args ops rest) block g w =
+    (let a = insert_past_regions r i t rest block g w in rw a refl)
 
 insert_nowhere : (r i : ℕ) (t : Tree) (rs : Regions) → regions_get r rs ≡ None → regions_insert r i t rs ≡ rs
 insert_nowhere r i t no_regions g = refl
@@ -151,11 +168,14 @@ mutual
         | inr e ↦ rw e (rw (a, b) refl)
       ]
 
-  put_stays_regions : (s : Spot) (t : Tree) (rs : Regions) → RegionsWhere s.parent (Stays s t) rs → regions_put s t rs ≡ rs
+  put_stays_regions : (s : Spot) (t : Tree) (rs : Regions) → RegionsWhere s.parent (Stays s t) rs
+      → regions_put s t rs ≡ rs
   put_stays_regions s t no_regions w = refl
-  put_stays_regions s t (region args ops rest) w = (let a = put_stays s t ops w.0 in let b = put_stays_regions s t rest w.1 in rw (a, b) refl)
+  put_stays_regions s t (region args ops rest) w =
+      (let a = put_stays s t ops w.0 in let b = put_stays_regions s t rest w.1 in rw (a, b) refl)
 
-stays_put : (s : Spot) (t root parent : Tree) → Once (tree_names root) → tree_find s.parent root ≡ Some parent → Stays s t parent → tree_put s t root ≡ root
+stays_put : (s : Spot) (t root parent : Tree) → Once (tree_names root) → tree_find s.parent root ≡ Some parent
+    → Stays s t parent → tree_put s t root ≡ root
 stays_put s t root parent o h k =
     elim (cases_Bool (eqb root.name.0 s.parent.0)) [
       | inl e ↦ (
@@ -163,17 +183,20 @@ stays_put s t root parent o h k =
           let q : parent ≡ root = cc in
           let d : regions_insert s.region s.at t root.regions ≡ root.regions = subst (Stays s t) q k in
           rw e (rw d refl))
-      | inr e ↦ (let d = put_stays_regions s t root.regions (where_found_regions s.parent (Stays s t) parent root.regions o.1 (rw e at h) k) in rw e (rw d refl))
+      | inr e ↦ (let d = put_stays_regions s t root.regions
+          (where_found_regions s.parent (Stays s t) parent root.regions o.1 (rw e at h) k) in rw e (rw d refl))
     ]
 
 lacks_put : (s : Spot) (t root : Tree) → tree_find s.parent root ≡ None → tree_put s t root ≡ root
 lacks_put s t root h =
-    let p = or_parts (same_name root.name s.parent) (is_among s.parent (regions_names root.regions)) (tree_none_name s.parent root h) in
+    let p = or_parts (same_name root.name s.parent) (is_among s.parent (regions_names root.regions))
+    (tree_none_name s.parent root h) in
     let d = put_lacking_regions root.regions s t p.1 in
     rw p.0 (rw d refl)
 
 spot_or_same : (s : Spot) (t root : Tree) → Once (tree_names root) → IsSpot s root ⊎ (tree_put s t root ≡ root)
-spot_or_same s t root o = elim (some_or_none (tree_find s.parent root)) [ inl p ↦ inside p.0 p.1 | inr h ↦ inr (lacks_put s t root h) ]
+spot_or_same s t root o =
+    elim (some_or_none (tree_find s.parent root)) [ inl p ↦ inside p.0 p.1 | inr h ↦ inr (lacks_put s t root h) ]
   where
     inside : (parent : Tree) → tree_find s.parent root ≡ Some parent → IsSpot s root ⊎ (tree_put s t root ≡ root)
     inside parent h =
@@ -187,7 +210,8 @@ spot_or_same s t root o = elim (some_or_none (tree_find s.parent root)) [ inl p 
 
 -- ---- the spot of an operation that is taken out is one of what is left
 
-pub spot_left : (n : OpName) (root : Tree) (x : Located) → Once (tree_names root) → is_among n (regions_names root.regions) ≡ true → tree_locate n root ≡ Some x → IsSpot x.spot (tree_erased n root)
+pub spot_left : (n : OpName) (root : Tree) (x : Located) → Once (tree_names root)
+    → is_among n (regions_names root.regions) ≡ true → tree_locate n root ≡ Some x → IsSpot x.spot (tree_erased n root)
 spot_left n root x o h l =
     let left = tree_erased n root in
     let once : Once (tree_names left) = once_part (keep (names_part_regions n root.regions)) o in

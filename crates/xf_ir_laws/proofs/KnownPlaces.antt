@@ -22,17 +22,26 @@ module _ (all : List OpName) where
   -- ---- visible values are of operations that are known
 
   mutual
-    ops_of : (ss : List Seen) (ops : Ops) → Owned all ss → Each In (ops_names ops) → OpsSee ss ops → Each (IsOf all) (ops_operands ops)
+    ops_of : (ss : List Seen) (ops : Ops) → Owned all ss → Each In (ops_names ops) → OpsSee ss ops
+        → Each (IsOf all) (ops_operands ops)
     ops_of ss no_ops w e see = tt
     ops_of ss (op n k ds os ts rs rest) w e see =
         let inner = regions_of ss n 0 rs w e.0 (each_left In (regions_names rs) (ops_names rest) e.1) see.1.0 in
-        let later = ops_of (done n (length ts) ∷ ss) rest (e.0, w) (each_right In (regions_names rs) (ops_names rest) e.1) see.1.1 in
-        each_both (IsOf all) os (regions_operands rs ++ ops_operands rest) (all_of all ss os w see.0) (each_both (IsOf all) (regions_operands rs) (ops_operands rest) inner later)
+        let later = ops_of (done n (length ts) ∷ ss) rest (
+          e.0,
+          w,
+        ) (each_right In (regions_names rs) (ops_names rest) e.1) see.1.1 in
+        each_both (IsOf all) os (regions_operands rs ++ ops_operands rest) (all_of all ss os w see.0)
+        (each_both (IsOf all) (regions_operands rs) (ops_operands rest) inner later)
 
-    regions_of : (ss : List Seen) (n : OpName) (i : ℕ) (rs : Regions) → Owned all ss → In n → Each In (regions_names rs) → RegionsSee ss n i rs → Each (IsOf all) (regions_operands rs)
+    regions_of : (ss : List Seen) (n : OpName) (i : ℕ) (rs : Regions) → Owned all ss → In n → Each In (regions_names rs)
+        → RegionsSee ss n i rs → Each (IsOf all) (regions_operands rs)
     regions_of ss n i no_regions w o e see = tt
     regions_of ss n i (region args ops rest) w o e see =
-        each_both (IsOf all) (ops_operands ops) (regions_operands rest) (ops_of (inside n i (length args) ∷ ss) ops (o, w) (each_left In (ops_names ops) (regions_names rest) e) see.0)
+        each_both (IsOf all) (ops_operands ops) (regions_operands rest) (ops_of (inside n i (length args) ∷ ss) ops (
+          o,
+          w,
+        ) (each_left In (ops_names ops) (regions_names rest) e) see.0)
         (regions_of ss n (suc i) rest w o (each_right In (ops_names ops) (regions_names rest) e) see.1)
 
   functions_operands : (fs : Ops) → Each In (ops_names fs) → FunctionsSee fs → Each (IsOf all) (ops_operands fs)
@@ -40,12 +49,14 @@ module _ (all : List OpName) where
   functions_operands (op n k ds os ts rs rest) e see =
       let inner = regions_of [] n 0 rs tt e.0 (each_left In (regions_names rs) (ops_names rest) e.1) see.1.0 in
       let later = functions_operands rest (each_right In (regions_names rs) (ops_names rest) e.1) see.1.1 in
-      each_both (IsOf all) os (regions_operands rs ++ ops_operands rest) (all_of all [] os tt see.0) (each_both (IsOf all) (regions_operands rs) (ops_operands rest) inner later)
+      each_both (IsOf all) os (regions_operands rs ++ ops_operands rest) (all_of all [] os tt see.0)
+      (each_both (IsOf all) (regions_operands rs) (ops_operands rest) inner later)
 
   -- ---- each operation where it stands
 
   mutual
-    ops_known : (h : Holder) (env : Typed) (ops : Ops) → Each In (ops_names ops) → Each (IsOf all) (ops_operands ops) → OpsObey (IsKnown all) h env ops
+    ops_known : (h : Holder) (env : Typed) (ops : Ops) → Each In (ops_names ops) → Each (IsOf all) (ops_operands ops)
+        → OpsObey (IsKnown all) h env ops
     ops_known h env no_ops e u = tt
     ops_known h env (op n k ds os ts rs rest) e u =
         let ns = each_left In (regions_names rs) (ops_names rest) e.1 in
@@ -54,18 +65,23 @@ module _ (all : List OpName) where
           record { name = e.0; names = ns; operands = vs },
           (
             regions_known (holder_of k (map (type_at env) os) ts) env n 0 rs ns vs,
-            ops_known h ((done n (length ts), ts) ∷ env) rest (each_right In (regions_names rs) (ops_names rest) e.1) (each_right (IsOf all) (regions_operands rs) (ops_operands rest) b),
+            ops_known h ((done n (length ts), ts) ∷ env) rest (each_right In (regions_names rs) (ops_names rest) e.1)
+                (each_right (IsOf all) (regions_operands rs) (ops_operands rest) b),
           ),
         )
 
-    regions_known : (h : Holder) (env : Typed) (n : OpName) (i : ℕ) (rs : Regions) → Each In (regions_names rs) → Each (IsOf all) (regions_operands rs) → RegionsObey (IsKnown all) h env n i rs
+    regions_known : (h : Holder) (env : Typed) (n : OpName) (i : ℕ) (rs : Regions) → Each In (regions_names rs)
+        → Each (IsOf all) (regions_operands rs) → RegionsObey (IsKnown all) h env n i rs
     regions_known h env n i no_regions e u = tt
     regions_known h env n i (region args ops rest) e u = (
-      ops_known h ((inside n i (length args), args) ∷ env) ops (each_left In (ops_names ops) (regions_names rest) e) (each_left (IsOf all) (ops_operands ops) (regions_operands rest) u),
-      regions_known h env n (suc i) rest (each_right In (ops_names ops) (regions_names rest) e) (each_right (IsOf all) (ops_operands ops) (regions_operands rest) u),
+      ops_known h ((inside n i (length args), args) ∷ env) ops (each_left In (ops_names ops) (regions_names rest) e)
+          (each_left (IsOf all) (ops_operands ops) (regions_operands rest) u),
+      regions_known h env n (suc i) rest (each_right In (ops_names ops) (regions_names rest) e)
+          (each_right (IsOf all) (ops_operands ops) (regions_operands rest) u),
     )
 
-  functions_known : (h : Holder) (fs : Ops) → Each In (ops_names fs) → Each (IsOf all) (ops_operands fs) → FunctionsObey (IsKnown all) h fs
+  functions_known : (h : Holder) (fs : Ops) → Each In (ops_names fs) → Each (IsOf all) (ops_operands fs)
+      → FunctionsObey (IsKnown all) h fs
   functions_known h no_ops e u = tt
   functions_known h (op n k ds os ts rs rest) e u =
       let ns = each_left In (regions_names rs) (ops_names rest) e.1 in
@@ -74,12 +90,14 @@ module _ (all : List OpName) where
         record { name = e.0; names = ns; operands = vs },
         (
           regions_known (holder_of k (map (type_at []) os) ts) [] n 0 rs ns vs,
-          functions_known h rest (each_right In (regions_names rs) (ops_names rest) e.1) (each_right (IsOf all) (regions_operands rs) (ops_operands rest) b),
+          functions_known h rest (each_right In (regions_names rs) (ops_names rest) e.1)
+              (each_right (IsOf all) (regions_operands rs) (ops_operands rest) b),
         ),
       )
 
 -- all operations of a module are known by their names
-pub module_known : (m : Module) → m.root.regions ≡ region [] (functions_of m) no_regions → FunctionsSee (functions_of m) → Each (IsKnown (tree_names m.root)) (placed m)
+pub module_known : (m : Module) → m.root.regions ≡ region [] (functions_of m) no_regions → FunctionsSee (functions_of m)
+    → Each (IsKnown (tree_names m.root)) (placed m)
 module_known m one see =
     let all : List OpName = tree_names m.root in
     let P : OpName → Type 0 = λ n. is_among n all ≡ true in
@@ -90,6 +108,8 @@ module_known m one see =
     let each : Each P (ops_names fs ++ []) = subst (λ rs. Each P (regions_names rs)) one among.1 in
     let names = each_left P (ops_names fs) [] each in
     let values = functions_operands all fs names see in
-    let held : Each (IsOf all) (regions_operands m.root.regions) = subst (λ rs. Each (IsOf all) (regions_operands rs)) (sym one) (each_both (IsOf all) (ops_operands fs) [] values tt) in
-    let blocks : BlocksObey K h m.root.regions = subst (BlocksObey K h) (sym one) (functions_known all h fs names values, tt) in
+    let held : Each (IsOf all) (regions_operands m.root.regions) = subst (λ rs. Each (IsOf all) (regions_operands rs))
+    (sym one) (each_both (IsOf all) (ops_operands fs) [] values tt) in
+    let blocks : BlocksObey K h m.root.regions =
+    subst (BlocksObey K h) (sym one) (functions_known all h fs names values, tt) in
     (record { name = among.0; names = among.1; operands = held }, each_blocks K h m.root.regions blocks)

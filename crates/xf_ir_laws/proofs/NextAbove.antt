@@ -1,5 +1,7 @@
--- The next name above others: it stays where they are below it, rises where they are below what comes of it, and keeps an order.
-use Rattle.std.proofs.Common.{◌≡◌, ℕ, ◌+◌, ◌-◌, ◌^◌, ◌<◌, ◌≤◌, List, [], ◌∷◌, Bool, true, false, min, nat_lt, inl, inr, refl, arith}
+-- The next name above others: it stays where they are below it, rises where they are below what comes of it, and keeps
+-- an order.
+use Rattle.std.proofs.Common.{◌≡◌, ℕ, ◌+◌, ◌-◌, ◌^◌, ◌<◌, ◌≤◌, List, [], ◌∷◌, Bool, true, false, min, nat_lt, inl, inr}
+use Rattle.std.proofs.Common.{refl, arith}
 use Rattle.std.specs.Prelude.{if◌then◌else◌}
 use Rattle.std.proofs.Math.Nat.{min-le_left}
 use Rattle.std.proofs.lemmas.Bool.{cases_Bool, ltb-true, ltb-false, lt-ltb, le-ltb}
@@ -15,7 +17,11 @@ pub next_rises : (next : ℕ) (ns : List OpName) → Each (λ n. n.0 < next_abov
 next_rises next [] h = omega arith
 next_rises next (n ∷ ns) h = rises (nat_lt n.0 next) refl (next_rises next ns) h.0 h.1
   where
-    rises : (b : Bool) → nat_lt n.0 next ≡ b → (Each (λ (k : OpName). k.0 < next_above next ns) ns → next ≤ next_above next ns) → n.0 < next_above (if b then next else min (n.0 + 1) (2 ^ 64 - 1)) ns → Each (λ (k : OpName). k.0 < next_above (if b then next else min (n.0 + 1) (2 ^ 64 - 1)) ns) ns → next ≤ next_above (if b then next else min (n.0 + 1) (2 ^ 64 - 1)) ns
+    rises : (b : Bool)
+        → nat_lt n.0 next ≡ b → (Each (λ (k : OpName). k.0 < next_above next ns) ns → next ≤ next_above next ns)
+        → n.0 < next_above (if b then next else min (n.0 + 1) (2 ^ 64 - 1)) ns
+        → Each (λ (k : OpName). k.0 < next_above (if b then next else min (n.0 + 1) (2 ^ 64 - 1)) ns) ns
+        → next ≤ next_above (if b then next else min (n.0 + 1) (2 ^ 64 - 1)) ns
     rises true l more h k = more k
     rises false l more h k = omega (arith, ltb-false n.0 next l, h)
 

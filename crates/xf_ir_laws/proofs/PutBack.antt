@@ -1,5 +1,6 @@
 -- What is put back where it was erased, and erased where it was put.
-use Rattle.std.proofs.Common.{◌≡◌, ◌⊎◌, ℕ, zero, suc, ◌+◌, List, [], ◌∷◌, ◌++◌, Option, Some, None, true, false, eqb, refl, sym, ap, ◌∙◌, subst, inl, inr, arith}
+use Rattle.std.proofs.Common.{◌≡◌, ◌⊎◌, ℕ, zero, suc, ◌+◌, List, [], ◌∷◌, ◌++◌, Option, Some, None, true, false, eqb}
+use Rattle.std.proofs.Common.{refl, sym, ap, ◌∙◌, subst, inl, inr, arith}
 use Rattle.std.proofs.lemmas.Bool.{cases_Bool, or_parts}
 use Rattle.xf_ir.specs.declared.name.OpName.{OpName}
 use Rattle.xf_ir.specs.declared.spot.Spot.{Spot}
@@ -8,8 +9,10 @@ use Rattle.xf_ir.specs.Tree.{Ops, no_ops, op, Regions, no_regions, region, Tree,
 use Rattle.xf_ir.specs.Walk.{ops_names, regions_names, tree_names, first_of}
 use Rattle.xf_ir.specs.Lists.{same_name, is_among, Once}
 use Rattle.xf_ir.specs.Edits.{ops_at, regions_at, tail, tree_erased}
-use Rattle.xf_ir.specs.Spots.{ops_locate, regions_locate, tree_locate, ops_insert, regions_insert, ops_put, regions_put, tree_put}
-use Rattle.xf_ir.proofs.Lists.{own_name, not_left, not_right, once_left, once_right, once_apart, absent_before, apart_names, among_left, among_right}
+use Rattle.xf_ir.specs.Spots.{ops_locate, regions_locate, tree_locate, ops_insert, regions_insert, ops_put, regions_put}
+use Rattle.xf_ir.specs.Spots.{tree_put}
+use Rattle.xf_ir.proofs.Lists.{own_name, not_left, not_right, once_left, once_right, once_apart, absent_before}
+use Rattle.xf_ir.proofs.Lists.{apart_names, among_left, among_right}
 use Rattle.xf_ir.proofs.Found.{tree, first_cases}
 
 -- ---- a name that is not there
@@ -23,7 +26,8 @@ mutual
       let b = erase_lacking rest n (not_right n (regions_names rs) (ops_names rest) p.1) in
       rw p.0 (rw (a, b) refl)
 
-  pub erase_lacking_regions : (rs : Regions) (n : OpName) → is_among n (regions_names rs) ≡ false → regions_at n tail rs ≡ rs
+  pub erase_lacking_regions : (rs : Regions) (n : OpName) → is_among n (regions_names rs) ≡ false
+      → regions_at n tail rs ≡ rs
   erase_lacking_regions no_regions n h = refl
   erase_lacking_regions (region args ops rest) n h =
       let a = erase_lacking ops n (not_left n (ops_names ops) (regions_names rest) h) in
@@ -31,7 +35,8 @@ mutual
       rw (a, b) refl
 
 mutual
-  pub put_lacking : (ops : Ops) (s : Spot) (t : Tree) → is_among s.parent (ops_names ops) ≡ false → ops_put s t ops ≡ ops
+  pub put_lacking : (ops : Ops) (s : Spot) (t : Tree) → is_among s.parent (ops_names ops) ≡ false
+      → ops_put s t ops ≡ ops
   put_lacking no_ops s t h = refl
   put_lacking (op m k ds os ts rs rest) s t h =
       let p = or_parts (same_name m s.parent) (is_among s.parent (regions_names rs ++ ops_names rest)) h in
@@ -39,7 +44,8 @@ mutual
       let b = put_lacking rest s t (not_right s.parent (regions_names rs) (ops_names rest) p.1) in
       rw p.0 (rw (a, b) refl)
 
-  pub put_lacking_regions : (rs : Regions) (s : Spot) (t : Tree) → is_among s.parent (regions_names rs) ≡ false → regions_put s t rs ≡ rs
+  pub put_lacking_regions : (rs : Regions) (s : Spot) (t : Tree) → is_among s.parent (regions_names rs) ≡ false
+      → regions_put s t rs ≡ rs
   put_lacking_regions no_regions s t h = refl
   put_lacking_regions (region args ops rest) s t h =
       let a = put_lacking ops s t (not_left s.parent (ops_names ops) (regions_names rest) h) in
@@ -48,7 +54,8 @@ mutual
 
 -- ---- erased where it was put
 
-erase_inserted : (i : ℕ) (t : Tree) (ops : Ops) → is_among t.name (ops_names ops) ≡ false → ops_at t.name tail (ops_insert i t ops) ≡ ops
+erase_inserted : (i : ℕ) (t : Tree) (ops : Ops) → is_among t.name (ops_names ops) ≡ false
+    → ops_at t.name tail (ops_insert i t ops) ≡ ops
 erase_inserted zero t ops h = (let o = own_name t.name in rw o refl)
 erase_inserted (suc i) t no_ops h = refl
 erase_inserted (suc i) t (op m k ds os ts rs rest) h =
@@ -57,7 +64,8 @@ erase_inserted (suc i) t (op m k ds os ts rs rest) h =
     let b = erase_inserted i t rest (not_right t.name (regions_names rs) (ops_names rest) p.1) in
     rw p.0 (rw (a, b) refl)
 
-erase_inserted_regions : (r i : ℕ) (t : Tree) (rs : Regions) → is_among t.name (regions_names rs) ≡ false → regions_at t.name tail (regions_insert r i t rs) ≡ rs
+erase_inserted_regions : (r i : ℕ) (t : Tree) (rs : Regions) → is_among t.name (regions_names rs) ≡ false
+    → regions_at t.name tail (regions_insert r i t rs) ≡ rs
 erase_inserted_regions r i t no_regions h = refl
 erase_inserted_regions zero i t (region args ops rest) h =
     let a = erase_inserted i t ops (not_left t.name (ops_names ops) (regions_names rest) h) in
@@ -69,7 +77,8 @@ erase_inserted_regions (suc r) i t (region args ops rest) h =
     rw (a, b) refl
 
 mutual
-  erase_put : (s : Spot) (t : Tree) (ops : Ops) → is_among t.name (ops_names ops) ≡ false → ops_at t.name tail (ops_put s t ops) ≡ ops
+  erase_put : (s : Spot) (t : Tree) (ops : Ops) → is_among t.name (ops_names ops) ≡ false
+      → ops_at t.name tail (ops_put s t ops) ≡ ops
   erase_put s t no_ops h = refl
   erase_put s t (op m k ds os ts rs rest) h =
       let p = or_parts (same_name m t.name) (is_among t.name (regions_names rs ++ ops_names rest)) h in
@@ -80,7 +89,8 @@ mutual
         | inr e ↦ (let a = erase_put_regions s t rs c in rw p.0 (rw e (rw (a, b) refl)))
       ]
 
-  erase_put_regions : (s : Spot) (t : Tree) (rs : Regions) → is_among t.name (regions_names rs) ≡ false → regions_at t.name tail (regions_put s t rs) ≡ rs
+  erase_put_regions : (s : Spot) (t : Tree) (rs : Regions) → is_among t.name (regions_names rs) ≡ false
+      → regions_at t.name tail (regions_put s t rs) ≡ rs
   erase_put_regions s t no_regions h = refl
   erase_put_regions s t (region args ops rest) h =
       let a = erase_put s t ops (not_left t.name (ops_names ops) (regions_names rest) h) in
@@ -88,7 +98,8 @@ mutual
       rw (a, b) refl
 
 -- a tree of a new name is put and erased
-pub put_erased : (s : Spot) (t root : Tree) → is_among t.name (tree_names root) ≡ false → tree_erased t.name (tree_put s t root) ≡ root
+pub put_erased : (s : Spot) (t root : Tree) → is_among t.name (tree_names root) ≡ false
+    → tree_erased t.name (tree_put s t root) ≡ root
 put_erased s t root h =
     let c = (or_parts (same_name root.name t.name) (is_among t.name (regions_names root.regions)) h).1 in
     elim (cases_Bool (eqb root.name.0 s.parent.0)) [
@@ -128,7 +139,8 @@ pub among_behind : (n m : OpName) (xs : List OpName) → is_among n xs ≡ true 
 among_behind n m xs h = elim (cases_Bool (same_name m n)) [ inl t ↦ rw t refl | inr f ↦ rw (f, h) refl ]
 
 mutual
-  ops_back : (ops : Ops) (n p : OpName) (r i : ℕ) (x : Located) → Once (ops_names ops) → ops_locate n p r i ops ≡ Some x → OpsHere n p r i x ops ⊎ OpsDeeper n x ops
+  ops_back : (ops : Ops) (n p : OpName) (r i : ℕ) (x : Located) → Once (ops_names ops) → ops_locate n p r i ops ≡ Some x
+      → OpsHere n p r i x ops ⊎ OpsDeeper n x ops
   ops_back no_ops n p r i x d h = absurd (cc)
   ops_back (op m k ds os ts rs rest) n p r i x d h =
       let ms = regions_names rs in
@@ -143,7 +155,8 @@ mutual
             let z : i ≡ i + 0 = omega arith in
             record {
               j = 0;
-              spot = ap (λ (y : Located). y.spot) q ∙ ap (λ a. let w : Spot = record { parent = p; region = r; at = a } in w) z;
+              spot = ap (λ (y : Located). y.spot) q
+                  ∙ ap (λ a. let w : Spot = record { parent = p; region = r; at = a } in w) z;
               back = rw e (ap (λ (y : Located). cons y.tree rest) q);
               has = rw e refl;
             })
@@ -153,7 +166,8 @@ mutual
                 let l = erase_lacking rest n (once_apart n ms ns d.1 f.has) in
                 let z : x.spot.region ≡ f.q = f.number ∙ omega arith in
                 let o = subst (λ (q : OpName). eqb m.0 q.0 ≡ true) (sym f.parent) (own_name m) in
-                let u = put_lacking rest x.spot x.tree (subst (λ q. is_among q ns ≡ false) (sym f.parent) (not_right m ms ns d.0)) in
+                let u = put_lacking rest x.spot x.tree
+                (subst (λ q. is_among q ns ≡ false) (sym f.parent) (not_right m ms ns d.0)) in
                 record {
                   parent = subst (λ q. is_among q (m ∷ (ms ++ ns)) ≡ true) (sym f.parent) (among_own m (ms ++ ns));
                   back = rw e (rw (l, u, o, z, f.back) refl);
@@ -192,7 +206,8 @@ mutual
         ]
       ]
 
-  regions_back : (rs : Regions) (n p : OpName) (r : ℕ) (x : Located) → Once (regions_names rs) → regions_locate n p r rs ≡ Some x → RegionsHere n p r x rs ⊎ RegionsDeeper n x rs
+  regions_back : (rs : Regions) (n p : OpName) (r : ℕ) (x : Located) → Once (regions_names rs)
+      → regions_locate n p r rs ≡ Some x → RegionsHere n p r x rs ⊎ RegionsDeeper n x rs
   regions_back no_regions n p r x d h = absurd (cc)
   regions_back (region args ops rest) n p r x d h =
       let ms = ops_names ops in
@@ -241,7 +256,8 @@ mutual
       ]
 
 -- an operation that was taken out is put back at its spot
-pub erased_back : (root : Tree) (n : OpName) (x : Located) → Once (tree_names root) → tree_locate n root ≡ Some x → tree_put x.spot x.tree (tree_erased n root) ≡ root
+pub erased_back : (root : Tree) (n : OpName) (x : Located) → Once (tree_names root) → tree_locate n root ≡ Some x
+    → tree_put x.spot x.tree (tree_erased n root) ≡ root
 erased_back root n x d h =
     elim (regions_back root.regions n root.name 0 x d.1 h) [
       | inl f ↦ (
@@ -259,14 +275,16 @@ first_right : {A : Type 0} (o : Option A) (y : A) → (x : A) × (first_of o (So
 first_right None y = (y, refl)
 first_right (Some z) y = (z, refl)
 
-right_among : (n : OpName) (xs ys : List OpName) → is_among n xs ≡ false → is_among n (xs ++ ys) ≡ true → is_among n ys ≡ true
+right_among : (n : OpName) (xs ys : List OpName) → is_among n xs ≡ false → is_among n (xs ++ ys) ≡ true
+    → is_among n ys ≡ true
 right_among n [] ys h k = k
 right_among n (x ∷ xs) ys h k =
     let p = or_parts (same_name x n) (is_among n xs) h in
     right_among n xs ys p.1 (rw p.0 at k)
 
 mutual
-  ops_located : (ops : Ops) (n p : OpName) (r i : ℕ) → is_among n (ops_names ops) ≡ true → (x : Located) × (ops_locate n p r i ops ≡ Some x)
+  ops_located : (ops : Ops) (n p : OpName) (r i : ℕ) → is_among n (ops_names ops) ≡ true
+      → (x : Located) × (ops_locate n p r i ops ≡ Some x)
   ops_located no_ops n p r i h = absurd (cc)
   ops_located (op m k ds os ts rs rest) n p r i h =
       let ms = regions_names rs in
@@ -282,7 +300,8 @@ mutual
         ]
       ]
 
-  pub regions_located : (rs : Regions) (n p : OpName) (r : ℕ) → is_among n (regions_names rs) ≡ true → (x : Located) × (regions_locate n p r rs ≡ Some x)
+  pub regions_located : (rs : Regions) (n p : OpName) (r : ℕ) → is_among n (regions_names rs) ≡ true
+      → (x : Located) × (regions_locate n p r rs ≡ Some x)
   regions_located no_regions n p r h = absurd (cc)
   regions_located (region args ops rest) n p r h =
       let ms = ops_names ops in

@@ -1,18 +1,22 @@
 -- What the rules ask of an operation, they ask of it under other names.
-use Rattle.std.proofs.Common.{◌≡◌, ℕ, zero, suc, cond, not, List, ◌∷◌, ◌++◌, Option, None, Some, is_none, inl, inr, refl, ap, ◌∙◌}
+use Rattle.std.proofs.Common.{◌≡◌, ℕ, zero, suc, cond, not, List, ◌∷◌, ◌++◌, Option, None, Some, is_none, inl, inr}
+use Rattle.std.proofs.Common.{refl, ap, ◌∙◌}
 use Rattle.std.specs.Prelude.{◌&&◌, ◌||◌}
 use Rattle.std.proofs.lemmas.Bool.{cases_Bool}
 use Rattle.xf_ir.specs.declared.kind.Kind.{Kind}
 use Rattle.xf_ir.specs.declared.kind.Kind.TheVariants as kind
 use Rattle.xf_ir.specs.declared.name.OpName.{OpName}
-use Rattle.xf_ir.specs.Calls.{Signature, signature, first_args, function_of, has_symbol, callee_before, ops_callees, regions_callees, callees_of, chains_end, chain_ends, has_short_chains}
+use Rattle.xf_ir.specs.Calls.{Signature, signature, first_args, function_of, has_symbol, callee_before, ops_callees}
+use Rattle.xf_ir.specs.Calls.{regions_callees, callees_of, chains_end, chain_ends, has_short_chains}
 use Rattle.xf_ir.specs.Kinds.{callee_of, is_terminator, ends_for, is_endless, returned_types}
 use Rattle.xf_ir.specs.Lists.{every, option_passes}
 use Rattle.xf_ir.specs.Placed.{Placed}
 use Rattle.xf_ir.specs.RuleAttributes.{type_fits, has_types_in_range}
-use Rattle.xf_ir.specs.RuleBlocks.{block_args, blocks_fit, has_its_regions, is_end, block_ends, blocks_end, ends_its_blocks}
+use Rattle.xf_ir.specs.RuleBlocks.{block_args, blocks_fit, has_its_regions, is_end, block_ends, blocks_end}
+use Rattle.xf_ir.specs.RuleBlocks.{ends_its_blocks}
 use Rattle.xf_ir.specs.Tree.{Ops, no_ops, op, Regions, no_regions, region, Tree}
-use Rattle.xf_ir.specs.Valid.{OpsInner, RegionsInner, FunctionsAlone, BlocksAlone, symbols_before, symbols_of, symbols_in, block_of}
+use Rattle.xf_ir.specs.Valid.{OpsInner, RegionsInner, FunctionsAlone, BlocksAlone, symbols_before, symbols_of}
+use Rattle.xf_ir.specs.Valid.{symbols_in, block_of}
 use Rattle.xf_ir.specs.Renamed.{ops_renamed, regions_renamed, tree_renamed}
 use Rattle.xf_ir_laws.proofs.RenamedPlaces.{placed_renamed}
 
@@ -57,7 +61,8 @@ module _ (f : OpName → OpName) where
   regions_same p = ap (blocks_fit p.tree.kind p.types p.tree.results) (args_same p.tree.regions)
 
   pub ranges_same : (p : Placed) → has_types_in_range (placed_renamed f p) ≡ has_types_in_range p
-  ranges_same p = ap (λ blocks. every type_fits p.tree.results && (every type_fits (returned_types p.tree.kind) && every (every type_fits) blocks)) (args_same p.tree.regions)
+  ranges_same p = ap (λ blocks. every type_fits p.tree.results
+      && (every type_fits (returned_types p.tree.kind) && every (every type_fits) blocks)) (args_same p.tree.regions)
 
   end_same : (ops : Ops) → is_end (ops_renamed f ops) ≡ is_end ops
   end_same no_ops = refl
@@ -103,9 +108,12 @@ module _ (f : OpName → OpName) where
 
   signature_or_same : (o : Option Tree) → signature (renamed_or o) ≡ signature o
   signature_or_same None = refl
-  signature_or_same (Some t) = ap (λ args. Some (let x : Signature = record { inputs = args; results = returned_types t.kind } in x)) (first_args_same t.regions)
+  signature_or_same (Some t) =
+      ap (λ args. Some (let x : Signature = record { inputs = args; results = returned_types t.kind } in x))
+      (first_args_same t.regions)
 
-  pub signature_same : (fs : Ops) (s : List ℕ) → signature (function_of s (ops_renamed f fs)) ≡ signature (function_of s fs)
+  pub signature_same : (fs : Ops) (s : List ℕ)
+      → signature (function_of s (ops_renamed f fs)) ≡ signature (function_of s fs)
   signature_same fs s = ap signature (function_same s fs) ∙ signature_or_same (function_of s fs)
 
   pub block_same : (rs : Regions) → block_of (regions_renamed f rs) ≡ ops_renamed f (block_of rs)
@@ -145,7 +153,9 @@ module _ (f : OpName → OpName) where
       λ i. every (λ c. a c i) (b i)
 
   chain_same : (fs : Ops) (k : Kind) → chain_ends (ops_renamed f fs) k ≡ chain_ends fs k
-  chain_same fs k = let a : (c : List ℕ) → chains_end (ops_renamed f fs) 31 c ≡ chains_end fs 31 c = chains_same fs 31 in λ i. option_passes (λ c. a c i) (callee_of k)
+  chain_same fs k = let a : (c : List ℕ) → chains_end (ops_renamed f fs) 31 c ≡ chains_end fs 31 c =
+      chains_same fs 31 in λ i. option_passes (λ c. a c i) (callee_of k)
 
-  pub short_same : (fs : Ops) (p : Placed) → has_short_chains (ops_renamed f fs) (placed_renamed f p) ≡ has_short_chains fs p
+  pub short_same : (fs : Ops) (p : Placed)
+      → has_short_chains (ops_renamed f fs) (placed_renamed f p) ≡ has_short_chains fs p
   short_same fs p = chain_same fs p.tree.kind

@@ -5,7 +5,8 @@ use Rattle.xf_ir.specs.declared.name.OpName.{OpName}
 use Rattle.xf_ir.specs.declared.op.Module.{Module}
 use Rattle.xf_ir.specs.Calls.{signatures, signature, function_of, has_its_callee, has_short_chains}
 use Rattle.xf_ir.specs.Lists.{Each, Once, TextsOnce, is_among}
-use Rattle.xf_ir.specs.Placed.{type_at, Holder, holder_of, Placed, placed, top, root_holder, blocks_placed, Everywhere, functions_of}
+use Rattle.xf_ir.specs.Placed.{type_at, Holder, holder_of, Placed, placed, top, root_holder, blocks_placed, Everywhere}
+use Rattle.xf_ir.specs.Placed.{functions_of}
 use Rattle.xf_ir.specs.RuleAttributes.{has_its_attributes, has_types_in_range}
 use Rattle.xf_ir.specs.RuleBlocks.{has_its_regions, ends_its_blocks}
 use Rattle.xf_ir.specs.RuleLinalg.{has_its_maps, has_its_iterators, has_its_reduction, has_its_extents, fits_its_body}
@@ -22,12 +23,15 @@ use Rattle.xf_ir_laws.proofs.SeenTypes.{Known, functions_see, functions_known, r
 use Rattle.xf_ir.specs.Renamed.{ops_renamed, regions_renamed, tree_renamed}
 use Rattle.xf_ir_laws.specs.Laws.{RenamingKeepsValid}
 use Rattle.xf_ir_laws.proofs.KnownPlaces.{module_known}
-use Rattle.xf_ir_laws.proofs.RenamedPlaces.{StayApart, once_mapped, placed_renamed, each_among, regions_names_renamed, block_again, no_types}
+use Rattle.xf_ir_laws.proofs.RenamedPlaces.{StayApart, once_mapped, placed_renamed, each_among, regions_names_renamed}
+use Rattle.xf_ir_laws.proofs.RenamedPlaces.{block_again, no_types}
 use Rattle.xf_ir_laws.proofs.RenamedReductions.{IsKnown, reductions_same}
-use Rattle.xf_ir_laws.proofs.RenamedRules.{blocks_alone, symbols_in_same, regions_same, ranges_same, blocks_same, signature_same, block_same, short_same}
+use Rattle.xf_ir_laws.proofs.RenamedRules.{blocks_alone, symbols_in_same, regions_same, ranges_same, blocks_same}
+use Rattle.xf_ir_laws.proofs.RenamedRules.{signature_same, block_same, short_same}
 
 -- what each operation has, each has under other names
-each_again : (f : OpName → OpName) (P Q : Placed → Type 0) (ps : List Placed) → ((p : Placed) → P p → Q (placed_renamed f p)) → Each P ps → Each Q (map (placed_renamed f) ps)
+each_again : (f : OpName → OpName) (P Q : Placed → Type 0) (ps : List Placed)
+    → ((p : Placed) → P p → Q (placed_renamed f p)) → Each P ps → Each Q (map (placed_renamed f) ps)
 each_again f P Q [] g h = tt
 each_again f P Q (p ∷ ps) g h = (g p h.0, each_again f P Q ps g h.1)
 
@@ -40,14 +44,16 @@ module _ (m : Module) (f : OpName → OpName) (next : ℕ) (v : IsValid m) (stay
   again = record { root = tree_renamed f m.root; next = next }
 
   one : m.root.regions ≡ region [] (functions_of m) no_regions
-  one = one_block m.root.kind v.functions.root (map (type_at []) m.root.operands) m.root.results m.root.regions v.regions.0
+  one = one_block m.root.kind v.functions.root
+      (map (type_at []) m.root.operands) m.root.results m.root.regions v.regions.0
 
   names_again : tree_names again.root ≡ map f (tree_names m.root)
   names_again = ap (λ ns. f m.root.name ∷ ns) (regions_names_renamed f m.root.regions)
 
   -- ---- the operations stand where they stood
 
-  blocks_placed_again : (h : Holder) → blocks_placed h (regions_renamed f m.root.regions) ≡ map (placed_renamed f) (blocks_placed h m.root.regions)
+  blocks_placed_again : (h : Holder)
+      → blocks_placed h (regions_renamed f m.root.regions) ≡ map (placed_renamed f) (blocks_placed h m.root.regions)
   blocks_placed_again h =
       let all : List OpName = tree_names m.root in
       let P : OpName → Type 0 = λ n. is_among n all ≡ true in
@@ -59,14 +65,18 @@ module _ (m : Module) (f : OpName → OpName) (next : ℕ) (v : IsValid m) (stay
   placed_again : placed again ≡ map (placed_renamed f) (placed m)
   placed_again =
       let q = no_types f m.root.operands in
-      let a = ap (λ types. blocks_placed (holder_of m.root.kind types m.root.results) (regions_renamed f m.root.regions)) q ∙ blocks_placed_again (root_holder m.root) in
+      let a =
+      ap (λ types. blocks_placed (holder_of m.root.kind types m.root.results) (regions_renamed f m.root.regions)) q
+      ∙ blocks_placed_again (root_holder m.root) in
       λ i. placed_at top (q i) (tree_renamed f m.root) no_ops ∷ a i
 
   -- a rule is kept that asks the same of an operation under other names
-  kept : (P Q : Placed → Type 0) → ((p : Placed) → P p → Q (placed_renamed f p)) → Each P (placed m) → Each Q (placed again)
+  kept : (P Q : Placed → Type 0) → ((p : Placed) → P p → Q (placed_renamed f p)) → Each P (placed m)
+      → Each Q (placed again)
   kept P Q g h = subst (Each Q) (sym placed_again) (each_again f P Q (placed m) g h)
 
-  passes : (test test' : Placed → Bool) → ((p : Placed) → test' (placed_renamed f p) ≡ test p) → Everywhere test m → Everywhere test' again
+  passes : (test test' : Placed → Bool) → ((p : Placed) → test' (placed_renamed f p) ≡ test p) → Everywhere test m
+      → Everywhere test' again
   passes test test' g h = kept (Passes test) (Passes test') (λ p e. g p ∙ e) h
 
   -- ---- what symbols name
@@ -75,14 +85,16 @@ module _ (m : Module) (f : OpName → OpName) (next : ℕ) (v : IsValid m) (stay
   functions_same = block_same f m.root.regions
 
   signatures_same : signatures again ≡ signatures m
-  signatures_same = λ i s. (ap (λ fs. signature (function_of s fs)) functions_same ∙ signature_same f (functions_of m) s) i
+  signatures_same =
+      λ i s. (ap (λ fs. signature (function_of s fs)) functions_same ∙ signature_same f (functions_of m) s) i
 
   -- ---- visible operands
 
   all_known : Each Known (placed m)
   all_known =
       let h = root_holder m.root in
-      let blocks : BlocksObey Known h m.root.regions = subst (BlocksObey Known h) (sym one) (functions_known h (functions_of m) v.uses.functions, tt) in
+      let blocks : BlocksObey Known h m.root.regions =
+      subst (BlocksObey Known h) (sym one) (functions_known h (functions_of m) v.uses.functions, tt) in
       (root_known m.root.operands v.uses.root, each_blocks Known h m.root.regions blocks)
 
   sees_again : Each Known (placed again) → Everywhere has_its_regions again → FunctionsSee (functions_of again)
@@ -99,13 +111,15 @@ module _ (m : Module) (f : OpName → OpName) (next : ℕ) (v : IsValid m) (stay
       let all : List OpName = tree_names m.root in
       let K = IsKnown all in
       let P = Passes has_its_reduction in
-      kept (λ p. K p × P p) P (λ p h. reductions_same f all stay p h.0 ∙ h.1) (each_with K P (placed m) (module_known m one v.uses.functions) v.reductions)
+      kept (λ p. K p × P p) P (λ p h. reductions_same f all stay p h.0
+      ∙ h.1) (each_with K P (placed m) (module_known m one v.uses.functions) v.reductions)
 
   -- ---- all rules
 
   pub valid_under : Each (λ n. n.0 < next) (tree_names again.root) → IsValid again
   valid_under below =
-      let once : Once (tree_names again.root) = subst Once (sym names_again) (once_mapped f (tree_names m.root) stay v.names.once) in
+      let once : Once (tree_names again.root) =
+      subst Once (sym names_again) (once_mapped f (tree_names m.root) stay v.names.once) in
       let regions = passes has_its_regions has_its_regions (regions_same f) v.regions in
       let known = kept Known Known (λ p k. k) all_known in
       record {
@@ -118,11 +132,14 @@ module _ (m : Module) (f : OpName → OpName) (next : ℕ) (v : IsValid m) (stay
         regions = regions;
         blocks = passes ends_its_blocks ends_its_blocks (blocks_same f) v.blocks;
         uses = record { root = root_seen again.root.operands known.0; functions = sees_again known regions };
-        types = passes (has_its_types (signatures m)) (has_its_types (signatures again)) (λ p. ap (λ sigs. has_its_types sigs p) signatures_same) v.types;
+        types = passes (has_its_types (signatures m)) (has_its_types (signatures again))
+            (λ p. ap (λ sigs. has_its_types sigs p) signatures_same) v.types;
         attributes = passes has_its_attributes has_its_attributes (λ p. refl) v.attributes;
-        callees = passes (has_its_callee (signatures m)) (has_its_callee (signatures again)) (λ p. ap (λ sigs. has_its_callee sigs p) signatures_same) v.callees;
+        callees = passes (has_its_callee (signatures m)) (has_its_callee (signatures again))
+            (λ p. ap (λ sigs. has_its_callee sigs p) signatures_same) v.callees;
         chains = passes (has_short_chains (functions_of m)) (has_short_chains (functions_of again))
-            (λ p. ap (λ fs. has_short_chains fs (placed_renamed f p)) functions_same ∙ short_same f (functions_of m) p) v.chains;
+            (λ p. ap (λ fs. has_short_chains fs (placed_renamed f p)) functions_same
+            ∙ short_same f (functions_of m) p) v.chains;
         maps = passes has_its_maps has_its_maps (λ p. refl) v.maps;
         iterators = passes has_its_iterators has_its_iterators (λ p. refl) v.iterators;
         reductions = reduces_again;
@@ -135,5 +152,7 @@ module _ (m : Module) (f : OpName → OpName) (next : ℕ) (v : IsValid m) (stay
 pub renaming_keeps_valid : RenamingKeepsValid
 renaming_keeps_valid m again v r below =
     let e = r.root in
-    let q : again ≡ (let x : Module = record { root = tree_renamed r.names m.root; next = again.next } in x) = λ i. record { root = e i; next = again.next } in
-    subst IsValid (sym q) (valid_under m r.names again.next v r.apart (subst (λ x. Each (λ n. n.0 < x.next) (tree_names x.root)) q below))
+    let q : again ≡ (let x : Module = record { root = tree_renamed r.names m.root; next = again.next } in x) =
+    λ i. record { root = e i; next = again.next } in
+    subst IsValid (sym q)
+    (valid_under m r.names again.next v r.apart (subst (λ x. Each (λ n. n.0 < x.next) (tree_names x.root)) q below))

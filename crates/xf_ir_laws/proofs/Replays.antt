@@ -78,9 +78,12 @@ module _ (root : Tree) (a b : ℕ) (grows : a ≤ b) where
   sees e f = sees_at (edited low e) (edited high e) (same_root high low e refl) (sees_after low e f)
 
   raised : (e : Edit) → FitsEdit low e → FitsEdit high e
-  raised (Insert tree at) f = record { fresh = f.fresh; spot = f.spot; names = named (Insert tree at) f; uses = sees (Insert tree at) f }
-  raised (Erase name) f = record { tree = f.tree; inside = f.inside; names = named (Erase name) f; uses = sees (Erase name) f }
-  raised (ReplaceUses changes) f = record { places = f.places; names = named (ReplaceUses changes) f; uses = sees (ReplaceUses changes) f }
+  raised (Insert tree at) f =
+      record { fresh = f.fresh; spot = f.spot; names = named (Insert tree at) f; uses = sees (Insert tree at) f }
+  raised (Erase name) f =
+      record { tree = f.tree; inside = f.inside; names = named (Erase name) f; uses = sees (Erase name) f }
+  raised (ReplaceUses changes) f =
+      record { places = f.places; names = named (ReplaceUses changes) f; uses = sees (ReplaceUses changes) f }
   raised (Replace name by changes) f = record {
     tree = f.tree;
     inside = f.inside;
@@ -99,7 +102,13 @@ module _ (root : Tree) (a b : ℕ) (grows : a ≤ b) where
     names = named (Restore tree at by changes) f;
     uses = sees (Restore tree at by changes) f;
   }
-  raised (Move name to) f = record { tree = f.tree; inside = f.inside; spot = f.spot; names = named (Move name to) f; uses = sees (Move name to) f }
+  raised (Move name to) f = record {
+    tree = f.tree;
+    inside = f.inside;
+    spot = f.spot;
+    names = named (Move name to) f;
+    uses = sees (Move name to) f;
+  }
   raised (SetAttr name key value) f = record {
     tree = f.tree;
     found = f.found;
@@ -111,7 +120,8 @@ module _ (root : Tree) (a b : ℕ) (grows : a ≤ b) where
 -- what fits a module fits another of the same tree whose next name is no lower
 fits_higher : (m m' : Module) (e : Edit) → m.root ≡ m'.root → m.next ≤ m'.next → FitsEdit m e → FitsEdit m' e
 fits_higher m m' e r n f =
-    let f' : FitsEdit (record { root = m'.root; next = m.next }) e = subst (λ t. FitsEdit (record { root = t; next = m.next }) e) r f in
+    let f' : FitsEdit (record { root = m'.root; next = m.next }) e =
+    subst (λ t. FitsEdit (record { root = t; next = m.next }) e) r f in
     raised m'.root m.next m'.next n e f'
 
 -- ---- back
@@ -130,7 +140,8 @@ lead_back m (e ∷ es) v u h =
     let last = replayed now es in
     let back = replayed last (inverses_of now es) in
     let inverse = inverse_of m e in
-    let fits : FitsEdit back inverse = fits_higher now back inverse (sym rest.root) rest.next (inverse_fits m e v u h.0) in
+    let fits : FitsEdit back inverse =
+    fits_higher now back inverse (sym rest.root) rest.next (inverse_fits m e v u h.0) in
     let q = replayed_parts last (inverses_of now es) (inverse ∷ []) in
     let n = next_stays m e h.0 in
     let k = next_stays back inverse fits in record {

@@ -1,4 +1,5 @@
--- Small modules, each of which breaks one rule, beside modules that keep it: the rules of the tree, of values and of attributes.
+-- Small modules, each of which breaks one rule, beside modules that keep it: the rules of the tree, of values and of
+-- attributes.
 use Rattle.std.proofs.Common.{◌≡◌, ℕ, zero, suc, ◌+◌, ◌*◌, List, [], ◌∷◌, None, Some, false, refl}
 use Rattle.std.specs.Prelude.{if◌then◌else◌, nat_lt}
 use Rattle.xf_type.specs.declared.payload_type.PayloadType.{PayloadType}
@@ -46,7 +47,17 @@ abbrev pub func : ℕ → ℕ → List PayloadType → List PayloadType → Ops 
 func n letter args results ops rest = holder n (kind.Func (letter ∷ []) false results) [] [] args ops rest
 
 abbrev pub module_of : Ops → Module
-module_of fs = record { root = record { name = named 0; kind = kind.Module None; attrs = []; operands = []; results = []; regions = region [] fs no_regions }; next = 1000 }
+module_of fs = record {
+  root = record {
+    name = named 0;
+    kind = kind.Module None;
+    attrs = [];
+    operands = [];
+    results = [];
+    regions = region [] fs no_regions;
+  };
+  next = 1000;
+}
 
 -- a module of one function, which is operation 1
 abbrev pub of_body : List PayloadType → List PayloadType → Ops → Module
@@ -84,10 +95,12 @@ too_high = refl
 
 -- ---- V2
 
-two_functions : Keeps (module_of (func 1 102 [] [] (leaf 2 kind.Return [] [] no_ops) (func 3 103 [] [] (leaf 4 kind.Return [] [] no_ops) no_ops)))
+two_functions : Keeps (module_of
+    (func 1 102 [] [] (leaf 2 kind.Return [] [] no_ops) (func 3 103 [] [] (leaf 4 kind.Return [] [] no_ops) no_ops)))
 two_functions = refl
 
-same_symbol : Breaks rule.Functions 0 (module_of (func 1 102 [] [] (leaf 2 kind.Return [] [] no_ops) (func 3 102 [] [] (leaf 4 kind.Return [] [] no_ops) no_ops)))
+same_symbol : Breaks rule.Functions 0 (module_of
+    (func 1 102 [] [] (leaf 2 kind.Return [] [] no_ops) (func 3 102 [] [] (leaf 4 kind.Return [] [] no_ops) no_ops)))
 same_symbol = refl
 
 stray_operation : Breaks rule.Functions 0 (module_of (constant 1 no_ops))
@@ -107,10 +120,12 @@ two_regions a b = region [] a (region [] b no_regions)
 abbrev yield : ℕ → List ValueName → Ops
 yield n os = leaf n kind.Yield os [] no_ops
 
-with_both : Keeps (of_body condition i32 (op (named 2) kind.If [] (arg 1 0 ∷ []) i32 (two_regions (constant 3 (yield 4 (res 3 ∷ []))) (constant 5 (yield 6 (res 5 ∷ [])))) (leaf 9 kind.Return (res 2 ∷ []) [] no_ops)))
+with_both : Keeps (of_body condition i32 (op (named 2) kind.If [] (arg 1 0 ∷ []) i32 (two_regions (constant 3
+    (yield 4 (res 3 ∷ []))) (constant 5 (yield 6 (res 5 ∷ [])))) (leaf 9 kind.Return (res 2 ∷ []) [] no_ops)))
 with_both = refl
 
-with_one : Breaks rule.Regions 2 (of_body condition i32 (op (named 2) kind.If [] (arg 1 0 ∷ []) i32 (region [] (constant 3 (yield 4 (res 3 ∷ []))) no_regions) (leaf 9 kind.Return (res 2 ∷ []) [] no_ops)))
+with_one : Breaks rule.Regions 2 (of_body condition i32 (op (named 2) kind.If [] (arg 1 0 ∷ []) i32
+    (region [] (constant 3 (yield 4 (res 3 ∷ []))) no_regions) (leaf 9 kind.Return (res 2 ∷ []) [] no_ops)))
 with_one = refl
 
 no_body : Breaks rule.Regions 1 (module_of (leaf 1 (kind.Func (102 ∷ []) false []) [] [] no_ops))
@@ -125,7 +140,8 @@ three = Scalar Index ∷ (Scalar Index ∷ (Scalar Index ∷ []))
 loop_induction : Keeps (of_body three [] (holder 2 (kind.For Index) bounds [] (Scalar Index ∷ []) (yield 3 []) ret))
 loop_induction = refl
 
-loop_without_induction : Breaks rule.Regions 2 (of_body three [] (holder 2 (kind.For Index) bounds [] [] (yield 3 []) ret))
+loop_without_induction : Breaks rule.Regions 2
+    (of_body three [] (holder 2 (kind.For Index) bounds [] [] (yield 3 []) ret))
 loop_without_induction = refl
 
 -- ---- V4
@@ -139,7 +155,8 @@ no_operation = refl
 return_before_the_end : Breaks rule.Blocks 2 (of_body [] [] (leaf 2 kind.Return [] [] ret))
 return_before_the_end = refl
 
-other_terminator : Breaks rule.Blocks 2 (of_body three [] (holder 2 (kind.For Index) bounds [] (Scalar Index ∷ []) (leaf 3 kind.Return [] [] no_ops) ret))
+other_terminator : Breaks rule.Blocks 2
+    (of_body three [] (holder 2 (kind.For Index) bounds [] (Scalar Index ∷ []) (leaf 3 kind.Return [] [] no_ops) ret))
 other_terminator = refl
 
 -- ---- V5
@@ -147,13 +164,16 @@ other_terminator = refl
 later_value : Breaks rule.Uses 2 (of_body [] [] (add 2 (res 3) (res 3) (constant 3 ret)))
 later_value = refl
 
-inner_value : Breaks rule.Uses 4 (of_body condition [] (holder 2 kind.If (arg 1 0 ∷ []) [] [] (constant 3 (yield 5 [])) (add 4 (res 3) (res 3) ret)))
+inner_value : Breaks rule.Uses 4
+    (of_body condition [] (holder 2 kind.If (arg 1 0 ∷ []) [] [] (constant 3 (yield 5 [])) (add 4 (res 3) (res 3) ret)))
 inner_value = refl
 
-outer_value : Keeps (of_body condition [] (constant 3 (holder 2 kind.If (arg 1 0 ∷ []) [] [] (add 4 (res 3) (res 3) (yield 5 [])) ret)))
+outer_value : Keeps
+    (of_body condition [] (constant 3 (holder 2 kind.If (arg 1 0 ∷ []) [] [] (add 4 (res 3) (res 3) (yield 5 [])) ret)))
 outer_value = refl
 
-of_another_function : Breaks rule.Uses 4 (module_of (func 1 102 i32 [] (leaf 2 kind.Return [] [] no_ops) (func 3 103 [] [] (add 4 (arg 1 0) (arg 1 0) (leaf 5 kind.Return [] [] no_ops)) no_ops)))
+of_another_function : Breaks rule.Uses 4 (module_of (func 1 102 i32 [] (leaf 2 kind.Return [] [] no_ops)
+    (func 3 103 [] [] (add 4 (arg 1 0) (arg 1 0) (leaf 5 kind.Return [] [] no_ops)) no_ops)))
 of_another_function = refl
 
 -- ---- V6
@@ -165,7 +185,8 @@ other_return : Breaks rule.Types 9 (of_body (Scalar I64 ∷ []) i32 (leaf 9 kind
 other_return = refl
 
 abbrev called : List PayloadType → List ValueName → Module
-called results os = module_of (func 1 102 [] [] (constant 2 (leaf 3 (kind.Call (103 ∷ [])) os results ret)) (func 4 103 i32 i32 (leaf 5 kind.Return (arg 4 0 ∷ []) [] no_ops) no_ops))
+called results os = module_of (func 1 102 [] [] (constant 2 (leaf 3 (kind.Call (103 ∷ [])) os results ret))
+    (func 4 103 i32 i32 (leaf 5 kind.Return (arg 4 0 ∷ []) [] no_ops) no_ops))
 
 call_fits : Keeps (called i32 (res 2 ∷ []))
 call_fits = refl
@@ -173,7 +194,8 @@ call_fits = refl
 call_without_operand : Breaks rule.Types 3 (called i32 [])
 call_without_operand = refl
 
-call_of_other_width : Breaks rule.Types 4 (module_of (func 1 102 (Scalar I64 ∷ []) [] (leaf 4 (kind.Call (103 ∷ [])) (arg 1 0 ∷ []) [] ret) (func 2 103 i32 [] (leaf 3 kind.Return [] [] no_ops) no_ops)))
+call_of_other_width : Breaks rule.Types 4 (module_of (func 1 102 (Scalar I64 ∷ []) [] (leaf 4 (kind.Call (103 ∷ []))
+    (arg 1 0 ∷ []) [] ret) (func 2 103 i32 [] (leaf 3 kind.Return [] [] no_ops) no_ops)))
 call_of_other_width = refl
 
 -- ---- V7
@@ -235,10 +257,12 @@ too_large_constant = refl
 narrowing : Keeps (of_body (Scalar I64 ∷ []) [] (leaf 2 (kind.Convert Trunci I64 I32) (arg 1 0 ∷ []) i32 ret))
 narrowing = refl
 
-index_truncated : Breaks rule.Attributes 2 (of_body (Scalar Index ∷ []) [] (leaf 2 (kind.Convert Trunci Index I32) (arg 1 0 ∷ []) i32 ret))
+index_truncated : Breaks rule.Attributes 2
+    (of_body (Scalar Index ∷ []) [] (leaf 2 (kind.Convert Trunci Index I32) (arg 1 0 ∷ []) i32 ret))
 index_truncated = refl
 
-index_to_index : Breaks rule.Attributes 2 (of_body (Scalar Index ∷ []) [] (leaf 2 (kind.Convert IndexCast Index Index) (arg 1 0 ∷ []) (Scalar Index ∷ []) ret))
+index_to_index : Breaks rule.Attributes 2 (of_body (Scalar Index
+    ∷ []) [] (leaf 2 (kind.Convert IndexCast Index Index) (arg 1 0 ∷ []) (Scalar Index ∷ []) ret))
 index_to_index = refl
 
 -- ---- V8
@@ -267,7 +291,8 @@ letter k = if nat_lt k 26 then k + 97 else k + 39
 -- functions, each of which calls the one behind it
 abbrev chain : ℕ → Ops
 chain zero = func 1 (letter 0) [] [] (leaf 2 kind.Return [] [] no_ops) no_ops
-chain (suc k) = func (k * 3 + 10) (letter (k + 1)) [] [] (leaf (k * 3 + 11) (kind.Call (letter k ∷ [])) [] [] (leaf (k * 3 + 12) kind.Return [] [] no_ops)) (chain k)
+chain (suc k) = func (k * 3 + 10) (letter (k + 1)) [] []
+    (leaf (k * 3 + 11) (kind.Call (letter k ∷ [])) [] [] (leaf (k * 3 + 12) kind.Return [] [] no_ops)) (chain k)
 
 chain_of_32 : Keeps (module_of (chain 31))
 chain_of_32 = refl

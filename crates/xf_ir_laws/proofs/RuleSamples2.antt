@@ -41,7 +41,8 @@ product_of_dynamic : Keeps (product (tensor (Dynamic ∷ (Fixed 3 ∷ []))) (mat
 product_of_dynamic = refl
 
 abbrev filled : PayloadType → Module
-filled value = of_body (value ∷ (matrix 2 3 ∷ [])) [] (leaf 2 (kind.Named Fill) (arg 1 0 ∷ (arg 1 1 ∷ [])) (matrix 2 3 ∷ []) ret)
+filled value =
+    of_body (value ∷ (matrix 2 3 ∷ [])) [] (leaf 2 (kind.Named Fill) (arg 1 0 ∷ (arg 1 1 ∷ [])) (matrix 2 3 ∷ []) ret)
 
 fill_fits : Keeps (filled (Scalar I32))
 fill_fits = refl
@@ -76,7 +77,8 @@ summed = leaf 3 (kind.Binary Addi I32) (arg 2 0 ∷ (arg 2 1 ∷ [])) i32 (leaf 
 
 abbrev generic : List AffineMap → List IteratorKind → List PayloadType → Ops → Module
 generic maps iterators args body =
-    of_body (matrix 2 3 ∷ (tensor (Fixed 2 ∷ []) ∷ [])) [] (holder 2 (kind.Generic maps iterators) (arg 1 0 ∷ (arg 1 1 ∷ [])) (tensor (Fixed 2 ∷ []) ∷ []) args body ret)
+    of_body (matrix 2 3 ∷ (tensor (Fixed 2 ∷ []) ∷ [])) []
+    (holder 2 (kind.Generic maps iterators) (arg 1 0 ∷ (arg 1 1 ∷ [])) (tensor (Fixed 2 ∷ []) ∷ []) args body ret)
 
 abbrev args : List PayloadType
 args = Scalar I32 ∷ (Scalar I32 ∷ [])
@@ -93,7 +95,8 @@ map_missing = refl
 dimension_twice : Breaks rule.Maps 2 (generic (to_dims 2 (0 ∷ (0 ∷ [])) ∷ (to_dims 2 (0 ∷ []) ∷ [])) rows args summed)
 dimension_twice = refl
 
-dimension_in_no_map : Breaks rule.Maps 2 (generic (to_dims 3 (0 ∷ (1 ∷ [])) ∷ (to_dims 3 (0 ∷ []) ∷ [])) (Parallel ∷ (Reduction ∷ (Reduction ∷ []))) args summed)
+dimension_in_no_map : Breaks rule.Maps 2 (generic (to_dims 3 (0 ∷ (1 ∷ [])) ∷ (to_dims 3 (0 ∷ []) ∷ [])) (Parallel
+    ∷ (Reduction ∷ (Reduction ∷ []))) args summed)
 dimension_in_no_map = refl
 
 -- ---- V11
@@ -109,18 +112,22 @@ reduction_in_the_out = refl
 out_unused : Breaks rule.Reductions 2 (generic to_rows rows args (leaf 4 kind.LinalgYield (arg 2 0 ∷ []) [] no_ops))
 out_unused = refl
 
-no_combiner : Breaks rule.Reductions 2 (generic to_rows rows args (leaf 3 (kind.Binary Subi I32) (arg 2 1 ∷ (arg 2 0 ∷ [])) i32 (leaf 4 kind.LinalgYield (res 3 ∷ []) [] no_ops)))
+no_combiner : Breaks rule.Reductions 2 (generic to_rows rows args
+    (leaf 3 (kind.Binary Subi I32) (arg 2 1 ∷ (arg 2 0 ∷ [])) i32 (leaf 4 kind.LinalgYield (res 3 ∷ []) [] no_ops)))
 no_combiner = refl
 
-out_twice : Breaks rule.Reductions 2 (generic to_rows rows args (leaf 3 (kind.Binary Addi I32) (arg 2 1 ∷ (arg 2 1 ∷ [])) i32 (leaf 4 kind.LinalgYield (res 3 ∷ []) [] no_ops)))
+out_twice : Breaks rule.Reductions 2 (generic to_rows rows args
+    (leaf 3 (kind.Binary Addi I32) (arg 2 1 ∷ (arg 2 1 ∷ [])) i32 (leaf 4 kind.LinalgYield (res 3 ∷ []) [] no_ops)))
 out_twice = refl
 
 out_used_elsewhere : Breaks rule.Reductions 2 (generic to_rows rows args
-    (leaf 5 (kind.Binary Muli I32) (arg 2 0 ∷ (arg 2 1 ∷ [])) i32 (leaf 3 (kind.Binary Addi I32) (res 5 ∷ (arg 2 1 ∷ [])) i32 (leaf 4 kind.LinalgYield (res 3 ∷ []) [] no_ops))))
+    (leaf 5 (kind.Binary Muli I32) (arg 2 0 ∷ (arg 2 1 ∷ [])) i32 (leaf 3 (kind.Binary Addi I32) (res 5
+    ∷ (arg 2 1 ∷ [])) i32 (leaf 4 kind.LinalgYield (res 3 ∷ []) [] no_ops))))
 out_used_elsewhere = refl
 
 value_of_its_own : Keeps (generic to_rows rows args
-    (leaf 5 (kind.Binary Muli I32) (arg 2 0 ∷ (arg 2 0 ∷ [])) i32 (leaf 3 (kind.Binary Addi I32) (res 5 ∷ (arg 2 1 ∷ [])) i32 (leaf 4 kind.LinalgYield (res 3 ∷ []) [] no_ops))))
+    (leaf 5 (kind.Binary Muli I32) (arg 2 0 ∷ (arg 2 0 ∷ [])) i32 (leaf 3 (kind.Binary Addi I32) (res 5
+    ∷ (arg 2 1 ∷ [])) i32 (leaf 4 kind.LinalgYield (res 3 ∷ []) [] no_ops))))
 value_of_its_own = refl
 
 -- ---- V14
@@ -133,10 +140,12 @@ tensor_in_a_body = refl
 abbrev taken : PayloadType → Module
 taken t = of_body (t ∷ []) [] ret
 
-ranks_up_to_8 : Keeps (taken (tensor (Fixed 1 ∷ (Fixed 1 ∷ (Fixed 1 ∷ (Fixed 1 ∷ (Fixed 1 ∷ (Fixed 1 ∷ (Fixed 1 ∷ (Dynamic ∷ []))))))))))
+ranks_up_to_8 : Keeps
+    (taken (tensor (Fixed 1 ∷ (Fixed 1 ∷ (Fixed 1 ∷ (Fixed 1 ∷ (Fixed 1 ∷ (Fixed 1 ∷ (Fixed 1 ∷ (Dynamic ∷ []))))))))))
 ranks_up_to_8 = refl
 
-rank_of_9 : Breaks rule.Ranges 1 (taken (tensor (Fixed 1 ∷ (Fixed 1 ∷ (Fixed 1 ∷ (Fixed 1 ∷ (Fixed 1 ∷ (Fixed 1 ∷ (Fixed 1 ∷ (Fixed 1 ∷ (Dynamic ∷ [])))))))))))
+rank_of_9 : Breaks rule.Ranges 1 (taken (tensor (Fixed 1
+    ∷ (Fixed 1 ∷ (Fixed 1 ∷ (Fixed 1 ∷ (Fixed 1 ∷ (Fixed 1 ∷ (Fixed 1 ∷ (Fixed 1 ∷ (Dynamic ∷ [])))))))))))
 rank_of_9 = refl
 
 largest_extent : Keeps (taken (tensor (Fixed 2147483647 ∷ [])))
@@ -152,7 +161,8 @@ at = index.Fixed (pos 0) ∷ (index.Fixed (pos 1) ∷ [])
 
 -- a slice of a matrix of 4 rows and 5 columns, with one size of 2 and one that is an index
 abbrev sliced : List SliceIndex → PayloadType → Module
-sliced offsets t = of_body (matrix 4 5 ∷ (Scalar Index ∷ [])) [] (leaf 2 (kind.ExtractSlice offsets (index.Fixed (pos 2) ∷ (index.Dynamic ∷ []))) (arg 1 0 ∷ (arg 1 1 ∷ [])) (t ∷ []) ret)
+sliced offsets t = of_body (matrix 4 5 ∷ (Scalar Index ∷ [])) [] (leaf 2
+    (kind.ExtractSlice offsets (index.Fixed (pos 2) ∷ (index.Dynamic ∷ []))) (arg 1 0 ∷ (arg 1 1 ∷ [])) (t ∷ []) ret)
 
 slice_fits : Keeps (sliced at (tensor (Fixed 2 ∷ (Dynamic ∷ []))))
 slice_fits = refl
@@ -166,5 +176,6 @@ slice_of_lower_rank = refl
 slice_of_other_size : Breaks rule.Slices 2 (sliced at (matrix 2 5))
 slice_of_other_size = refl
 
-offset_below_zero : Breaks rule.Slices 2 (sliced (index.Fixed (negsuc 0) ∷ (index.Fixed (pos 1) ∷ [])) (tensor (Fixed 2 ∷ (Dynamic ∷ []))))
+offset_below_zero : Breaks rule.Slices 2
+    (sliced (index.Fixed (negsuc 0) ∷ (index.Fixed (pos 1) ∷ [])) (tensor (Fixed 2 ∷ (Dynamic ∷ []))))
 offset_below_zero = refl

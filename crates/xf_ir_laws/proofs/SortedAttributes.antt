@@ -49,17 +49,24 @@ sorted_placed : (d : Attr) (ds : List Attr) → Lacks d.name ds → IsSortedByNa
 sorted_placed d [] l h = (tt, tt)
 sorted_placed d (e ∷ es) l h =
     elim (cases_Bool (bytes_before e.name d.name)) [
-      | inl b ↦ rw b (each_placed (λ (x : Attr). bytes_before e.name x.name ≡ true) d es b h.0, sorted_placed d es l.1 h.1)
+      | inl b ↦ rw b (
+        each_placed (λ (x : Attr). bytes_before e.name x.name ≡ true) d es b h.0,
+        sorted_placed d es l.1 h.1,
+      )
       | inr b ↦ (
           let a = before_or_behind e.name d.name b l.0 in
-          let more = each_map (λ (x : Attr). bytes_before e.name x.name ≡ true) (λ (x : Attr). bytes_before d.name x.name ≡ true) es (λ x t. before_trans d.name e.name x.name a t) h.0 in
+          let more = each_map (λ (x : Attr). bytes_before e.name x.name ≡ true)
+          (λ (x : Attr). bytes_before d.name x.name ≡ true) es (λ x t. before_trans d.name e.name x.name a t) h.0 in
           rw b ((a, more), h))
     ]
 
-pub sorted_with : (key : List ℕ) (v : AttrValue) (ds : List Attr) → IsSortedByName ds → IsSortedByName (with_attr key v ds)
-sorted_with key v ds h = sorted_placed (record { name = key; value = v }) (without_attr key ds) (lacks_without key ds) (sorted_without key ds h)
+pub sorted_with : (key : List ℕ) (v : AttrValue) (ds : List Attr) → IsSortedByName ds
+    → IsSortedByName (with_attr key v ds)
+sorted_with key v ds h = sorted_placed (record { name = key; value = v }) (without_attr key ds) (lacks_without key ds)
+    (sorted_without key ds h)
 
-pub sorted_set : (key : List ℕ) (value : Option AttrValue) (ds : List Attr) → IsSortedByName ds → IsSortedByName (attr_set key value ds)
+pub sorted_set : (key : List ℕ) (value : Option AttrValue) (ds : List Attr) → IsSortedByName ds
+    → IsSortedByName (attr_set key value ds)
 sorted_set key None ds h = sorted_without key ds h
 sorted_set key (Some v) ds h = sorted_with key v ds h
 
@@ -80,11 +87,14 @@ without_placed d (e ∷ es) l =
       | inr b ↦ rw b (rw o (rw (l.0) (ap (λ (xs : List Attr). e ∷ xs) w)))
     ]
 
-without_set : (key : List ℕ) (value : Option AttrValue) (ds : List Attr) → without_attr key (attr_set key value ds) ≡ without_attr key ds
+without_set : (key : List ℕ) (value : Option AttrValue) (ds : List Attr)
+    → without_attr key (attr_set key value ds) ≡ without_attr key ds
 without_set key None ds = without_lacking key (without_attr key ds) (lacks_without key ds)
-without_set key (Some v) ds = without_placed (record { name = key; value = v }) (without_attr key ds) (lacks_without key ds)
+without_set key (Some v) ds =
+    without_placed (record { name = key; value = v }) (without_attr key ds) (lacks_without key ds)
 
-set_twice : (key : List ℕ) (value again : Option AttrValue) (ds : List Attr) → attr_set key again (attr_set key value ds) ≡ attr_set key again ds
+set_twice : (key : List ℕ) (value again : Option AttrValue) (ds : List Attr)
+    → attr_set key again (attr_set key value ds) ≡ attr_set key again ds
 set_twice key value None ds = without_set key value ds
 set_twice key value (Some v) ds = ap (placed (record { name = key; value = v })) (without_set key value ds)
 
@@ -97,11 +107,13 @@ placed_first d (e ∷ es) b = (let n = never_both d.name e.name b.0 in rw n refl
 kept_first : (d : Attr) (ds : List Attr) → Before d.name ds → attr_set d.name (Some d.value) (d ∷ ds) ≡ d ∷ ds
 kept_first d ds b =
     let o = same_itself d.name in
-    let l = each_map (λ (x : Attr). bytes_before d.name x.name ≡ true) (λ (x : Attr). same_bytes x.name d.name ≡ false) ds (λ x t. before_other d.name x.name t) b in
+    let l = each_map (λ (x : Attr). bytes_before d.name x.name ≡ true) (λ (x : Attr). same_bytes x.name d.name
+    ≡ false) ds (λ x t. before_other d.name x.name t) b in
     let w = without_lacking d.name ds l in
     rw o (ap (placed d) w ∙ placed_first d ds b)
 
-behind_it : (d : Attr) (key : List ℕ) (v : AttrValue) (ds : List Attr) → Before d.name ds → attr_of key ds ≡ Some v → bytes_before d.name key ≡ true
+behind_it : (d : Attr) (key : List ℕ) (v : AttrValue) (ds : List Attr) → Before d.name ds → attr_of key ds ≡ Some v
+    → bytes_before d.name key ≡ true
 behind_it d key v [] b h = absurd (cc)
 behind_it d key v (e ∷ es) b h =
     elim (cases_Bool (same_bytes e.name key)) [
@@ -109,7 +121,8 @@ behind_it d key v (e ∷ es) b h =
       | inr s ↦ behind_it d key v es b.1 (rw s at h)
     ]
 
-kept_behind : (d : Attr) (key : List ℕ) (o : Option AttrValue) (ds : List Attr) → same_bytes d.name key ≡ false → Before d.name ds → attr_of key ds ≡ o → attr_set key o ds ≡ ds → attr_set key o (d ∷ ds) ≡ d ∷ ds
+kept_behind : (d : Attr) (key : List ℕ) (o : Option AttrValue) (ds : List Attr) → same_bytes d.name key ≡ false
+    → Before d.name ds → attr_of key ds ≡ o → attr_set key o ds ≡ ds → attr_set key o (d ∷ ds) ≡ d ∷ ds
 kept_behind d key None ds s b h k = rw s (ap (λ (xs : List Attr). d ∷ xs) k)
 kept_behind d key (Some v) ds s b h k =
     let a = behind_it d key v ds b h in
@@ -120,13 +133,17 @@ set_kept key [] h = refl
 set_kept key (d ∷ ds) h =
     elim (cases_Bool (same_bytes d.name key)) [
       | inl s ↦ (
-          let k = subst (λ k. attr_set k (Some d.value) (d ∷ ds) ≡ d ∷ ds) (same_is d.name key s) (kept_first d ds h.0) in
-          subst (λ o. attr_set key o (d ∷ ds) ≡ d ∷ ds) (let z : Some d.value ≡ attr_of key (d ∷ ds) = rw s refl in z) k)
+          let k = subst (λ k. attr_set k (Some d.value) (d ∷ ds)
+          ≡ d ∷ ds) (same_is d.name key s) (kept_first d ds h.0) in
+          subst (λ o. attr_set key o (d ∷ ds) ≡ d ∷ ds) (let z : Some d.value ≡ attr_of key (d ∷ ds) =
+          rw s refl in z) k)
       | inr s ↦ (
           let k = kept_behind d key (attr_of key ds) ds s h.0 refl (set_kept key ds h.1) in
-          subst (λ o. attr_set key o (d ∷ ds) ≡ d ∷ ds) (let z : attr_of key ds ≡ attr_of key (d ∷ ds) = rw s refl in z) k)
+          subst (λ o. attr_set key o (d ∷ ds) ≡ d ∷ ds) (let z : attr_of key ds ≡ attr_of key (d ∷ ds) =
+          rw s refl in z) k)
     ]
 
 -- an attribute that is set and then set to what it was
-pub set_back : (key : List ℕ) (value : Option AttrValue) (ds : List Attr) → IsSortedByName ds → attr_set key (attr_of key ds) (attr_set key value ds) ≡ ds
+pub set_back : (key : List ℕ) (value : Option AttrValue) (ds : List Attr) → IsSortedByName ds
+    → attr_set key (attr_of key ds) (attr_set key value ds) ≡ ds
 set_back key value ds h = set_twice key value (attr_of key ds) ds ∙ set_kept key ds h

@@ -22,10 +22,14 @@ use Rattle.xf_ir_laws.proofs.FirstBroken.{Local, no_violation, clean}
 -- each operation keeps all local rules where each rule is kept by each
 locals :
     (m : Module) (ps : List Placed) →
-    Each (Passes has_its_regions) ps → Each (Passes ends_its_blocks) ps → Each Known ps → Each (Passes (has_its_types (signatures m))) ps →
-    Each (Passes has_its_attributes) ps → Each (Passes (has_its_callee (signatures m))) ps → Each (Passes (has_short_chains (functions_of m))) ps →
-    Each (Passes has_its_maps) ps → Each (Passes has_its_iterators) ps → Each (Passes has_its_reduction) ps → Each (Passes has_its_extents) ps →
-    Each (Passes fits_its_body) ps → Each (Passes has_types_in_range) ps → Each (Passes has_its_slices) ps → Each (Local m) ps
+    Each (Passes has_its_regions) ps → Each (Passes ends_its_blocks) ps → Each Known ps
+    → Each (Passes (has_its_types (signatures m))) ps →
+    Each (Passes has_its_attributes) ps → Each (Passes (has_its_callee (signatures m))) ps
+    → Each (Passes (has_short_chains (functions_of m))) ps →
+    Each (Passes has_its_maps) ps → Each (Passes has_its_iterators) ps → Each (Passes has_its_reduction) ps
+    → Each (Passes has_its_extents) ps →
+    Each (Passes fits_its_body) ps → Each (Passes has_types_in_range) ps → Each (Passes has_its_slices) ps
+    → Each (Local m) ps
 locals m [] a b c d e f g h i j k l n o = tt
 locals m (p ∷ ps) a b c d e f g h i j k l n o = (
   (a.0, (b.0, (c.0, (d.0, (e.0, (f.0, (g.0, (h.0, (i.0, (j.0, (k.0, (l.0, (n.0, (o.0, tt)))))))))))))),
@@ -34,23 +38,29 @@ locals m (p ∷ ps) a b c d e f g h i j k l n o = (
 
 -- ---- visible operands
 
-block_known : (h : Holder) (rs : Regions) → rs ≡ region [] (block_of rs) no_regions → FunctionsSee (block_of rs) → BlocksObey Known h rs
+block_known : (h : Holder) (rs : Regions) → rs ≡ region [] (block_of rs) no_regions → FunctionsSee (block_of rs)
+    → BlocksObey Known h rs
 block_known h rs e s = subst (BlocksObey Known h) (sym e) (functions_known h (block_of rs) s, tt)
 
-block_seen : (h : Holder) (rs : Regions) → rs ≡ region [] (block_of rs) no_regions → BlocksObey Known h rs → FunctionsSee (block_of rs)
+block_seen : (h : Holder) (rs : Regions) → rs ≡ region [] (block_of rs) no_regions → BlocksObey Known h rs
+    → FunctionsSee (block_of rs)
 block_seen h rs e k = (let b = subst (BlocksObey Known h) e k in functions_see h (block_of rs) b.0)
 
 all_known : (m : Module) → IsValid m → Each Known (placed m)
 all_known m v =
-    let rs = m.root.regions in
-    (root_known m.root.operands v.uses.root, each_blocks Known (root_holder m.root) rs (block_known (root_holder m.root) rs (one_block m.root.kind v.functions.root _ _ rs v.regions.0) v.uses.functions))
+    let rs = m.root.regions in (
+      root_known m.root.operands v.uses.root,
+      each_blocks Known (root_holder m.root) rs (block_known
+          (root_holder m.root) rs (one_block m.root.kind v.functions.root _ _ rs v.regions.0) v.uses.functions),
+    )
 
 -- ---- both ways
 
 pub valid_clean : (m : Module) → IsValid m → first_violation m ≡ None
 valid_clean m v =
     no_violation m v.names v.functions
-    (locals m (placed m) v.regions v.blocks (all_known m v) v.types v.attributes v.callees v.chains v.maps v.iterators v.reductions v.extents v.bodies v.ranges v.slices)
+    (locals m (placed m) v.regions v.blocks (all_known m v)
+    v.types v.attributes v.callees v.chains v.maps v.iterators v.reductions v.extents v.bodies v.ranges v.slices)
 
 pub clean_valid : (m : Module) → first_violation m ≡ None → IsValid m
 clean_valid m h =
@@ -67,7 +77,8 @@ clean_valid m h =
       blocks = each_map L (Passes ends_its_blocks) all (λ p l. l.1.0) c.local;
       uses = record {
         root = root_seen m.root.operands known.0;
-        functions = block_seen (root_holder m.root) rs (one_block m.root.kind c.functions.root _ _ rs regions.0) (blocks_obey Known (root_holder m.root) rs known.1);
+        functions = block_seen (root_holder m.root) rs (one_block m.root.kind c.functions.root _ _ rs regions.0)
+            (blocks_obey Known (root_holder m.root) rs known.1);
       };
       types = each_map L (Passes (has_its_types (signatures m))) all (λ p l. l.1.1.1.0) c.local;
       attributes = each_map L (Passes has_its_attributes) all (λ p l. l.1.1.1.1.0) c.local;

@@ -19,7 +19,8 @@ use Rattle.xf_ir.specs.Lists.{Each}
 use Rattle.xf_ir.specs.Renamed.{IsRenamed}
 use Rattle.xf_ir.specs.Walk.{tree_names}
 
--- in a valid module each operand is visible where it stands, and each value is defined once among those that are visible
+-- in a valid module each operand is visible where it stands, and each value is defined once among those that are
+-- visible
 abbrev pub ValidIsScoped : Type 0
 ValidIsScoped = (m : Module) → IsValid m → FunctionsScoped (functions_of m)
 
@@ -95,4 +96,5 @@ SettingKeepsSorted =
 
 -- a valid module stays valid under other names that are below its next one
 abbrev pub RenamingKeepsValid : Type 0
-RenamingKeepsValid = (m again : Module) → IsValid m → IsRenamed m again → Each (λ n. n.0 < again.next) (tree_names again.root) → IsValid again
+RenamingKeepsValid = (m again : Module) → IsValid m → IsRenamed m again
+    → Each (λ n. n.0 < again.next) (tree_names again.root) → IsValid again

@@ -1,7 +1,11 @@
 //! Laws of valid modules and of edits, each as the contract of a function that does nothing.
-ghost use Rattle.xf_ir_laws.specs.Laws.{ValidIsScoped, ValidHasNoViolation, ErasingFits, ErasingKeepsValid, ErasingLowersWeight, ErasingLowersCount, ErasingKeepsListsShort, ErasingKeepsLimits, InverseLeadsBack, InverseFits, ReplayingComposes, InversesFit, InversesLeadBack, SettingKeepsSorted, RenamingKeepsValid};
+ghost use Rattle.xf_ir_laws.specs.Laws.{ValidIsScoped, ValidHasNoViolation, ErasingFits, ErasingKeepsValid};
+ghost use Rattle.xf_ir_laws.specs.Laws.{ErasingLowersWeight, ErasingLowersCount, ErasingKeepsListsShort};
+ghost use Rattle.xf_ir_laws.specs.Laws.{ErasingKeepsLimits, InverseLeadsBack, InverseFits, ReplayingComposes};
+ghost use Rattle.xf_ir_laws.specs.Laws.{InversesFit, InversesLeadBack, SettingKeepsSorted, RenamingKeepsValid};
 
-/// In a valid module each operand is visible where it stands, and each value is defined once among those that are visible.
+/// In a valid module each operand is visible where it stands, and each value is defined once among those that are
+/// visible.
 pub fn valid_is_scoped()
     ensures { ValidIsScoped }
 {}

@@ -1,5 +1,5 @@
-//! Laws of the payload tree: of valid modules, of edits, of other names and of the choices of a rewriting step. The calls
-//! that they speak of stand in `xf_ir`, whose proofs need none of them.
+//! Laws of the payload tree: of valid modules, of edits, of other names and of the choices of a rewriting step. The
+//! calls that they speak of stand in `xf_ir`, whose proofs need none of them.
 #![tactic(auto)]
 
 mod laws;

@@ -1,5 +1,6 @@
 -- A text that is laid out has the tokens of its pieces.
-use Rattle.std.proofs.Common.{◌≡◌, ℕ, ◌+◌, Bool, false, List, [], ◌∷◌, ◌++◌, length, take, drop, refl, sym, ap, subst, ◌∙◌, arith, append-nil}
+use Rattle.std.proofs.Common.{◌≡◌, ℕ, ◌+◌, Bool, false, List, [], ◌∷◌, ◌++◌, length, take, drop, refl, sym, ap, subst}
+use Rattle.std.proofs.Common.{◌∙◌, arith, append-nil}
 use Rattle.std.specs.Prelude.{map}
 use Rattle.std.proofs.lemmas.List.{take_at, drop_at}
 use Rattle.xf_span.specs.declared.place.Place.{Place}
@@ -17,7 +18,8 @@ gap_blanks [] more h = omega arith
 gap_blanks (b ∷ bs) more h = let e = h.0 in rw e (let r = gap_blanks bs more h.1 in omega arith)
 
 text_blanks : (bs more : List ℕ) → AllBlank bs → gap more ≡ 0 → text_at (bs ++ more) ≡ more
-text_blanks bs more h z = let n : gap (bs ++ more) ≡ length bs = (let r = gap_blanks bs more h in omega arith) in rw n (drop_at bs more (length bs) refl)
+text_blanks bs more h z = let n : gap (bs ++ more) ≡ length bs = (let r = gap_blanks bs more h in omega arith) in
+    rw n (drop_at bs more (length bs) refl)
 
 text_tail : (bs : List ℕ) → AllBlank bs → text_at bs ≡ []
 text_tail bs h = ap text_at (sym (append-nil bs)) ∙ text_blanks bs [] h refl
@@ -30,8 +32,15 @@ record Again (ws : List SpacedToken) (tail : List ℕ) (tensor : Bool) (p : Plac
   ends : front_of last ≡ front.End
   plain_is : map plain tokens ≡ map (λ w. w.token) ws
 
-again : (ws : List SpacedToken) (tail : List ℕ) (tensor : Bool) (p : Place) → AllStay tensor ws tail → Again ws tail tensor p
-again [] tail tensor p h = record { tokens = []; last = record { after_tensor = tensor; place = p; rest = tail }; read = refl; ends = ap (token_at tensor) (text_tail tail h); plain_is = refl }
+again : (ws : List SpacedToken) (tail : List ℕ) (tensor : Bool) (p : Place) → AllStay tensor ws tail
+    → Again ws tail tensor p
+again [] tail tensor p h = record {
+  tokens = [];
+  last = record { after_tensor = tensor; place = p; rest = tail };
+  read = refl;
+  ends = ap (token_at tensor) (text_tail tail h);
+  plain_is = refl;
+}
 again (w ∷ ws) tail tensor p h =
     let bytes = w.token.bytes in
     let bs : List ℕ = layout (w ∷ ws) tail in
@@ -43,12 +52,23 @@ again (w ∷ ws) tail tensor p h =
       bytes = sym (ap (take (length bytes)) text ∙ take_at bytes (layout ws tail) (length bytes) refl);
       place = refl;
     } in
-    let left : drop (length bytes) (text_at bs) ≡ layout ws tail = ap (drop (length bytes)) text ∙ drop_at bytes (layout ws tail) (length bytes) refl in
+    let left : drop (length bytes) (text_at bs) ≡ layout ws tail =
+    ap (drop (length bytes)) text ∙ drop_at bytes (layout ws tail) (length bytes) refl in
     let more = again ws tail (is_tensor w.token.kind bytes) (place_after t.place bytes) h.2 in
     let others = more.plain_is in
     let read : Tokens (behind here t) more.tokens more.last =
-    subst (λ x. Tokens (record { after_tensor = is_tensor w.token.kind bytes; place = place_after t.place bytes; rest = x }) more.tokens more.last) (sym left) more.read in
-    record { tokens = t ∷ more.tokens; last = more.last; read = (first, read); ends = more.ends; plain_is = ap (λ x. w.token ∷ x) others }
+    subst (λ x. Tokens (record {
+      after_tensor = is_tensor w.token.kind bytes;
+      place = place_after t.place bytes;
+      rest = x;
+    }) more.tokens more.last) (sym left) more.read in
+    record {
+      tokens = t ∷ more.tokens;
+      last = more.last;
+      read = (first, read);
+      ends = more.ends;
+      plain_is = ap (λ x. w.token ∷ x) others;
+    }
 
 pub layout_is_read : LayoutIsRead
 layout_is_read ws tail h utf8 =

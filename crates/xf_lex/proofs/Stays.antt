@@ -1,12 +1,11 @@
--- Tokens that stay the longest at their place, whatever is behind them, as long as it does not go on with their bytes.
-use Rattle.std.proofs.Common.{◌≡◌, ℕ, suc, ◌+◌, ◌%◌, ◌^◌, ◌<◌, ◌≤◌, Bool, true, false, List, [], ◌∷◌, ◌++◌, length, refl, ap, arith, length-append}
+-- Runs of bytes, whatever is behind them, as long as it does not go on with them; and the digits of a number.
+use Rattle.std.proofs.Common.{◌≡◌, ℕ, suc, ◌+◌, ◌%◌, ◌^◌, ◌<◌, Bool, true, false, List, [], ◌∷◌, ◌++◌, length, refl, ap}
+use Rattle.std.proofs.Common.{arith, length-append}
 use Rattle.std.specs.Fmt.{decimal}
 use Rattle.std.proofs.lemmas.Bool.{le-leb}
 use Rattle.std.proofs.lemmas.Fmt.{decimal_by_steps}
-use Rattle.xf_lex.specs.declared.token.TokenKind.TheVariants as kind
-use Rattle.xf_type.specs.Bytes.{is_digit, is_letter, is_word_byte}
+use Rattle.xf_type.specs.Bytes.{is_digit}
 use Rattle.xf_lex.specs.Bytes.{run}
-use Rattle.xf_lex.specs.Layout.{Plain, Stays}
 
 abbrev pub AllPass : (ℕ → Bool) → List ℕ → Type 0
 AllPass p [] = Unit {0}
@@ -40,17 +39,7 @@ pub record Digits (ds : List ℕ) : Type 0 where
 pub decimal_digits : (n : ℕ) → n < 2 ^ 64 → Digits (decimal n)
 decimal_digits n lt = decimal_by_steps (λ n ds. Digits ds)
     (λ n lt. record { all = (digit_is n lt, tt); some = omega arith })
-    (λ n ds le d. record { all = all_more is_digit ds (48 + n % 10) d.all (digit_is (n % 10) (omega arith)); some = omega (arith, length-append ds ((48 + n % 10) ∷ [])) }) n lt
-
-stays_digits : (after_tensor : Bool) (ds rest : List ℕ) → Digits ds → Stops is_digit rest → let t : Plain = record { kind = kind.Value; bytes = 37 ∷ ds } in Stays after_tensor t rest
-stays_digits after_tensor [] rest d stops = absurd (let z = d.some in omega arith)
-stays_digits after_tensor (b ∷ ds) rest d stops = record { no_gap = refl; longest = let e = d.all.0 in let r = run_all is_digit ds rest d.all.1 stops in rw (e, r) refl }
-
--- %n before anything but a digit
-pub value_stays : (after_tensor : Bool) (n : ℕ) (rest : List ℕ) → n < 2 ^ 64 → Stops is_digit rest → let t : Plain = record { kind = kind.Value; bytes = 37 ∷ decimal n } in Stays after_tensor t rest
-value_stays after_tensor n rest lt stops = stays_digits after_tensor (decimal n) rest (decimal_digits n lt) stops
-
--- @ and a word before anything but a byte of a word
-pub symbol_stays : (after_tensor : Bool) (b : ℕ) (bs rest : List ℕ) → is_letter b ≡ true → AllPass is_word_byte bs → Stops is_word_byte rest
-    → let t : Plain = record { kind = kind.Symbol; bytes = 64 ∷ b ∷ bs } in Stays after_tensor t rest
-symbol_stays after_tensor b bs rest letter all stops = record { no_gap = refl; longest = let r = run_all is_word_byte bs rest all stops in rw (letter, r) refl }
+    (λ n ds le d. record {
+      all = all_more is_digit ds (48 + n % 10) d.all (digit_is (n % 10) (omega arith));
+      some = omega (arith, length-append ds ((48 + n % 10) ∷ []));
+    }) n lt

@@ -20,7 +20,9 @@ is_blank b = ((b == 32) || (b == 9)) || ((b == 13) || (b == 10))
 
 -- ( ) { } [ ] < > , : = - ?
 abbrev pub is_mark : ℕ → Bool
-is_mark b = ((((b == 40) || (b == 41)) || ((b == 123) || (b == 125))) || (((b == 91) || (b == 93)) || ((b == 60) || (b == 62)))) || ((((b == 44) || (b == 58)) || ((b == 61) || (b == 45))) || (b == 63))
+is_mark b = ((((b == 40) || (b == 41)) || ((b == 123) || (b == 125)))
+    || (((b == 91) || (b == 93)) || ((b == 60) || (b == 62))))
+    || ((((b == 44) || (b == 58)) || ((b == 61) || (b == 45))) || (b == 63))
 
 -- how many bytes at the front pass a test
 abbrev pub run : (ℕ → Bool) → List ℕ → ℕ
@@ -32,11 +34,15 @@ abbrev pub starts : ℕ → List ℕ → Bool
 starts x [] = false
 starts x (b ∷ bs) = b == x
 
--- how many bytes of blanks and comments are at the front, from within a comment or not; a comment ends before its line feed
+-- how many bytes of blanks and comments are at the front, from within a comment or not; a comment ends before its line
+-- feed
 abbrev pub gap_in : Bool → List ℕ → ℕ
 gap_in inside [] = 0
 gap_in true (b ∷ bs) = suc (gap_in (not (b == 10)) bs)
-gap_in false (b ∷ bs) = if is_blank b then suc (gap_in false bs) else (if (b == 47) && starts 47 bs then suc (gap_in true bs) else 0)
+gap_in false (b ∷ bs) =
+    if is_blank b
+    then suc (gap_in false bs)
+    else (if (b == 47) && starts 47 bs then suc (gap_in true bs) else 0)
 
 -- how many bytes of blanks and comments are at the front
 abbrev pub gap : List ℕ → ℕ

@@ -36,4 +36,5 @@ pub record Stays (after_tensor : Bool) (t : Plain) (rest : List ℕ) : Type 0 wh
 
 abbrev pub AllStay : Bool → List SpacedToken → List ℕ → Type 0
 AllStay after_tensor [] tail = AllBlank tail
-AllStay after_tensor (w ∷ ws) tail = AllBlank w.blanks × Stays after_tensor w.token (layout ws tail) × AllStay (is_tensor w.token.kind w.token.bytes) ws tail
+AllStay after_tensor (w ∷ ws) tail = AllBlank w.blanks × Stays after_tensor w.token (layout ws tail)
+    × AllStay (is_tensor w.token.kind w.token.bytes) ws tail

@@ -1,5 +1,6 @@
 -- What stands first in a text that begins with no blank and no comment: the longest token there, or what is wrong.
-use Rattle.std.specs.Prelude.{ℕ, suc, ◌^◌, ◌<◌, ◌≤◌, ⊤, List, [], ◌∷◌, length, take, drop, Bool, false, not, ◌==◌, ◌&&◌, ◌||◌, if◌then◌else◌, nat_lt}
+use Rattle.std.specs.Prelude.{ℕ, suc, ◌^◌, ◌<◌, ◌≤◌, ⊤, List, [], ◌∷◌, length, take, drop, Bool, false, not, ◌==◌, ◌&&◌}
+use Rattle.std.specs.Prelude.{◌||◌, if◌then◌else◌, nat_lt}
 use Rattle.std.specs.Str.Parse.{digits_value}
 use Rattle.xf_span.specs.declared.code.Code.TheVariants.{L1, L2, L3}
 use Rattle.xf_lex.specs.declared.token.TokenKind.{TokenKind}
@@ -14,7 +15,8 @@ use Rattle.xf_lex.specs.Bytes.{is_name_start, is_name_byte, is_shape_byte, is_ma
 -- how many bytes stand before the " that no \ escapes, before the end of the line, or else in all
 abbrev pub quoted_in : Bool → List ℕ → ℕ
 quoted_in escaped [] = 0
-quoted_in escaped (b ∷ bs) = if (b == 10) || (not escaped && (b == 34)) then 0 else suc (quoted_in (not escaped && (b == 92)) bs)
+quoted_in escaped (b ∷ bs) =
+    if (b == 10) || (not escaped && (b == 34)) then 0 else suc (quoted_in (not escaped && (b == 92)) bs)
 
 -- whether what stands behind a \ is an escape: ", \, n, t or two hexadecimal digits
 abbrev pub starts_hex : List ℕ → Bool
@@ -28,12 +30,18 @@ is_escape (b ∷ bs) = (((b == 34) || (b == 92)) || ((b == 110) || (b == 116))) 
 -- how many bytes stand before the first \ that begins no escape, or else in all
 abbrev pub escaped_in : Bool → List ℕ → ℕ
 escaped_in escaped [] = 0
-escaped_in escaped (b ∷ bs) = if (not escaped && (b == 92)) && not (is_escape bs) then 0 else suc (escaped_in (not escaped && (b == 92)) bs)
+escaped_in escaped (b ∷ bs) =
+    if (not escaped && (b == 92)) && not (is_escape bs)
+    then 0
+    else suc (escaped_in (not escaped && (b == 92)) bs)
 
 -- the string with these bytes behind its first quote, and a second quote behind them or none
 abbrev pub string_of : List ℕ → Bool → Lexeme
 string_of bytes closed =
-    if closed then (if nat_lt (escaped_in false bytes) (length bytes) then Fault L1 (suc (escaped_in false bytes)) else Token kind.Text (suc (suc (length bytes))))
+    if closed
+    then (if nat_lt (escaped_in false bytes) (length bytes)
+    then Fault L1 (suc (escaped_in false bytes))
+    else Token kind.Text (suc (suc (length bytes))))
     else Fault L2 0
 
 -- behind a quote
@@ -61,7 +69,10 @@ hash_at (b ∷ bs) = if is_digit b then Token kind.Hash (suc (suc (run is_digit 
 
 -- behind the < of a shape: up to the next > of the line
 abbrev pub shape_at : List ℕ → Lexeme
-shape_at bs = if starts 62 (drop (run is_shape_byte bs) bs) then Token kind.Shape (suc (suc (run is_shape_byte bs))) else Fault L1 0
+shape_at bs =
+    if starts 62 (drop (run is_shape_byte bs) bs)
+    then Token kind.Shape (suc (suc (run is_shape_byte bs)))
+    else Fault L1 0
 
 -- these digits
 abbrev pub integer_of : List ℕ → Lexeme
@@ -78,8 +89,8 @@ sign_at b bs =
     else (if (b == 45) && starts 62 bs then Token kind.Arrow 2
     else (if is_mark b then Token (kind.Mark b) 1 else Fault L1 0))))))
 
--- the longest token first in a text, with its length; or a fault, and how many bytes in front of it belong to a token that
--- is broken there. The truth value tells whether the token before is the word tensor.
+-- the longest token first in a text, with its length; or a fault, and how many bytes in front of it belong to a token
+-- that is broken there. The truth value tells whether the token before is the word tensor.
 abbrev pub token_at : Bool → List ℕ → Lexeme
 token_at after_tensor [] = End
 token_at after_tensor (b ∷ bs) =

@@ -54,7 +54,11 @@ pub record IsFirst (p : Position) (t : Token) : Type 0 where
 
 -- the position behind a token that is the first behind another position
 abbrev pub behind : Position → Token → Position
-behind p t = record { after_tensor = is_tensor t.kind t.bytes; place = place_after t.place t.bytes; rest = drop (length t.bytes) (text_at p.rest) }
+behind p t = record {
+  after_tensor = is_tensor t.kind t.bytes;
+  place = place_after t.place t.bytes;
+  rest = drop (length t.bytes) (text_at p.rest);
+}
 
 -- these are the tokens between two positions
 abbrev pub Tokens : Position → List Token → Position → Type 0
@@ -92,7 +96,8 @@ pub record BreaksAt (bs : List ℕ) (f : Fault) : Type 0 where
 -- bytes that are not UTF-8, and no other fault before them
 pub record IsIllFormed (bs : List ℕ) (f : Fault) : Type 0 where
   pub no_utf8 : ¬ IsUtf8 bs
-  pub first : (before : List Token) (last : Position) (code : Code) (inside : ℕ) → Tokens (start bs) before last → front_of last ≡ front.Fault code inside → utf8_valid_len bs ≤ bytes_before bs last inside
+  pub first : (before : List Token) (last : Position) (code : Code) (inside : ℕ) → Tokens (start bs) before last
+      → front_of last ≡ front.Fault code inside → utf8_valid_len bs ≤ bytes_before bs last inside
   pub fault : f ≡ fault_at L4 (place_after first_place (take (utf8_valid_len bs) bs))
 
 -- the first fault of a text

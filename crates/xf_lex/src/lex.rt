@@ -9,10 +9,10 @@ ghost use Rattle.xf_lex.specs.Lexes.{is_tensor, Lexes, IsRefused};
 
 use crate::byte_class::gap;
 use crate::lexeme::{Lexeme, token_at};
-use crate::token::{Token, TokenKind, TokenList};
+use crate::token::{Token, TokenBytes, TokenKind, TokenList};
 use std::alloc::Global;
 use xf_span::{Code, FIRST_PLACE, Fault, LexFault, place_after};
-use xf_type::{ByteList, ListOf};
+use xf_type::ListOf;
 
 /// How many bytes stand before the first that is not UTF-8, or else in all.
 fn valid_len(bytes: &[u8]) -> usize
@@ -47,7 +47,7 @@ fn ill_formed(bytes: &[u8], valid: usize) -> Fault
 /// The tokens of a text, in order, with their bytes and places. It refuses a text with a fault, and
 /// answers the first: a byte that makes no token, a string without its end, an integer above
 /// 2^64 - 1, or bytes that are not UTF-8. It takes time in the length of the text.
-pub fn tokens(alloc: Global, bytes: &[u8]) -> Result<TokenList, LexFault>
+pub fn tokens(alloc: Global, bytes: &[u8]) -> Result<TokenList<'_>, LexFault>
     ensures found { IfOk result (λ tokens. Lexes bytes.now tokens) }
     ensures fault { IfErr result (λ fault. IsRefused bytes.now fault) }
 {
@@ -68,10 +68,9 @@ pub fn tokens(alloc: Global, bytes: &[u8]) -> Result<TokenList, LexFault>
             _ => return Err(ill_formed(bytes, valid).into()),
         };
         let (word, after) = text.split_at(length);
-        let bytes = ByteList::from_slice(alloc, word)?;
         tokens.push(Token {
             kind,
-            bytes,
+            bytes: TokenBytes::new(word),
             place: at,
         })?;
         after_tensor = is_tensor(kind, word);

@@ -1,6 +1,7 @@
 //! What stands first in a text.
 ghost use Rattle.std.specs.Prelude.{◌≡◌, ◌≤◌, ◌<◌, ◌+◌, length};
-ghost use Rattle.xf_lex.specs.Lexemes.{string_of, string_at, value_at, named_at, hash_at, shape_at, integer_of, sign_at, token_at, IsWithin};
+ghost use Rattle.xf_lex.specs.Lexemes.{string_of, string_at, value_at, named_at, hash_at, shape_at, integer_of};
+ghost use Rattle.xf_lex.specs.Lexemes.{sign_at, token_at, IsWithin};
 
 use crate::byte_class::{Class, is_mark, is_name_start, run, starts};
 use crate::quoted::{escaped, quoted};

@@ -10,4 +10,4 @@ mod token;
 
 pub use law::{layout_is_read, one_answer};
 pub use lex::tokens;
-pub use token::{Token, TokenKind, TokenList};
+pub use token::{Token, TokenBytes, TokenKind, TokenList};

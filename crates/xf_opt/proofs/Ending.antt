@@ -1,7 +1,5 @@
 -- What the ends of calls say of the stages.
-use Rattle.std.proofs.Common.{◌≡◌, ◌<◌, ℕ, List, [], Option, Some, None, Result, Ok, Err, false, inl, inr, refl, sym, subst, arith}
-use Rattle.std.specs.Prelude.{IfErr}
-use Rattle.xf_host.specs.Writes.{GainsPrefix}
+use Rattle.std.proofs.Common.{◌≡◌, ℕ, List, [], Option, false, inl, inr}
 use Rattle.xf_span.specs.declared.code.Code.TheVariants.{N1}
 use Rattle.xf_span.specs.declared.fault.Fault.{Fault}
 use Rattle.xf_span.specs.declared.fault.TextFault.{TextFault}
@@ -12,42 +10,22 @@ use Rattle.xf_ir.specs.declared.op.Module.{Module}
 use Rattle.xf_payload.specs.Payload.{IsPayload, IsRefused}
 use Rattle.xf_opt.specs.Form.{is_first_form}
 use Rattle.xf_opt.specs.Words.{Asked, run}
-use Rattle.xf_opt.specs.Stages.{Stage, End, well, at, anywhere, IsPast, EndsAt, EndsBefore, Judges}
+use Rattle.xf_opt.specs.Stages.{Stage, End, well, at, anywhere, Judges}
 use Rattle.xf_opt.specs.Stages as stage
-use Rattle.xf_opt.specs.Owes.{Finishes, WritesPrefix, WritesAtMost, Writes}
+use Rattle.xf_opt.specs.Owes.{Finishes, WritesPrefix, Writes}
 use Rattle.xf_opt.specs.Refusals.{RefusesBy}
 use Rattle.xf_opt.specs.declared.journal.Entry.{Entry}
 
 -- ---- stages
 
--- a call that ended before a stage
-pub judged_before : (stage : Stage) (end : End) (Holds Cause Untouched : Type 0) → EndsBefore stage end → Untouched → Judges stage end Holds Cause Untouched
-judged_before stage well Holds Cause Untouched e u = absurd e
-judged_before stage (at last) Holds Cause Untouched e u = record { past = λ p. absurd (omega arith); ended = λ p. absurd (omega arith); written = inl u }
-judged_before stage anywhere Holds Cause Untouched e u = absurd e
-
--- at it
-pub judged_at : (stage : Stage) (end : End) (Holds Cause Untouched : Type 0) → EndsAt stage end → Cause → Untouched → Judges stage end Holds Cause Untouched
-judged_at stage well Holds Cause Untouched e c u = absurd e
-judged_at stage (at last) Holds Cause Untouched e c u = record { past = λ p. absurd (omega arith); ended = λ p. c; written = inl u }
-judged_at stage anywhere Holds Cause Untouched e c u = absurd e
-
--- past it
-pub judged_past : (stage : Stage) (end : End) (Holds Cause Untouched : Type 0) → IsPast stage end → Holds → Judges stage end Holds Cause Untouched
-judged_past stage well Holds Cause Untouched e h = record { past = λ p. h; ended = λ p. absurd p; written = inr h }
-judged_past stage (at last) Holds Cause Untouched e h = record { past = λ p. h; ended = λ p. absurd (omega arith); written = inr h }
-judged_past stage anywhere Holds Cause Untouched e h = absurd e
-
 -- for want of memory, before anything was written
-pub judged_nowhere : (stage : Stage) (Holds Cause Untouched : Type 0) → Untouched → Judges stage anywhere Holds Cause Untouched
+pub judged_nowhere : (stage : Stage) (Holds Cause Untouched : Type 0) → Untouched
+    → Judges stage anywhere Holds Cause Untouched
 judged_nowhere stage Holds Cause Untouched u = record { past = λ p. absurd p; ended = λ p. absurd p; written = inl u }
 
--- or where the condition held
-pub judged_late : (stage : Stage) (Holds Cause Untouched : Type 0) → Holds → Judges stage anywhere Holds Cause Untouched
-judged_late stage Holds Cause Untouched h = record { past = λ p. absurd p; ended = λ p. absurd p; written = inr h }
-
 -- the same, said in other words
-pub judged_alike : (stage : Stage) (end : End) (Holds Holds' Cause Cause' Untouched : Type 0) → (Holds → Holds') → (Cause → Cause') → Judges stage end Holds Cause Untouched → Judges stage end Holds' Cause' Untouched
+pub judged_alike : (stage : Stage) (end : End) (Holds Holds' Cause Cause' Untouched : Type 0) → (Holds → Holds')
+    → (Cause → Cause') → Judges stage end Holds Cause Untouched → Judges stage end Holds' Cause' Untouched
 judged_alike stage end Holds Holds' Cause Cause' Untouched f g j = record {
   past = λ p. f (j.past p);
   ended = λ p. g (j.ended p);
@@ -57,16 +35,20 @@ judged_alike stage end Holds Holds' Cause Cause' Untouched f g j = record {
 -- ---- what was written
 
 -- all of the text
-pub wrote_all : (asked : Asked) (file : List ℕ) (journal : List Entry) (old new : Option (List ℕ)) → Finishes asked file journal old new → Writes well journal old new asked file
+pub wrote_all : (asked : Asked) (file : List ℕ) (journal : List Entry) (old new : Option (List ℕ))
+    → Finishes asked file journal old new → Writes well journal old new asked file
 wrote_all asked file journal old new w = record { done = λ p. w; cut = λ p. absurd p; memory = λ p. absurd p }
 
 -- a prefix, before a write failed
-pub wrote_prefix : (asked : Asked) (file : List ℕ) (journal : List Entry) (old new : Option (List ℕ)) → WritesPrefix asked file journal old new → Writes (at stage.write) journal old new asked file
+pub wrote_prefix : (asked : Asked) (file : List ℕ) (journal : List Entry) (old new : Option (List ℕ))
+    → WritesPrefix asked file journal old new → Writes (at stage.write) journal old new asked file
 wrote_prefix asked file journal old new w = record { done = λ p. absurd p; cut = λ p. w; memory = λ p. absurd p }
 
 -- at most a prefix, before memory was refused
-pub wrote_some : (asked : Asked) (file : List ℕ) (journal : List Entry) (old new : Option (List ℕ)) → WritesPrefix asked file journal old new → Writes anywhere journal old new asked file
-wrote_some asked file journal old new w = record { done = λ p. absurd p; cut = λ p. absurd p; memory = λ p. inr (journal, w) }
+pub wrote_some : (asked : Asked) (file : List ℕ) (journal : List Entry) (old new : Option (List ℕ))
+    → WritesPrefix asked file journal old new → Writes anywhere journal old new asked file
+wrote_some asked file journal old new w =
+    record { done = λ p. absurd p; cut = λ p. absurd p; memory = λ p. inr (journal, w) }
 
 -- ---- payloads that are refused
 
@@ -76,5 +58,6 @@ refused_alike file (text_fault.At f) e = inl e
 refused_alike file text_fault.NoMemory e = tt
 
 -- and a payload that is not of its form
-pub outside_refused : (file : List ℕ) (m : Module) (f : Fault) → f ≡ fault_at N1 first_place → IsPayload file m → is_first_form m ≡ false → RefusesBy (run [] []) file (text_fault.At f)
+pub outside_refused : (file : List ℕ) (m : Module) (f : Fault) → f ≡ fault_at N1 first_place → IsPayload file m
+    → is_first_form m ≡ false → RefusesBy (run [] []) file (text_fault.At f)
 outside_refused file m f e h n = inr (record { payload = m; holds = h; form = n; is = e })

@@ -13,7 +13,8 @@ use Rattle.xf_ir.specs.declared.op.Module.{Module}
 use Rattle.xf_ir.specs.Calls.{Signatures, signatures}
 use Rattle.xf_ir.specs.Kinds.{returned_types}
 use Rattle.xf_ir.specs.Lists.{Each, every, is_empty}
-use Rattle.xf_ir.specs.Placed.{Typed, type_at, Holder, holder_of, Placed, place, ops_placed, regions_placed, functions_placed, blocks_placed, placed, top, root_holder}
+use Rattle.xf_ir.specs.Placed.{Typed, type_at, Holder, holder_of, Placed, place, ops_placed, regions_placed}
+use Rattle.xf_ir.specs.Placed.{functions_placed, blocks_placed, placed, top, root_holder}
 use Rattle.xf_ir.specs.Places.{inside, done}
 use Rattle.xf_ir.specs.RuleBlocks.{block_args}
 use Rattle.xf_ir.specs.RuleTypes.{takes_gives, has_its_types}
@@ -24,7 +25,8 @@ use Rattle.xf_ir.proofs.Lists.{each_both, each_map}
 use Rattle.xf_print_laws.specs.Stored.{AllBytes}
 use Rattle.xf_print_laws.specs.Core.{is_core, all_scalar, is_core_op, IsCore}
 use Rattle.xf_print_laws.specs.Stored.{IsStored}
-use Rattle.xf_opt.specs.Form.{is_i32, is_i32_at_most, is_one_i32, is_step_kind, has_no_regions, is_step, are_steps, IsFirstForm}
+use Rattle.xf_opt.specs.Form.{is_i32, is_i32_at_most, is_one_i32, is_step_kind, has_no_regions, is_step, are_steps}
+use Rattle.xf_opt.specs.Form.{IsFirstForm}
 use Rattle.xf_opt.proofs.FormParts.{empty, no_more, OneRegion, are_laid_out, parts}
 
 -- ---- scalars
@@ -66,7 +68,8 @@ record StepParts (k : Kind) (ds : List Attr) (ts : List PayloadType) (rs : Regio
   scalars : all_scalar ts ≡ true
   leaf : rs ≡ no_regions
 
-step_parts : (k : Kind) (ds : List Attr) (ts : List PayloadType) (rs : Regions) → is_step k ds ts rs ≡ true → StepParts k ds ts rs
+step_parts : (k : Kind) (ds : List Attr) (ts : List PayloadType) (rs : Regions) → is_step k ds ts rs ≡ true
+    → StepParts k ds ts rs
 step_parts k ds ts rs e =
     let p = and_parts (is_step_kind k) (is_empty ds && (is_i32_at_most ts && has_no_regions rs)) e in
     let q = and_parts (is_empty ds) (is_i32_at_most ts && has_no_regions rs) p.1 in
@@ -79,10 +82,13 @@ record IsSimple (p : Placed) : Type 0 where
   core : is_core_op p.tree ≡ true
   bytes : AllBytes p
 
-step_simple : (h : Holder) (env : Typed) (n : OpName) (k : Kind) (os : List ValueName) (ts : List PayloadType) (after : Ops) → IsCoreKind k → all_scalar ts ≡ true
-    → IsSimple (place h env (record { name = n; kind = k; attrs = []; operands = os; results = ts; regions = no_regions }) after)
+step_simple : (h : Holder) (env : Typed) (n : OpName) (k : Kind) (os : List ValueName) (ts : List PayloadType)
+    (after : Ops) → IsCoreKind k → all_scalar ts ≡ true
+    → IsSimple (place h env
+    (record { name = n; kind = k; attrs = []; operands = os; results = ts; regions = no_regions }) after)
 step_simple h env n k os ts after c f = record {
-  core = and_from (is_core k) _ c.core (and_from (all_scalar ts) _ f (and_from (all_scalar (returned_types k)) true (rw c.returns refl) refl));
+  core = and_from (is_core k) _ c.core
+      (and_from (all_scalar ts) _ f (and_from (all_scalar (returned_types k)) true (rw c.returns refl) refl));
   bytes = tt;
 }
 
@@ -91,7 +97,10 @@ steps_simple h env no_ops e = tt
 steps_simple h env (op n k ds os ts rs rest) e =
     let p = and_parts (is_step k ds ts rs) (are_steps rest) e in
     let s = step_parts k ds ts rs p.0 in
-    rw (s.bare, s.leaf) (step_simple h env n k os ts rest s.kind_is s.scalars, steps_simple h ((done n (length ts), ts) ∷ env) rest p.1)
+    rw (s.bare, s.leaf) (
+      step_simple h env n k os ts rest s.kind_is s.scalars,
+      steps_simple h ((done n (length ts), ts) ∷ env) rest p.1,
+    )
 
 -- each has its types
 abbrev AreTyped : Signatures → List Placed → Type 0
@@ -102,35 +111,54 @@ nothing_given : (os : List (Option PayloadType)) (ts : List PayloadType) → tak
 nothing_given os [] e = refl
 nothing_given os (t ∷ ts) e = let p = (and_parts (have_types os []) (same_types (t ∷ ts) []) e).1 in absurd cc
 
-module_simple : (h : Holder) (env : Typed) (t : Tree) (after : Ops) → t.kind ≡ kind.Module None → t.attrs ≡ [] → t.results ≡ [] → every all_scalar (block_args t.regions) ≡ true → IsSimple (place h env t after)
+module_simple : (h : Holder) (env : Typed) (t : Tree) (after : Ops) → t.kind ≡ kind.Module None → t.attrs ≡ []
+    → t.results ≡ [] → every all_scalar (block_args t.regions) ≡ true → IsSimple (place h env t after)
 module_simple h env t after k a r s = record { core = rw (k, r) s; bytes = rw a tt }
 
-function_simple : (h : Holder) (n : OpName) (symbol : List ℕ) (results : List PayloadType) (os : List ValueName) (args : List PayloadType) (ops after : Ops) → is_one_i32 results ≡ true → every is_i32 args ≡ true
-    → IsSimple (place h [] (record { name = n; kind = kind.Func symbol false results; attrs = []; operands = os; results = []; regions = region args ops no_regions }) after)
+function_simple : (h : Holder) (n : OpName) (symbol : List ℕ) (results : List PayloadType) (os : List ValueName)
+    (args : List PayloadType) (ops after : Ops) → is_one_i32 results ≡ true → every is_i32 args ≡ true
+    → IsSimple (place h [] (record {
+      name = n;
+      kind = kind.Func symbol false results;
+      attrs = [];
+      operands = os;
+      results = [];
+      regions = region args ops no_regions;
+    }) after)
 function_simple h n symbol results os args ops after r a = record {
-  core = and_from (all_scalar results) _ (one_scalar results r) (and_from (all_scalar args) true (all_scalars args a) refl);
+  core = and_from (all_scalar results) _ (one_scalar results r)
+      (and_from (all_scalar args) true (all_scalars args a) refl);
   bytes = tt;
 }
 
-function_placed : (h : Holder) (n : OpName) (symbol : List ℕ) (results : List PayloadType) (os : List ValueName) (args : List PayloadType) (ops : Ops) → is_one_i32 results ≡ true → every is_i32 args ≡ true → are_steps ops ≡ true
-    → Each IsSimple (functions_placed h (op n (kind.Func symbol false results) [] os [] (region args ops no_regions) no_ops))
+function_placed : (h : Holder) (n : OpName) (symbol : List ℕ) (results : List PayloadType) (os : List ValueName)
+    (args : List PayloadType) (ops : Ops) → is_one_i32 results ≡ true → every is_i32 args ≡ true → are_steps ops ≡ true
+    → Each IsSimple
+    (functions_placed h (op n (kind.Func symbol false results) [] os [] (region args ops no_regions) no_ops))
 function_placed h n symbol results os args ops r a s =
     let k = holder_of (kind.Func symbol false results) (map (type_at []) os) [] in
     let env : Typed = (inside n 0 (length args), args) ∷ [] in (
       function_simple h n symbol results os args ops no_ops r a,
-      each_both IsSimple (ops_placed k env ops ++ []) [] (each_both IsSimple (ops_placed k env ops) [] (steps_simple k env ops s) tt) tt,
+      each_both IsSimple (ops_placed k env ops
+          ++ []) [] (each_both IsSimple (ops_placed k env ops) [] (steps_simple k env ops s) tt) tt,
     )
 
-blocks_placed_simply : (sigs : Signatures) (h : Holder) (n : OpName) (symbol : List ℕ) (results : List PayloadType) (os : List ValueName) (ts args : List PayloadType) (ops : Ops)
-    → AreTyped sigs (blocks_placed h (region [] (op n (kind.Func symbol false results) [] os ts (region args ops no_regions) no_ops) no_regions))
+blocks_placed_simply : (sigs : Signatures) (h : Holder) (n : OpName) (symbol : List ℕ) (results : List PayloadType)
+    (os : List ValueName) (ts args : List PayloadType) (ops : Ops)
+    → AreTyped sigs (blocks_placed h
+    (region [] (op n (kind.Func symbol false results) [] os ts (region args ops no_regions) no_ops) no_regions))
     → is_one_i32 results ≡ true → every is_i32 args ≡ true → are_steps ops ≡ true
-    → Each IsSimple (blocks_placed h (region [] (op n (kind.Func symbol false results) [] os ts (region args ops no_regions) no_ops) no_regions))
+    → Each IsSimple (blocks_placed h
+    (region [] (op n (kind.Func symbol false results) [] os ts (region args ops no_regions) no_ops) no_regions))
 blocks_placed_simply sigs h n symbol results os ts args ops typed r a s =
     let none = nothing_given (map (type_at []) os) ts typed.0 in
-    let f : List PayloadType → Ops = λ us. op n (kind.Func symbol false results) [] os us (region args ops no_regions) no_ops in
-    rw none (each_both IsSimple (functions_placed h (f [])) [] (function_placed h n symbol results os args ops r a s) tt)
+    let f : List PayloadType → Ops =
+    λ us. op n (kind.Func symbol false results) [] os us (region args ops no_regions) no_ops in
+    rw none (each_both IsSimple (functions_placed h (f [])) []
+    (function_placed h n symbol results os args ops r a s) tt)
 
-blocks_simple : (sigs : Signatures) (h : Holder) (rs : Regions) → OneRegion rs → AreTyped sigs (blocks_placed h rs) → Each IsSimple (blocks_placed h rs)
+blocks_simple : (sigs : Signatures) (h : Holder) (rs : Regions) → OneRegion rs → AreTyped sigs (blocks_placed h rs)
+    → Each IsSimple (blocks_placed h rs)
 blocks_simple sigs h rs o typed =
     let f = o.function in
     let e = are_laid_out rs o in
@@ -145,11 +173,15 @@ all_simple : (m : Module) → IsFirstForm m → Each IsSimple (placed m)
 all_simple m f =
     let p = parts m f.shape in
     let typed : AreTyped (signatures m) (placed m) = f.valid.types in
-    let given = nothing_given (map (type_at []) m.root.operands) m.root.results (rw p.symbol at typed.0) in
-    (module_simple top [] m.root no_ops p.symbol p.attributes given (plain_block m.root.regions p.region), blocks_simple (signatures m) (root_holder m.root) m.root.regions p.region typed.1)
+    let given = nothing_given (map (type_at []) m.root.operands) m.root.results (rw p.symbol at typed.0) in (
+      module_simple top [] m.root no_ops p.symbol p.attributes given (plain_block m.root.regions p.region),
+      blocks_simple (signatures m) (root_holder m.root) m.root.regions p.region typed.1,
+    )
 
 pub form_is_core : (m : Module) → IsFirstForm m → IsCore m
-form_is_core m f = each_map IsSimple (λ (p : Placed). is_core_op p.tree ≡ true) (placed m) (λ p s. s.core) (all_simple m f)
+form_is_core m f =
+    each_map IsSimple (λ (p : Placed). is_core_op p.tree ≡ true) (placed m) (λ p s. s.core) (all_simple m f)
 
 pub form_is_stored : (m : Module) → IsFirstForm m → IsStored m
-form_is_stored m f = record { lists = f.lists; bytes = each_map IsSimple AllBytes (placed m) (λ p s. s.bytes) (all_simple m f) }
+form_is_stored m f =
+    record { lists = f.lists; bytes = each_map IsSimple AllBytes (placed m) (λ p s. s.bytes) (all_simple m f) }

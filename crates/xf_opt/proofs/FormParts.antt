@@ -12,7 +12,9 @@ use Rattle.xf_ir.specs.declared.op.Module.{Module}
 use Rattle.xf_ir.specs.Lists.{every, is_empty}
 use Rattle.xf_ir.specs.RuleBlocks.{is_end}
 use Rattle.xf_ir.specs.Tree.{Ops, no_ops, op, Regions, no_regions, region}
-use Rattle.xf_opt.specs.Form.{is_i32, is_one_i32, are_steps, is_plain_block, has_no_regions, is_one_block, is_plain_head, is_plain_function, is_one_function, is_plain_module, holds_one_function, is_first_form}
+use Rattle.xf_opt.specs.Form.{is_i32, is_one_i32, are_steps, is_plain_block, has_no_regions, is_one_block}
+use Rattle.xf_opt.specs.Form.{is_plain_head, is_plain_function, is_one_function, is_plain_module, holds_one_function}
+use Rattle.xf_opt.specs.Form.{is_first_form}
 
 -- ---- empty lists
 
@@ -66,7 +68,8 @@ pub record OneFunction (ops : Ops) : Type 0 where
   pub heads : OneHead head
   pub block : OneBlock regions
 
-one : (n : OpName) (k : Kind) (ds : List Attr) (os : List ValueName) (ts : List PayloadType) (rs : Regions) (rest : Ops) → ds ≡ [] → rest ≡ no_ops → op n k ds os ts rs rest ≡ op n k [] os ts rs no_ops
+one : (n : OpName) (k : Kind) (ds : List Attr) (os : List ValueName) (ts : List PayloadType) (rs : Regions) (rest : Ops)
+    → ds ≡ [] → rest ≡ no_ops → op n k ds os ts rs rest ≡ op n k [] os ts rs no_ops
 one n k ds os ts rs rest p q = cc
 
 pub function_parts : (ops : Ops) → is_one_function ops ≡ true → OneFunction ops
@@ -75,7 +78,17 @@ function_parts (op n k ds os ts rs rest) e =
     let p = and_parts (is_plain_function k ds rs) (is_end rest) e in
     let q = and_parts (is_plain_head k) (is_empty ds && is_one_block rs) p.0 in
     let r = and_parts (is_empty ds) (is_one_block rs) q.1 in
-    record { name = n; head = k; operands = os; gives = ts; regions = rs; is = one n k ds os ts rs rest (empty ds r.0) (the_end rest p.1); heads = head_parts k q.0; block = block_parts rs r.1 }
+    record {
+      name = n;
+      head = k;
+      operands = os;
+      gives = ts;
+      regions = rs;
+      is = one n k ds os ts rs rest (empty ds r.0)
+          (the_end rest p.1);
+      heads = head_parts k q.0;
+      block = block_parts rs r.1;
+    }
 
 -- ---- the module
 
@@ -84,7 +97,8 @@ pub record OneRegion (rs : Regions) : Type 0 where
   pub is : rs ≡ region [] ops no_regions
   pub function : OneFunction ops
 
-whole : (args : List PayloadType) (ops : Ops) (rest : Regions) → args ≡ [] → rest ≡ no_regions → region args ops rest ≡ region [] ops no_regions
+whole : (args : List PayloadType) (ops : Ops) (rest : Regions) → args ≡ [] → rest ≡ no_regions
+    → region args ops rest ≡ region [] ops no_regions
 whole args ops rest p q = cc
 
 pub region_parts : (rs : Regions) → holds_one_function rs ≡ true → OneRegion rs
@@ -92,7 +106,11 @@ region_parts no_regions e = absurd cc
 region_parts (region args ops rest) e =
     let p = and_parts (is_empty args && is_one_function ops) (has_no_regions rest) e in
     let q = and_parts (is_empty args) (is_one_function ops) p.0 in
-    record { ops = ops; is = whole args ops rest (empty args q.0) (no_more rest p.1); function = function_parts ops q.1 }
+    record {
+      ops = ops;
+      is = whole args ops rest (empty args q.0) (no_more rest p.1);
+      function = function_parts ops q.1;
+    }
 
 pub plain_parts : (k : Kind) → is_plain_module k ≡ true → k ≡ kind.Module None
 plain_parts (kind.Module None) e = refl
@@ -108,12 +126,18 @@ pub parts : (m : Module) → is_first_form m ≡ true → Parts m
 parts m e =
     let p = and_parts (is_plain_module m.root.kind) (is_empty m.root.attrs && holds_one_function m.root.regions) e in
     let q = and_parts (is_empty m.root.attrs) (holds_one_function m.root.regions) p.1 in
-    record { symbol = plain_parts m.root.kind p.0; attributes = empty m.root.attrs q.0; region = region_parts m.root.regions q.1 }
+    record {
+      symbol = plain_parts m.root.kind p.0;
+      attributes = empty m.root.attrs q.0;
+      region = region_parts m.root.regions q.1;
+    }
 
 -- the regions of such a module, laid out
 abbrev pub laid_out : (rs : Regions) → OneRegion rs → Regions
 laid_out rs o =
-    region [] (op o.function.name (kind.Func o.function.heads.symbol false o.function.heads.results) [] o.function.operands o.function.gives (region o.function.block.args o.function.block.ops no_regions) no_ops) no_regions
+    region [] (op o.function.name
+    (kind.Func o.function.heads.symbol false o.function.heads.results) [] o.function.operands o.function.gives
+    (region o.function.block.args o.function.block.ops no_regions) no_ops) no_regions
 
 pub are_laid_out : (rs : Regions) (o : OneRegion rs) → rs ≡ laid_out rs o
 are_laid_out rs o =

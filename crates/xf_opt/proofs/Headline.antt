@@ -25,11 +25,14 @@ abbrev pub IsFew : Module → List Entry → Type 0
 IsFew m journal = length journal ≤ weight_at m (record { 0 = 0 }) + 1
 
 -- what the run reaches
-pub reached : (payload : List ℕ) (journal : List Entry) (m after : Module) → IsRunnable payload m → Runs m journal after → IsFew m journal → KeepsMeaning m after → IsValid after → Reaches payload journal after
-reached payload journal m after s r n k v = record { before = m; holds = s; runs = r; few = n; keeps = k; valid_after = v }
+pub reached : (payload : List ℕ) (journal : List Entry) (m after : Module) → IsRunnable payload m → Runs m journal after
+    → IsFew m journal → KeepsMeaning m after → IsValid after → Reaches payload journal after
+reached payload journal m after s r n k v =
+    record { before = m; holds = s; runs = r; few = n; keeps = k; valid_after = v }
 
 -- the headline, from its parts
-headline_is : (payload : List ℕ) (journal : List Entry) (m after : Module) → IsRunnable payload m → Runs m journal after → IsFew m journal → KeepsMeaning m after → IsFirstForm after → Headline payload journal (printed_form after)
+headline_is : (payload : List ℕ) (journal : List Entry) (m after : Module) → IsRunnable payload m → Runs m journal after
+    → IsFew m journal → KeepsMeaning m after → IsFirstForm after → Headline payload journal (printed_form after)
 unfolding reached
 headline_is payload journal m after s r n k g =
     let again = printed_is_valid_again after g.valid (form_is_core after g) (form_is_stored after g) g.limits in
@@ -44,11 +47,17 @@ headline_is payload journal m after s r n k g =
       same = keeping_composes m after again.0 k (renaming_keeps after again.0 g.valid again.1.1.0);
     }
 
-pub whole_is : (payload script path : List ℕ) (journal : List Entry) (m after : Module) (old new : Option (List ℕ)) → IsRunnable payload m → Runs m journal after → IsFew m journal → KeepsMeaning m after → IsFirstForm after → Gains old (printed_form after) new → Finishes (run script path) payload journal old new
-whole_is payload script path journal m after old new s r n k g w = (printed_form after, (headline_is payload journal m after s r n k g, w))
+pub whole_is : (payload script path : List ℕ) (journal : List Entry) (m after : Module) (old new : Option (List ℕ))
+    → IsRunnable payload m → Runs m journal after → IsFew m journal → KeepsMeaning m after → IsFirstForm after
+    → Gains old (printed_form after) new → Finishes (run script path) payload journal old new
+whole_is payload script path journal m after old new s r n k g w =
+    (printed_form after, (headline_is payload journal m after s r n k g, w))
 
-pub prefix_is : (payload script path : List ℕ) (journal : List Entry) (m after : Module) (old new : Option (List ℕ)) → IsRunnable payload m → Runs m journal after → IsFew m journal → KeepsMeaning m after → IsFirstForm after → GainsPrefix old (printed_form after) new → WritesPrefix (run script path) payload journal old new
-prefix_is payload script path journal m after old new s r n k g w = (printed_form after, (headline_is payload journal m after s r n k g, w))
+pub prefix_is : (payload script path : List ℕ) (journal : List Entry) (m after : Module) (old new : Option (List ℕ))
+    → IsRunnable payload m → Runs m journal after → IsFew m journal → KeepsMeaning m after → IsFirstForm after
+    → GainsPrefix old (printed_form after) new → WritesPrefix (run script path) payload journal old new
+prefix_is payload script path journal m after old new s r n k g w =
+    (printed_form after, (headline_is payload journal m after s r n k g, w))
 
 -- what a run accepts is of its form
 pub of_form : (file : List ℕ) (m : Module) → IsRunnable file m → IsFirstForm m

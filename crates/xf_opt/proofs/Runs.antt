@@ -1,5 +1,6 @@
 -- One turn of the run, and its end.
-use Rattle.std.proofs.Common.{◌≡◌, ◌+◌, ◌<◌, ◌≤◌, List, [], ◌∷◌, ◌++◌, length, refl, ap, ◌∙◌, arith, append_assoc, length-append}
+use Rattle.std.proofs.Common.{◌≡◌, ◌+◌, ◌<◌, ◌≤◌, List, [], ◌∷◌, ◌++◌, length, refl, ap, ◌∙◌, arith, append_assoc}
+use Rattle.std.proofs.Common.{length-append}
 use Rattle.xf_ir.specs.declared.name.OpName.{OpName}
 use Rattle.xf_ir.specs.declared.edit.Edit.TheVariants.{Erase}
 use Rattle.xf_ir.specs.declared.op.Module.{Module}
@@ -23,7 +24,8 @@ root = record { 0 = 0 }
 pub record Going (first now : Module) (so_far : List Entry) : Type 0 where
   pub form : IsFirstForm now
   pub few : length so_far + weight_at now root ≤ weight_at first root
-  pub goes : (more : List Entry) (after : Module) (rest : List Entry) → ScopeRuns dead_code root now more after rest → ScopeRuns dead_code root first (so_far ++ more) after rest
+  pub goes : (more : List Entry) (after : Module) (rest : List Entry) → ScopeRuns dead_code root now more after rest
+      → ScopeRuns dead_code root first (so_far ++ more) after rest
   pub keeps : KeepsMeaning first now
 
 -- before the first choice
@@ -36,22 +38,32 @@ begins first so_far f e = record {
 }
 
 -- a choice lowers the number of operations
-pub smaller : (now after : Module) (name : OpName) → IsFirstForm now → MayErase now root name → after ≡ edited now (Erase name) → tree_count after.root < tree_count now.root
+pub smaller : (now after : Module) (name : OpName) → IsFirstForm now → MayErase now root name
+    → after ≡ edited now (Erase name) → tree_count after.root < tree_count now.root
 smaller now after name f e p = rw p (lowers_count now root name f.valid e)
 
 -- a choice, and its entry
-pub turn : (first now after : Module) (so_far entries : List Entry) (name : OpName) → Going first now so_far → MayErase now root name → after ≡ edited now (Erase name) → entries ≡ so_far ++ Choose (numbered unused) name ∷ [] → Going first after entries
+pub turn : (first now after : Module) (so_far entries : List Entry) (name : OpName) → Going first now so_far
+    → MayErase now root name → after ≡ edited now (Erase name) → entries ≡ so_far ++ Choose (numbered unused) name ∷ []
+    → Going first after entries
 turn first now after so_far entries name g e p q =
     let f = g.form in
     record {
       form = rw p (form_kept now root name f e);
-      few = let l : length entries ≡ length so_far + 1 = ap length q ∙ length-append so_far (Choose (numbered unused) name ∷ []) in
+      few = let l : length entries ≡ length so_far + 1 = ap length q
+          ∙ length-append so_far (Choose (numbered unused) name ∷ []) in
           let w : weight_at after root + 1 ≤ weight_at now root = rw p (lowers_weight now root name f.valid e) in
           let h = g.few in omega arith;
-      goes = λ more end rest runs. rw (q, append_assoc) (g.goes (Choose (numbered unused) name ∷ more) end rest (unused, refl, e, rw p at runs));
-      keeps = rw p (keeping_composes first now (edited now (Erase name)) g.keeps (erasing_keeps now root name f.valid e));
+      goes = λ more end rest runs. rw (
+        q,
+        append_assoc,
+      ) (g.goes (Choose (numbered unused) name ∷ more) end rest (unused, refl, e, rw p at runs));
+      keeps =
+          rw p (keeping_composes first now (edited now (Erase name)) g.keeps (erasing_keeps now root name f.valid e));
     }
 
 -- the end of the scope
-pub ended : (first now : Module) (so_far entries : List Entry) → first.root.name ≡ root → Going first now so_far → IsNormal dead_code now root → entries ≡ so_far ++ EndScope ∷ [] → Runs first entries now
-ended first now so_far entries r g n q = (r, (now, [], rw q (g.goes (EndScope ∷ []) now [] (n, (refl, refl))), (refl, refl)))
+pub ended : (first now : Module) (so_far entries : List Entry) → first.root.name ≡ root → Going first now so_far
+    → IsNormal dead_code now root → entries ≡ so_far ++ EndScope ∷ [] → Runs first entries now
+ended first now so_far entries r g n q =
+    (r, (now, [], rw q (g.goes (EndScope ∷ []) now [] (n, (refl, refl))), (refl, refl)))

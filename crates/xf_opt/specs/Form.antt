@@ -101,7 +101,8 @@ is_plain_module _ = false
 abbrev pub is_first_form : Module → Bool
 is_first_form m = is_plain_module m.root.kind && (is_empty m.root.attrs && holds_one_function m.root.regions)
 
--- a valid module of this form, with what each module has that a text spells: lists that are short, and no more than the limits
+-- a valid module of this form, with what each module has that a text spells: lists that are short, and no more than the
+-- limits
 pub record IsFirstForm (m : Module) : Type 0 where
   pub valid : IsValid m
   pub shape : is_first_form m ≡ true

@@ -18,8 +18,8 @@ use Rattle.xf_opt.specs.Words.{Asked, run, verify, print}
 
 -- ---- the headline
 
--- the payload's module, and the module that the run leaves: it keeps the meaning, and the choices are at most as many as
--- the weight of what the payload's module holds
+-- the payload's module, and the module that the run leaves: it keeps the meaning, and the choices are at most as many
+-- as the weight of what the payload's module holds
 pub record Reaches (file : List ℕ) (journal : List Entry) (after : Module) : Type 0 where
   pub before : Module
   pub holds : IsRunnable file before
@@ -29,8 +29,8 @@ pub record Reaches (file : List ℕ) (journal : List Entry) (after : Module) : T
   pub valid_after : IsValid after
 
 -- a text is the printed form of a module that the run of the script reaches from the payload with the journal, and this
--- module keeps the payload's meaning; read again the text gives it up to the names of operations, and what is read keeps
--- the payload's meaning too
+-- module keeps the payload's meaning; read again the text gives it up to the names of operations, and what is read
+-- keeps the payload's meaning too
 pub record Headline (file : List ℕ) (journal : List Entry) (text : List ℕ) : Type 0 where
   pub after : Module
   pub reaches : Reaches file journal after

@@ -2,7 +2,9 @@
 ghost use Rattle.std.specs.Prelude.{◌≡◌, ◌&&◌, not};
 ghost use Rattle.xf_ir.specs.Lists.{every};
 ghost use Rattle.xf_ir.specs.View.{ops_of, regions_of};
-ghost use Rattle.xf_opt.specs.Form.{is_i32_width, is_i32, is_i32_at_most, is_one_i32, is_addition, is_step_kind, is_step, are_steps, is_plain_block, is_one_block, is_plain_head, is_plain_function, is_one_function, holds_one_function, is_plain_module, is_first_form};
+ghost use Rattle.xf_opt.specs.Form.{is_i32_width, is_i32, is_i32_at_most, is_one_i32, is_addition, is_step_kind};
+ghost use Rattle.xf_opt.specs.Form.{is_step, are_steps, is_plain_block, is_one_block, is_plain_head, is_plain_function};
+ghost use Rattle.xf_opt.specs.Form.{is_one_function, holds_one_function, is_plain_module, is_first_form};
 
 use xf_ir::{Block, Kind, Module, Op};
 use xf_type::{BinKind, PayloadType, Width};

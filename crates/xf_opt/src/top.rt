@@ -1,5 +1,6 @@
 //! The top call.
-ghost use Rattle.std.specs.Prelude.{◌≡◌, ◌≢◌, ◌≤◌, ◌↔◌, ◌+◌, ℕ, List, [], Some, None, IsNone, IfOk, IfErr, IfSome, IsErrOf, take};
+ghost use Rattle.std.specs.Prelude.{◌≡◌, ◌≢◌, ◌≤◌, ◌↔◌, ◌+◌, ℕ, List, [], Some, None, IsNone, IfOk, IfErr, IfSome};
+ghost use Rattle.std.specs.Prelude.{IsErrOf, take};
 ghost use Rattle.xf_host.specs.Count.{HasRisen};
 ghost use Rattle.xf_span.specs.Line.{HasLine};
 ghost use Rattle.xf_span.specs.Limit.{file_limit};

@@ -1,7 +1,8 @@
 //! What the words of a call ask for.
 ghost use Rattle.std.specs.Prelude.{◌≡◌};
 ghost use Rattle.std.specs.Option.{option_map};
-ghost use Rattle.xf_opt.specs.Words.{texts, is_path, are_run, payload_command, payload_words, run_words, command_of, script_of, payload_of};
+ghost use Rattle.xf_opt.specs.Words.{texts, is_path, are_run, payload_command, payload_words, run_words, command_of};
+ghost use Rattle.xf_opt.specs.Words.{script_of, payload_of};
 ghost use Rattle.xf_opt.specs.Refusals.{asked_by, path_or_none};
 
 /// A command, with the paths that it names.

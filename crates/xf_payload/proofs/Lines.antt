@@ -1,5 +1,6 @@
 -- The fault of a file that holds no payload has what its line tells.
-use Rattle.std.proofs.Common.{◌≡◌, ℕ, suc, List, [], ◌∷◌, take, drop, Option, Some, None, Bool, true, false, ◌==◌, ◌&&◌, if◌then◌else◌, inl, inr, refl, sym, subst}
+use Rattle.std.proofs.Common.{◌≡◌, ℕ, suc, List, [], ◌∷◌, take, drop, Option, Some, None, Bool, true, false, ◌==◌, ◌&&◌}
+use Rattle.std.proofs.Common.{if◌then◌else◌, inl, inr, refl, sym, subst}
 use Rattle.xf_span.specs.declared.place.Place.{Place}
 use Rattle.xf_span.specs.declared.code.Code.{Code}
 use Rattle.xf_span.specs.declared.code.Code.TheVariants.{L1, L2, L3, A2, A3, A4}
@@ -15,7 +16,8 @@ use Rattle.xf_lex.specs.declared.lexeme.Lexeme.{Lexeme}
 use Rattle.xf_lex.specs.declared.lexeme.Lexeme.TheVariants as front
 use Rattle.xf_type.specs.Bytes.{is_digit, is_letter, is_word_byte}
 use Rattle.xf_lex.specs.Bytes.{is_name_start, is_name_byte, is_mark, run, starts}
-use Rattle.xf_lex.specs.Lexemes.{quoted_in, string_of, string_at, value_at, named_at, hash_at, shape_at, integer_of, sign_at, token_at}
+use Rattle.xf_lex.specs.Lexemes.{quoted_in, string_of, string_at, value_at, named_at, hash_at, shape_at, integer_of}
+use Rattle.xf_lex.specs.Lexemes.{sign_at, token_at}
 use Rattle.xf_lex.specs.Lexes.{HasFault, text_at}
 use Rattle.xf_read_base.specs.declared.verdict.Verdict.{Verdict}
 use Rattle.xf_read_base.specs.declared.verdict.Verdict.TheVariants.{Syntax, OutOfProfile, NotBuilt, TooMany, TooDeep}
@@ -40,7 +42,8 @@ end : IsPlaced front.End
 end = record { line = λ code inside p e. absurd (cc) }
 
 fault : (c : Code) (n : ℕ) → ((p : Place) → HasLine (fault_at c p)) → IsPlaced (front.Fault c n)
-fault c n l = record { line = λ code inside p e. let same : c ≡ code = cc in subst (λ d. HasLine (fault_at d p)) same (l p) }
+fault c n l =
+    record { line = λ code inside p e. let same : c ≡ code = cc in subst (λ d. HasLine (fault_at d p)) same (l p) }
 
 bad_byte : (n : ℕ) → IsPlaced (front.Fault L1 n)
 bad_byte n = fault L1 n (λ p. refl)
@@ -55,8 +58,10 @@ string_placed bytes closed = either closed _ _ (either _ _ _ (bad_byte _) (token
 value_placed : (bs : List ℕ) → IsPlaced (value_at bs)
 value_placed [] = bad_byte 0
 value_placed (b ∷ bs) =
-    either (is_digit b) (front.Token kind.Value (suc (suc (run is_digit bs)))) (if is_name_start b then front.Token kind.Value (suc (suc (run is_name_byte bs))) else front.Fault L1 0)
-    (token _ _) (either (is_name_start b) (front.Token kind.Value (suc (suc (run is_name_byte bs)))) (front.Fault L1 0) (token _ _) (bad_byte 0))
+    either (is_digit b) (front.Token kind.Value (suc (suc (run is_digit bs)))) (if is_name_start b
+    then front.Token kind.Value (suc (suc (run is_name_byte bs))) else front.Fault L1 0)
+    (token _ _) (either (is_name_start b) (front.Token kind.Value (suc (suc (run is_name_byte bs)))) (front.Fault L1 0)
+    (token _ _) (bad_byte 0))
 
 named_placed : (k : TokenKind) (bs : List ℕ) → IsPlaced (named_at k bs)
 named_placed k [] = bad_byte 0
@@ -74,23 +79,29 @@ integer_placed digits = either _ _ _ (token _ _) (fault L3 0 (λ p. refl))
 
 sign_placed : (b : ℕ) (bs : List ℕ) → IsPlaced (sign_at b bs)
 sign_placed b bs =
-    either _ _ _ (value_placed bs) (either _ _ _ (named_placed kind.Symbol bs) (either _ _ _ (named_placed kind.BlockName bs) (either _ _ _ (named_placed kind.DialectType bs)
+    either _ _ _ (value_placed bs) (either _ _ _ (named_placed kind.Symbol bs)
+    (either _ _ _ (named_placed kind.BlockName bs) (either _ _ _ (named_placed kind.DialectType bs)
     (either _ _ _ (hash_placed bs)
-    (either ((b == 45) && starts 62 bs) (front.Token kind.Arrow 2) (if is_mark b then front.Token (kind.Mark b) 1 else front.Fault L1 0) (token _ _)
+    (either ((b == 45) && starts 62 bs) (front.Token kind.Arrow 2) (if is_mark b then front.Token (kind.Mark b) 1
+    else front.Fault L1 0) (token _ _)
     (either (is_mark b) (front.Token (kind.Mark b) 1) (front.Fault L1 0) (token _ _) (bad_byte 0)))))))
 
 token_placed : (after_tensor : Bool) (bs : List ℕ) → IsPlaced (token_at after_tensor bs)
 token_placed after_tensor [] = end
 token_placed after_tensor (b ∷ bs) =
     either (is_letter b) (front.Token kind.Word (suc (run is_word_byte bs)))
-    (if is_digit b then integer_of (b ∷ take (run is_digit bs) bs) else if b == 34 then string_at bs else if (b == 60) && after_tensor then shape_at bs else sign_at b bs)
+    (if is_digit b then integer_of (b ∷ take (run is_digit bs) bs) else if b == 34 then string_at bs
+    else if (b == 60) && after_tensor then shape_at bs else sign_at b bs)
     (token _ _)
-    (either (is_digit b) (integer_of (b ∷ take (run is_digit bs) bs)) (if b == 34 then string_at bs else if (b == 60) && after_tensor then shape_at bs else sign_at b bs) (integer_placed (b ∷ take (run is_digit bs) bs))
-    (either (b == 34) (string_at bs) (if (b == 60) && after_tensor then shape_at bs else sign_at b bs) (string_placed (take (quoted_in false bs) bs) (starts 34 (drop (quoted_in false bs) bs)))
+    (either (is_digit b) (integer_of (b ∷ take (run is_digit bs) bs)) (if b == 34 then string_at bs else if (b == 60)
+    && after_tensor then shape_at bs else sign_at b bs) (integer_placed (b ∷ take (run is_digit bs) bs))
+    (either (b == 34) (string_at bs) (if (b == 60) && after_tensor then shape_at bs
+    else sign_at b bs) (string_placed (take (quoted_in false bs) bs) (starts 34 (drop (quoted_in false bs) bs)))
     (either ((b == 60) && after_tensor) (shape_at bs) (sign_at b bs) (shape_placed bs) (sign_placed b bs))))
 
 lexical_line : (bytes : List ℕ) (f : Fault) → HasFault bytes f → HasLine f
-lexical_line bytes f (inl x) = subst HasLine (sym x.fault) ((token_placed x.last.after_tensor (text_at x.last.rest)).line x.code x.inside _ x.broken)
+lexical_line bytes f (inl x) = subst HasLine (sym x.fault)
+    ((token_placed x.last.after_tensor (text_at x.last.rest)).line x.code x.inside _ x.broken)
 lexical_line bytes f (inr x) = subst HasLine (sym x.fault) refl
 
 -- ---- the syntax
@@ -114,18 +125,21 @@ mismatch_line : (all : List Token) (m : Option ℕ) (f : Fault) → mismatch_fau
 mismatch_line all None f e = absurd (cc)
 mismatch_line all (Some i) f e = some_line (fault_at A4 _) f refl e
 
-twice_line : (all : List Token) (t m : Option ℕ) (f : Fault) → twice_fault_or all t (mismatch_fault all m) ≡ Some f → HasLine f
+twice_line : (all : List Token) (t m : Option ℕ) (f : Fault)
+    → twice_fault_or all t (mismatch_fault all m) ≡ Some f → HasLine f
 twice_line all None m f e = mismatch_line all m f e
 twice_line all (Some i) m f e = some_line (fault_at A3 _) f refl e
 
-undefined_line : (all : List Token) (u t m : Option ℕ) (f : Fault) → undefined_fault_or all u (twice_fault_or all t (mismatch_fault all m)) ≡ Some f → HasLine f
+undefined_line : (all : List Token) (u t m : Option ℕ) (f : Fault)
+    → undefined_fault_or all u (twice_fault_or all t (mismatch_fault all m)) ≡ Some f → HasLine f
 undefined_line all None t m f e = twice_line all t m f e
 undefined_line all (Some i) t m f e = some_line (fault_at A2 _) f refl e
 
 misspelt_line : (bytes : List ℕ) (f : Fault) → Misspells bytes f → HasLine f
 misspelt_line bytes f (inl x) = lexical_line bytes f x
 misspelt_line bytes f (inr (inl x)) = subst HasLine (sym x.bad.is) (syntax_line x.tokens x.bad.at x.bad.due)
-misspelt_line bytes f (inr (inr x)) = undefined_line x.tokens (file_faults x.tokens x.bad.file).undefined (file_faults x.tokens x.bad.file).twice (file_faults x.tokens x.bad.file).mismatch f x.bad.finds
+misspelt_line bytes f (inr (inr x)) = undefined_line x.tokens (file_faults x.tokens x.bad.file).undefined
+    (file_faults x.tokens x.bad.file).twice (file_faults x.tokens x.bad.file).mismatch f x.bad.finds
 
 -- ---- rules
 

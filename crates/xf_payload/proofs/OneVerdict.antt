@@ -28,7 +28,10 @@ ok_same : (r : Out File Expected) (x y : File × ℕ) → r ≡ Ok x → r ≡ O
 ok_same r x y p q = cc
 
 one_file : (all : List Token) (f g : File) → IsText all f → IsText all g → f ≡ g
-one_file all f g a b = ap (λ (x : File × ℕ). x.0) (ok_same (file_at (suc (length all)) all) (f, length all) (g, length all) (a (suc (length all)) (enough all)) (b (suc (length all)) (enough all)))
+one_file all f g a b = ap (λ (x : File × ℕ). x.0) (ok_same (file_at (suc (length all)) all) (f, length all) (
+  g,
+  length all,
+) (a (suc (length all)) (enough all)) (b (suc (length all)) (enough all)))
 
 places_one : (bytes : List ℕ) (ps qs : List Place) → HasPlaces bytes ps → HasPlaces bytes qs → ps ≡ qs
 places_one bytes ps qs x y =
@@ -48,7 +51,8 @@ violations_same m v w e q = cc
 breaks_same : (file : List ℕ) (f g : Fault) → BreaksARule file f → BreaksARule file g → f ≡ g
 breaks_same file f g x y =
     let m : x.before ≡ y.before = spells_one file x.before y.before x.spells y.spells in
-    let v : x.violation ≡ y.violation = violations_same y.before x.violation y.violation (subst (λ n. first_violation n ≡ Some x.violation) m x.breaks) y.breaks in
+    let v : x.violation ≡ y.violation = violations_same y.before x.violation y.violation
+    (subst (λ n. first_violation n ≡ Some x.violation) m x.breaks) y.breaks in
     let p : x.places ≡ y.places = places_one file x.places y.places x.has_places y.has_places in
     x.is ∙ (ap (λ ps. rule_fault ps x.violation) p ∙ (ap (rule_fault y.places) v ∙ sym y.is))
 
@@ -71,4 +75,5 @@ has_one_fault file f g (inr (inr x)) (inr (inr y)) = breaks_same file f g x y
 pub holds_or_not : HoldsOrNot
 holds_or_not file m f x (inl y) = let a = x.fits in let b = y.passes in omega arith
 holds_or_not file m f x (inr (inl y)) = spells_or_not file m f x.spells y.misspells
-holds_or_not file m f x (inr (inr y)) = no_violation y.before y.violation (subst IsValid (spells_one file m y.before x.spells y.spells) x.valid) y.breaks
+holds_or_not file m f x (inr (inr y)) =
+    no_violation y.before y.violation (subst IsValid (spells_one file m y.before x.spells y.spells) x.valid) y.breaks

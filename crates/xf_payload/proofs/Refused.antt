@@ -22,9 +22,19 @@ unread_refused file (text_fault.At f) fits misspells = inr (inl (record { fits =
 unread_refused file text_fault.NoMemory fits misspells = tt
 
 -- its module breaks a rule
-pub judged_refused : (file : List ℕ) (m : Module) (places : List Place) (e : TextFault) → length file ≤ file_limit → Spells file m → HasPlaces file places → IsJudged m places e → IsRefused file e
+pub judged_refused : (file : List ℕ) (m : Module) (places : List Place) (e : TextFault) → length file ≤ file_limit
+    → Spells file m → HasPlaces file places → IsJudged m places e → IsRefused file e
 judged_refused file m places (text_fault.At f) fits s p j =
-    inr (inr (record { fits = fits; before = m; places = places; spells = s; has_places = p; violation = j.0; breaks = j.1.0; is = j.1.1 }))
+    inr (inr (record {
+      fits = fits;
+      before = m;
+      places = places;
+      spells = s;
+      has_places = p;
+      violation = j.0;
+      breaks = j.1.0;
+      is = j.1.1;
+    }))
 judged_refused file m places text_fault.NoMemory fits s p j = tt
 
 -- ---- what the verifier tells
@@ -48,15 +58,23 @@ numbered_back rule.Ranges = refl
 numbered_back rule.Slices = refl
 
 -- the number that is told is that of the rule
-told_from : (m : Module) (places : List Place) (n : ℕ) (op : OpName) (o : Option Violation) → first_violation m ≡ o → option_map fault_of o ≡ Some (verify_fault.Rule n op)
+told_from : (m : Module) (places : List Place) (n : ℕ) (op : OpName) (o : Option Violation) → first_violation m ≡ o
+    → option_map fault_of o ≡ Some (verify_fault.Rule n op)
     → IsJudged m places (text_fault.At (rule_fault places (record { rule = numbered n; op = op })))
 told_from m places n op None e h = absurd (cc)
 told_from m places n op (Some v) e h =
     let number_is : number v.rule ≡ n = cc in
     let op_is : v.op ≡ op = cc in
-    let rule_is : numbered n ≡ v.rule = ap numbered (sym number_is) ∙ numbered_back v.rule in
-    (v, (e, ap (λ (r : Rule). rule_fault places (let x : Violation = record { rule = r; op = op } in x)) rule_is ∙ ap (λ (a : OpName). rule_fault places (let x : Violation = record { rule = v.rule; op = a } in x)) (sym op_is)))
+    let rule_is : numbered n ≡ v.rule = ap numbered (sym number_is) ∙ numbered_back v.rule in (
+      v,
+      (
+        e,
+        ap (λ (r : Rule). rule_fault places (let x : Violation = record { rule = r; op = op } in x)) rule_is ∙ ap (λ
+            (a : OpName). rule_fault places (let x : Violation = record { rule = v.rule; op = a } in x)) (sym op_is),
+      ),
+    )
 
-pub verdict_told : (m : Module) (places : List Place) (n : ℕ) (op : OpName) → option_map fault_of (first_violation m) ≡ Some (verify_fault.Rule n op)
+pub verdict_told : (m : Module) (places : List Place) (n : ℕ) (op : OpName)
+    → option_map fault_of (first_violation m) ≡ Some (verify_fault.Rule n op)
     → IsJudged m places (text_fault.At (rule_fault places (record { rule = numbered n; op = op })))
 verdict_told m places n op h = told_from m places n op (first_violation m) refl h

@@ -2,7 +2,8 @@
 use Rattle.std.specs.Prelude.{◌≡◌, ◌⊎◌, ◌≤◌, ◌<◌, ⊤, ℕ, List, length, Option, Some, None, slice_get}
 use Rattle.xf_span.specs.declared.place.Place.{Place}
 use Rattle.xf_span.specs.declared.code.Code.{Code}
-use Rattle.xf_span.specs.declared.code.Code.TheVariants.{A8, V1, V2, V3, V4, V5, V6, V7, V8, V9, V10, V11, V12, V13, V14, V15, V16}
+use Rattle.xf_span.specs.declared.code.Code.TheVariants.{A8, V1, V2, V3, V4, V5, V6, V7, V8, V9, V10, V11, V12, V13}
+use Rattle.xf_span.specs.declared.code.Code.TheVariants.{V14, V15, V16}
 use Rattle.xf_span.specs.declared.fault.Fault.{Fault}
 use Rattle.xf_span.specs.declared.fault.TextFault.{TextFault}
 use Rattle.xf_span.specs.declared.fault.TextFault.TheVariants as text_fault

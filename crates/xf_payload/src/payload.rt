@@ -3,7 +3,8 @@ ghost use Rattle.std.specs.Prelude.{◌≡◌, ◌≤◌, ◌↔◌, length, IfO
 ghost use Rattle.xf_ir.specs.Valid.{IsValid};
 ghost use Rattle.xf_ir.specs.Violations.{first_violation};
 ghost use Rattle.xf_span.specs.Limit.{file_limit};
-ghost use Rattle.xf_payload.specs.Payload.{rule_code, rule_fault, place_or_first, IsPayload, IsRefused, IsTellable, IsJudged};
+ghost use Rattle.xf_payload.specs.Payload.{rule_code, rule_fault, place_or_first, IsPayload, IsRefused, IsTellable};
+ghost use Rattle.xf_payload.specs.Payload.{IsJudged};
 
 use std::alloc::Global;
 use xf_ir::{Module, OpName, Rule};

@@ -1,5 +1,6 @@
 -- The text of operations, one behind the other.
-use Rattle.std.proofs.Common.{◌≡◌, ℕ, ◌+◌, Bool, true, false, List, [], ◌∷◌, ◌++◌, codes, refl, ap, sym, ◌∙◌, append_assoc, append-nil}
+use Rattle.std.proofs.Common.{◌≡◌, ℕ, ◌+◌, Bool, true, false, List, [], ◌∷◌, ◌++◌, codes, refl, ap, sym, ◌∙◌}
+use Rattle.std.proofs.Common.{append_assoc, append-nil}
 use Rattle.std.specs.Prelude.{if◌then◌else◌}
 use Rattle.xf_type.specs.declared.payload_type.PayloadType.{PayloadType}
 use Rattle.xf_grammar.specs.Grammar.{Fill, Gap, none, line, Spaced, begun, written}
@@ -21,14 +22,18 @@ use Rattle.xf_ir.specs.Placed.{functions_of}
 use Rattle.xf_ir.specs.Tree.{Ops, no_ops, op, Regions, no_regions, region, Tree, cons}
 use Rattle.xf_printed.specs.Fills.{head_fill, rule_text, slots_fill}
 use Rattle.xf_printed.specs.Names.{Names, no_names, first_of, number_of, with_ops}
-use Rattle.xf_printed.specs.PrintedForm.{functions_docs, head_of, header_of, is_empty_yield, ops_docs, printed_form, regions_blocks, slots_of, tail_of, word_of}
-use Rattle.xf_print.specs.Lines.{block_text, blocks_text, body_text, brace_text, closing, end_text, function_text, functions_text, header_text, op_row, op_text, opened_text, opening, ops_text, rest_text, results_text, tail_text, tree_text}
+use Rattle.xf_printed.specs.PrintedForm.{functions_docs, head_of, header_of, is_empty_yield, ops_docs, printed_form}
+use Rattle.xf_printed.specs.PrintedForm.{regions_blocks, slots_of, tail_of, word_of}
+use Rattle.xf_print.specs.Lines.{block_text, blocks_text, body_text, brace_text, closing, end_text, function_text}
+use Rattle.xf_print.specs.Lines.{functions_text, header_text, op_row, op_text, opened_text, opening, ops_text}
+use Rattle.xf_print.specs.Lines.{rest_text, results_text, tail_text, tree_text}
 use Rattle.xf_print_base.proofs.Texts.{text_append}
 
 -- ---- heads
 
 -- the row of an operation is that of its word
-head_row : (l : Level) (number : ℕ) (ts : List PayloadType) (w : List ℕ) → head_row_of format l (head_fill number ts w) ≡ the_row (lookup words w)
+head_row : (l : Level) (number : ℕ) (ts : List PayloadType) (w : List ℕ)
+    → head_row_of format l (head_fill number ts w) ≡ the_row (lookup words w)
 unfolding head_rule row_rule defines_rule kind_rule
 head_row l number [] w = refl
 head_row l number (t ∷ []) w = refl
@@ -36,7 +41,8 @@ head_row l number (t ∷ (u ∷ us)) w = refl
 
 -- a head behind another gap
 head_line : (l : Level) (g : Gap) (number : ℕ) (ts : List PayloadType) (w : List ℕ)
-    → text (begun g (written language (head_rule l) (head_fill number ts w))) ≡ gap_text g ++ (results_text number ts ++ w)
+    → text (begun g (written language (head_rule l) (head_fill number ts w)))
+    ≡ gap_text g ++ (results_text number ts ++ w)
 unfolding head_rule row_rule defines_rule kind_rule
 head_line l g number [] w = simp append-nil
 head_line l g number (t ∷ []) w = simp (append_assoc, append-nil)
@@ -44,7 +50,8 @@ head_line l g number (t ∷ (u ∷ us)) w = simp (append_assoc, append-nil)
 
 -- a head that begins a text
 head_begun : (l : Level) (g h : Gap) (number : ℕ) (ts : List PayloadType) (w : List ℕ) (rest : List Spaced)
-    → begun g (begun h (written language (head_rule l) (head_fill number ts w)) ++ rest) ≡ begun g (written language (head_rule l) (head_fill number ts w)) ++ rest
+    → begun g (begun h (written language (head_rule l) (head_fill number ts w)) ++ rest)
+    ≡ begun g (written language (head_rule l) (head_fill number ts w)) ++ rest
 unfolding head_rule row_rule defines_rule kind_rule
 head_begun l g h number [] w rest = refl
 head_begun l g h number (t ∷ []) w rest = refl
@@ -56,24 +63,33 @@ head_begun l g h number (t ∷ (u ∷ us)) w rest = refl
 abbrev behind_head : Level → ℕ → Fill → Blocks → Fill → Docs → Row → List Spaced
 behind_head l margin s bs q rest r =
     written language (slots_rule (slots r)) s
-    ++ (blocks_written format r margin true bs ++ (written language (slots_rule (tail r)) q ++ docs_written format (behind l) margin rest))
+    ++ (blocks_written format r margin true bs ++ (written language (slots_rule (tail r)) q ++ docs_written format
+    (behind l) margin rest))
 
 behind_head_text : (l : Level) (margin : ℕ) (s : Fill) (bs : Blocks) (q : Fill) (rest : Docs) (r : Row)
     → text (behind_head l margin s bs q rest r)
-    ≡ rule_text (slots_rule (slots r)) s ++ (text (blocks_written format r margin true bs) ++ (rule_text (slots_rule (tail r)) q ++ text (docs_written format (behind l) margin rest)))
+    ≡ rule_text (slots_rule (slots r)) s ++ (text
+    (blocks_written format r margin true bs) ++ (rule_text (slots_rule (tail r)) q ++ text
+    (docs_written format (behind l) margin rest)))
 behind_head_text l margin s bs q rest r =
     text_append (written language (slots_rule (slots r)) s) _
     ∙ ap (λ x. rule_text (slots_rule (slots r)) s ++ x)
     (text_append (blocks_written format r margin true bs) _
-    ∙ ap (λ x. text (blocks_written format r margin true bs) ++ x) (text_append (written language (slots_rule (tail r)) q) (docs_written format (behind l) margin rest)))
+    ∙ ap (λ x. text (blocks_written format r margin true bs) ++ x)
+    (text_append (written language (slots_rule (tail r)) q) (docs_written format (behind l) margin rest)))
 
 -- with its head, behind a gap; k is its row
-whole_written : (l : Level) (g : Gap) (margin : ℕ) (number : ℕ) (ts : List PayloadType) (w : List ℕ) (s : Fill) (bs : Blocks) (q : Fill) (rest : Docs) (r : Row) → the_row (lookup words w) ≡ r
-    → text (begun g (written language (head_rule l) (head_fill number ts w)) ++ behind_head l margin s bs q rest (head_row_of format l (head_fill number ts w)))
-    ≡ gap_text g ++ (((results_text number ts ++ w) ++ rule_text (slots_rule (slots r)) s) ++ (text (blocks_written format r margin true bs) ++ (rule_text (slots_rule (tail r)) q ++ text (docs_written format (behind l) margin rest))))
+whole_written : (l : Level) (g : Gap) (margin : ℕ) (number : ℕ) (ts : List PayloadType) (w : List ℕ) (s : Fill)
+    (bs : Blocks) (q : Fill) (rest : Docs) (r : Row) → the_row (lookup words w) ≡ r
+    → text (begun g (written language (head_rule l) (head_fill number ts w)) ++ behind_head l margin s bs q rest
+    (head_row_of format l (head_fill number ts w)))
+    ≡ gap_text g ++ (((results_text number ts ++ w) ++ rule_text (slots_rule (slots r)) s) ++ (text
+    (blocks_written format r margin true bs) ++ (rule_text (slots_rule (tail r)) q ++ text
+    (docs_written format (behind l) margin rest))))
 whole_written l g margin number ts w s bs q rest r e =
     let head : List Spaced = begun g (written language (head_rule l) (head_fill number ts w)) in
-    let after : List ℕ = text (blocks_written format r margin true bs) ++ (rule_text (slots_rule (tail r)) q ++ text (docs_written format (behind l) margin rest)) in
+    let after : List ℕ = text (blocks_written format r margin true bs) ++ (rule_text (slots_rule (tail r)) q ++ text
+    (docs_written format (behind l) margin rest)) in
     let filled : List ℕ = rule_text (slots_rule (slots r)) s in
     ap (λ r. text (head ++ behind_head l margin s bs q rest r)) (head_row l number ts w ∙ e)
     ∙ text_append head (behind_head l margin s bs q rest r)
@@ -83,15 +99,18 @@ whole_written l g margin number ts w s bs q rest r e =
     ∙ ap (λ x. gap_text g ++ x) (sym (append_assoc (results_text number ts ++ w) filled after))
 
 -- a filled row, by the name that its row has here
-named_slots : (names : Names) (t : Tree) → slots_of names t ≡ slots_fill names (first_of (names.entry t.name.0)) t (slots (op_row t.kind))
+named_slots : (names : Names) (t : Tree) → slots_of names t
+    ≡ slots_fill names (first_of (names.entry t.name.0)) t (slots (op_row t.kind))
 unfolding op_row
 named_slots names t = refl
 
-named_tail : (names : Names) (t : Tree) → tail_of names t ≡ slots_fill names (first_of (names.entry t.name.0)) t (tail (op_row t.kind))
+named_tail : (names : Names) (t : Tree) → tail_of names t
+    ≡ slots_fill names (first_of (names.entry t.name.0)) t (tail (op_row t.kind))
 unfolding op_row
 named_tail names t = refl
 
-named_header : (names : Names) (t : Tree) → header_of names t ≡ slots_fill names (first_of (names.entry t.name.0)) t (header (op_row t.kind))
+named_header : (names : Names) (t : Tree)
+    → header_of names t ≡ slots_fill names (first_of (names.entry t.name.0)) t (header (op_row t.kind))
 unfolding op_row
 named_header names t = refl
 
@@ -100,19 +119,26 @@ unfolding op_row
 named_row k = refl
 
 whole_text : (l : Level) (g : Gap) (margin : ℕ) (names : Names) (t : Tree) (bs : Blocks) (rest : Docs)
-    → text (begun g (written language (head_rule l) (head_of names t)) ++ behind_head l margin (slots_of names t) bs (tail_of names t) rest (head_row_of format l (head_of names t)))
-    ≡ gap_text g ++ (opening names t ++ (text (blocks_written format (op_row t.kind) margin true bs) ++ (tail_text names t ++ text (docs_written format (behind l) margin rest))))
+    → text (begun g (written language (head_rule l) (head_of names t)) ++ behind_head l margin (slots_of names t) bs
+    (tail_of names t) rest (head_row_of format l (head_of names t)))
+    ≡ gap_text g ++ (opening names t ++ (text
+    (blocks_written format (op_row t.kind) margin true bs) ++ (tail_text names t ++ text
+    (docs_written format (behind l) margin rest))))
 unfolding opening tail_text
 whole_text l g margin names t bs rest =
     let number : ℕ = number_of (names.entry t.name.0) in
     let head : List Spaced = begun g (written language (head_rule l) (head_of names t)) in
-    ap (λ s. text (head ++ behind_head l margin s bs (tail_of names t) rest (head_row_of format l (head_of names t)))) (named_slots names t)
-    ∙ ap (λ q. text (head ++ behind_head l margin (slots_fill names (first_of (names.entry t.name.0)) t (slots (op_row t.kind))) bs q rest (head_row_of format l (head_of names t)))) (named_tail names t)
+    ap (λ s. text (head ++ behind_head l margin s bs (tail_of names t) rest (head_row_of format l (head_of names t))))
+    (named_slots names t)
+    ∙ ap (λ q. text (head ++ behind_head l margin
+    (slots_fill names (first_of (names.entry t.name.0)) t (slots (op_row t.kind))) bs q rest
+    (head_row_of format l (head_of names t)))) (named_tail names t)
     ∙ whole_written l g margin number t.results (word_of t.kind) _ bs _ rest (op_row t.kind) (named_row t.kind)
 
 -- an operation, and those behind it
 tree_first : (l : Level) (margin : ℕ) (names : Names) (t : Tree) (rest : Docs)
-    → text (docs_written format l margin (doc (head_of names t) (slots_of names t) (regions_blocks names (header_of names t) t.regions) (tail_of names t) rest))
+    → text (docs_written format l margin (doc (head_of names t) (slots_of names t)
+    (regions_blocks names (header_of names t) t.regions) (tail_of names t) rest))
     ≡ tree_text names margin t ++ text (docs_written format (behind l) margin rest)
 unfolding tree_text rest_text blocks_text
 tree_first l margin names t rest =
@@ -127,24 +153,31 @@ tree_first l margin names t rest =
 
 first_or_none : (b : Bool) (l : Level) (margin : ℕ) (names : Names) (t : Tree) (rest : Docs) (others : List ℕ)
     → ((l : Level) → text (docs_written format l margin rest) ≡ others)
-    → let ds : Docs = (if b then rest else doc (head_of names t) (slots_of names t) (regions_blocks names (header_of names t) t.regions) (tail_of names t) rest) in
+    → let ds : Docs = (if b then rest else doc (head_of names t) (slots_of names t)
+    (regions_blocks names (header_of names t) t.regions) (tail_of names t) rest) in
     let first : List ℕ = (if b then [] else tree_text names margin t) in
     text (docs_written format l margin ds) ≡ first ++ others
 first_or_none true l margin names t rest others e = e l
-first_or_none false l margin names t rest others e = tree_first l margin names t rest ∙ ap (λ x. tree_text names margin t ++ x) (e (behind l))
+first_or_none false l margin names t rest others e =
+    tree_first l margin names t rest ∙ ap (λ x. tree_text names margin t ++ x) (e (behind l))
 
-any_level : (l : Level) (margin : ℕ) (names : Names) (ops : Ops) → text (docs_written format l margin (ops_docs names ops)) ≡ ops_text names margin ops
+any_level : (l : Level) (margin : ℕ) (names : Names) (ops : Ops)
+    → text (docs_written format l margin (ops_docs names ops)) ≡ ops_text names margin ops
 unfolding ops_text
 any_level l margin names no_ops = refl
 any_level l margin names (op n k ds os ts rs rest) =
     let t : Tree = record { name = n; kind = k; attrs = ds; operands = os; results = ts; regions = rs } in
-    first_or_none (is_empty_yield k ds os) l margin names t (ops_docs names rest) (ops_text names margin rest) (λ l. any_level l margin names rest)
-    ∙ sym (first_or_none (is_empty_yield k ds os) level.Body margin names t (ops_docs names rest) (ops_text names margin rest) (λ l. any_level l margin names rest))
+    first_or_none (is_empty_yield k ds os) l margin names t (ops_docs names rest) (ops_text names margin rest)
+    (λ l. any_level l margin names rest)
+    ∙ sym (first_or_none (is_empty_yield k ds os) level.Body margin names t (ops_docs names rest)
+    (ops_text names margin rest) (λ l. any_level l margin names rest))
 
-pub first_op : (names : Names) (margin : ℕ) (t : Tree) (rest : Ops) → ops_text names margin (cons t rest) ≡ op_text names margin t ++ ops_text names margin rest
+pub first_op : (names : Names) (margin : ℕ) (t : Tree) (rest : Ops)
+    → ops_text names margin (cons t rest) ≡ op_text names margin t ++ ops_text names margin rest
 unfolding ops_text
 first_op names margin t rest =
-    first_or_none (is_empty_yield t.kind t.attrs t.operands) level.Body margin names t (ops_docs names rest) (ops_text names margin rest) (λ l. any_level l margin names rest)
+    first_or_none (is_empty_yield t.kind t.attrs t.operands) level.Body margin names t (ops_docs names rest)
+    (ops_text names margin rest) (λ l. any_level l margin names rest)
 
 pub no_op : (names : Names) (margin : ℕ) → ops_text names margin no_ops ≡ []
 unfolding ops_text
@@ -153,7 +186,8 @@ no_op names margin = refl
 -- ---- blocks
 
 -- what begins a block
-brace_written : (r : Row) (first : Bool) → text (between (regions_of (bodies r)) first) ++ codes " {" ≡ brace_text r first
+brace_written : (r : Row) (first : Bool) → text (between (regions_of (bodies r)) first) ++ codes " {"
+    ≡ brace_text r first
 brace_written r true = between_first (bodies r)
   where
     between_first : (b : Body) → text (between (regions_of b) true) ++ codes " {" ≡ codes " {"
@@ -166,7 +200,8 @@ brace_written r false = refl
 block_written : (margin : ℕ) (first : Bool) (h : Fill) (ds : Docs) (bs : Blocks) (r : Row)
     → text (blocks_written format r margin first (a_block h ds bs))
     ≡ ((brace_text r first ++ text (begun (line margin) (written language (slots_rule (header r)) h)))
-    ++ text (docs_written format (inside r) (margin + 1) ds)) ++ (closing margin ++ text (blocks_written format r margin false bs))
+    ++ text (docs_written format (inside r) (margin + 1) ds)) ++ (closing margin ++ text
+    (blocks_written format r margin false bs))
 unfolding closing
 block_written margin first h ds bs r =
     let before : List Spaced = between (regions_of (bodies r)) first in
@@ -179,33 +214,48 @@ block_written margin first h ds bs r =
     ∙ ap (λ x. ((x ++ text head) ++ text inner) ++ (closing margin ++ text after)) (brace_written r first)
   where
     joined : (a b c d : List ℕ) → a ++ (codes " {" ++ (b ++ (c ++ d))) ≡ (((a ++ codes " {") ++ b) ++ c) ++ d
-    joined a b c d = sym (append_assoc ((a ++ codes " {") ++ b) c d ∙ append_assoc (a ++ codes " {") b (c ++ d) ∙ append_assoc a (codes " {") (b ++ (c ++ d)))
+    joined a b c d =
+        sym (append_assoc ((a ++ codes " {") ++ b) c d ∙ append_assoc (a ++ codes " {") b (c ++ d)
+        ∙ append_assoc a (codes " {") (b ++ (c ++ d)))
 
 -- the header of a row
-header_named : (names : Names) (margin : ℕ) (t : Tree) → text (begun (line margin) (written language (slots_rule (header (op_row t.kind))) (header_of names t))) ≡ header_text names margin t
+header_named : (names : Names) (margin : ℕ) (t : Tree)
+    → text (begun (line margin) (written language (slots_rule (header (op_row t.kind))) (header_of names t)))
+    ≡ header_text names margin t
 unfolding header_text
-header_named names margin t = ap (λ h. text (begun (line margin) (written language (slots_rule (header (op_row t.kind))) h))) (named_header names t)
+header_named names margin t =
+    ap (λ h. text (begun (line margin) (written language (slots_rule (header (op_row t.kind))) h)))
+    (named_header names t)
 
-pub first_block : (names : Names) (margin : ℕ) (t : Tree) (first : Bool) (args : List PayloadType) (ops : Ops) (rest : Regions)
-    → blocks_text names margin t first (region args ops rest) ≡ block_text names margin t first ops ++ (closing margin ++ blocks_text names margin t false rest)
+pub first_block : (names : Names) (margin : ℕ) (t : Tree) (first : Bool) (args : List PayloadType) (ops : Ops)
+    (rest : Regions)
+    → blocks_text names margin t first (region args ops rest)
+    ≡ block_text names margin t first ops ++ (closing margin ++ blocks_text names margin t false rest)
 unfolding blocks_text block_text opened_text
 first_block names margin t first args ops rest =
     let others : List ℕ = closing margin ++ blocks_text names margin t false rest in
     let inner : List ℕ = text (docs_written format (inside (op_row t.kind)) (margin + 1) (ops_docs names ops)) in
-    block_written margin first (header_of names t) (ops_docs names ops) (regions_blocks names (header_of names t) rest) (op_row t.kind)
+    block_written margin first (header_of names t) (ops_docs names ops) (regions_blocks names (header_of names t) rest)
+    (op_row t.kind)
     ∙ ap (λ x. ((brace_text (op_row t.kind) first ++ x) ++ inner) ++ others) (header_named names margin t)
-    ∙ ap (λ x. ((brace_text (op_row t.kind) first ++ header_text names margin t) ++ x) ++ others) (any_level (inside (op_row t.kind)) (margin + 1) names ops)
+    ∙ ap (λ x. ((brace_text (op_row t.kind) first ++ header_text names margin t) ++ x) ++ others)
+    (any_level (inside (op_row t.kind)) (margin + 1) names ops)
 
 -- a block, and what stands behind the blocks
-pub rest_first : (names : Names) (margin : ℕ) (t : Tree) (first : Bool) (args : List PayloadType) (ops : Ops) (rest : Regions)
-    → rest_text names margin t first (region args ops rest) ≡ block_text names margin t first ops ++ (closing margin ++ rest_text names margin t false rest)
+pub rest_first : (names : Names) (margin : ℕ) (t : Tree) (first : Bool) (args : List PayloadType) (ops : Ops)
+    (rest : Regions)
+    → rest_text names margin t first (region args ops rest)
+    ≡ block_text names margin t first ops ++ (closing margin ++ rest_text names margin t false rest)
 unfolding rest_text
 rest_first names margin t first args ops rest =
     ap (λ x. x ++ tail_text names t) (first_block names margin t first args ops rest)
-    ∙ append_assoc (block_text names margin t first ops) (closing margin ++ blocks_text names margin t false rest) (tail_text names t)
-    ∙ ap (λ x. block_text names margin t first ops ++ x) (append_assoc (closing margin) (blocks_text names margin t false rest) (tail_text names t))
+    ∙ append_assoc (block_text names margin t first ops) (closing margin ++ blocks_text names margin t false rest)
+    (tail_text names t)
+    ∙ ap (λ x. block_text names margin t first ops ++ x)
+    (append_assoc (closing margin) (blocks_text names margin t false rest) (tail_text names t))
 
-pub no_rest : (names : Names) (margin : ℕ) (t : Tree) (first : Bool) → rest_text names margin t first no_regions ≡ tail_text names t
+pub no_rest : (names : Names) (margin : ℕ) (t : Tree) (first : Bool)
+    → rest_text names margin t first no_regions ≡ tail_text names t
 unfolding rest_text blocks_text
 no_rest names margin t first = refl
 
@@ -239,13 +289,18 @@ form_text m =
     let bs : Blocks = a_block (header_of no_names t) (functions_docs (functions_of m)) no_blocks in
     let fs : List ℕ = functions_text (functions_of m) in
     let tail : List ℕ = tail_text no_names t in
-    ap (λ x. text x ++ (10 ∷ [])) (head_begun level.File none (line 0) (number_of (no_names.entry t.name.0)) t.results (word_of t.kind) _)
+    ap (λ x. text x ++ (10 ∷ [])) (head_begun level.File none (line 0) (number_of (no_names.entry t.name.0)) t.results
+    (word_of t.kind) _)
     ∙ ap (λ x. x ++ (10 ∷ [])) (whole_text level.File none 0 no_names t bs no_docs)
     ∙ ap (λ x. (opening no_names t ++ (x ++ (tail ++ []))) ++ (10 ∷ []))
     (block_written 0 true (header_of no_names t) (functions_docs (functions_of m)) no_blocks r
-    ∙ ap (λ x. ((brace_text r true ++ x) ++ text (docs_written format (inside r) 1 (functions_docs (functions_of m)))) ++ (closing 0 ++ [])) (header_named no_names 0 t)
-    ∙ ap (λ x. ((brace_text r true ++ header_text no_names 0 t) ++ x) ++ (closing 0 ++ [])) (any_functions (inside r) (functions_of m)))
+    ∙ ap (λ x. ((brace_text r true ++ x) ++ text
+    (docs_written format (inside r) 1 (functions_docs (functions_of m)))) ++ (closing 0 ++ []))
+    (header_named no_names 0 t)
+    ∙ ap (λ x. ((brace_text r true ++ header_text no_names 0 t) ++ x) ++ (closing 0 ++ []))
+    (any_functions (inside r) (functions_of m)))
     ∙ ending (opening no_names t) (brace_text r true ++ header_text no_names 0 t) fs tail (closing 0)
   where
-    ending : (o a f q c : List ℕ) → (o ++ (((a ++ f) ++ (c ++ [])) ++ (q ++ []))) ++ (10 ∷ []) ≡ o ++ (a ++ (f ++ ((c ++ q) ++ codes "\n")))
+    ending : (o a f q c : List ℕ) → (o ++ (((a ++ f) ++ (c ++ [])) ++ (q ++ []))) ++ (10 ∷ [])
+        ≡ o ++ (a ++ (f ++ ((c ++ q) ++ codes "\n")))
     ending o a f q c = simp (append_assoc, append-nil)

@@ -20,7 +20,8 @@ feed (b ∷ bs) s = ap (λ c. c ∷ (bs ++ 10 ∷ [])) (sym s)
 
 pub both_fed : (xs ys : List ℕ) → Starts xs → Starts ys → fed (xs ++ ys) ≡ fed xs ++ fed ys
 both_fed [] ys s t = refl
-both_fed (b ∷ bs) ys s t = append_assoc bs ys (10 ∷ []) ∙ ap (λ z. bs ++ z) (sym (feed ys t)) ∙ sym (append_assoc bs (10 ∷ []) (fed ys))
+both_fed (b ∷ bs) ys s t =
+    append_assoc bs ys (10 ∷ []) ∙ ap (λ z. bs ++ z) (sym (feed ys t)) ∙ sym (append_assoc bs (10 ∷ []) (fed ys))
 
 starts_append : (xs ys : List ℕ) → Starts xs → Starts ys → Starts (xs ++ ys)
 starts_append [] ys s t = t
@@ -29,7 +30,8 @@ starts_append (b ∷ bs) ys s t = s
 -- behind a line so far, a text that starts with a line feed
 pub pushed : (a b h : List ℕ) → Starts h → (a ++ (b ++ h)) ++ 10 ∷ [] ≡ ((a ++ b) ++ 10 ∷ []) ++ fed h
 pushed a b h s =
-    ap (λ x. x ++ 10 ∷ []) (sym (append_assoc a b h)) ∙ append_assoc (a ++ b) h (10 ∷ []) ∙ ap (λ z. (a ++ b) ++ z) (sym (feed h s))
+    ap (λ x. x ++ 10 ∷ []) (sym (append_assoc a b h)) ∙ append_assoc (a ++ b) h (10 ∷ [])
+    ∙ ap (λ z. (a ++ b) ++ z) (sym (feed h s))
     ∙ sym (append_assoc (a ++ b) (10 ∷ []) (fed h))
 
 -- and one more line behind it
@@ -50,13 +52,16 @@ none_or true xs s = tt
 none_or false xs s = s
 
 pub op_starts : (names : Names) (margin : ℕ) (t : Tree) → Starts (op_text names margin t)
-op_starts names margin t = none_or (is_empty_yield t.kind t.attrs t.operands) (tree_text names margin t) (tree_starts names margin t)
+op_starts names margin t =
+    none_or (is_empty_yield t.kind t.attrs t.operands) (tree_text names margin t) (tree_starts names margin t)
 
 pub ops_starts : (names : Names) (margin : ℕ) (ops : Ops) → Starts (ops_text names margin ops)
 ops_starts names margin no_ops = subst Starts (sym (no_op names margin)) tt
 ops_starts names margin (op n k ds os ts rs rest) =
     let t : Tree = record { name = n; kind = k; attrs = ds; operands = os; results = ts; regions = rs } in
-    subst Starts (sym (first_op names margin t rest)) (starts_append (op_text names margin t) (ops_text names margin rest) (op_starts names margin t) (ops_starts names margin rest))
+    subst Starts (sym (first_op names margin t rest))
+    (starts_append (op_text names margin t) (ops_text names margin rest) (op_starts names margin t)
+    (ops_starts names margin rest))
 
 pub function_starts : (t : Tree) → Starts (function_text t)
 unfolding function_text tree_text
@@ -66,7 +71,8 @@ pub functions_starts : (fs : Ops) → Starts (functions_text fs)
 functions_starts no_ops = subst Starts (sym no_function) tt
 functions_starts (op n k ds os ts rs rest) =
     let t : Tree = record { name = n; kind = k; attrs = ds; operands = os; results = ts; regions = rs } in
-    subst Starts (sym (first_function t rest)) (starts_append (function_text t) (functions_text rest) (function_starts t) (functions_starts rest))
+    subst Starts (sym (first_function t rest))
+    (starts_append (function_text t) (functions_text rest) (function_starts t) (functions_starts rest))
 
 begun_starts : (margin : ℕ) (ps : List Spaced) → Starts (text (begun (line margin) ps))
 begun_starts margin [] = tt

@@ -1,5 +1,6 @@
 -- The line before the operations of a block.
-use Rattle.std.proofs.Common.{◌≡◌, ℕ, ◌-◌, ◌*◌, ◌≤◌, List, [], ◌∷◌, ◌++◌, codes, length, take, drop, refl, ap, sym, ◌∙◌, arith}
+use Rattle.std.proofs.Common.{◌≡◌, ℕ, ◌-◌, ◌*◌, ◌≤◌, List, [], ◌∷◌, ◌++◌, codes, length, take, drop, refl, ap, sym, ◌∙◌}
+use Rattle.std.proofs.Common.{arith}
 use Rattle.std.specs.Prelude.{replicate}
 use Rattle.std.proofs.lemmas.List.{take_all}
 use Rattle.xf_format.specs.declared.row.FormatElement.{FormatElement}
@@ -24,15 +25,19 @@ rest_of : (ss : List FormatElement) → take (length ss - 1) (drop 1 ss) ≡ dro
 rest_of [] = refl
 rest_of (s ∷ ss) = take_all (length (s ∷ ss) - 1) ss (omega arith)
 
-pub header_made : (names : Names) (margin : ℕ) (t : Tree) (ss : List FormatElement) (first second third fourth : List ℕ) → ss ≡ header (op_row t.kind) → 1 ≤ length ss
-    → first ≡ replicate (2 * margin) 32 → second ≡ first ++ codes "^bb0" → third ≡ second ++ slots_text names t (take (length ss - 1) (drop 1 ss)) → fourth ≡ third ++ 10 ∷ []
+pub header_made : (names : Names) (margin : ℕ) (t : Tree) (ss : List FormatElement) (first second third fourth : List ℕ)
+    → ss ≡ header (op_row t.kind) → 1 ≤ length ss
+    → first ≡ replicate (2 * margin) 32 → second ≡ first ++ codes "^bb0"
+    → third ≡ second ++ slots_text names t (take (length ss - 1) (drop 1 ss)) → fourth ≡ third ++ 10 ∷ []
     → fourth ≡ fed (header_text names margin t)
 unfolding header_text
 header_made names margin t ss first second third fourth e lt f g h k =
-    let q : third ≡ (replicate (2 * margin) 32 ++ codes "^bb0") ++ slots_text names t (drop 1 (header (op_row t.kind))) = h ∙ rw (rest_of ss, g, f, e) refl in
+    let q : third ≡ (replicate (2 * margin) 32 ++ codes "^bb0") ++ slots_text names t
+    (drop 1 (header (op_row t.kind))) = h ∙ rw (rest_of ss, g, f, e) refl in
     k ∙ ap (λ x. x ++ 10 ∷ []) q ∙ sym (ap fed (begins_block (line margin) names t (op_row t.kind) (rw e at lt)))
 
-pub no_header : (names : Names) (margin : ℕ) (t : Tree) (ss : List FormatElement) → ss ≡ header (op_row t.kind) → length ss ≡ 0 → [] ≡ fed (header_text names margin t)
+pub no_header : (names : Names) (margin : ℕ) (t : Tree) (ss : List FormatElement) → ss ≡ header (op_row t.kind)
+    → length ss ≡ 0 → [] ≡ fed (header_text names margin t)
 unfolding header_text
 no_header names margin t ss e n = rw (← e) (ap fed (none ss n))
   where

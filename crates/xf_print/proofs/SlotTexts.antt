@@ -22,17 +22,21 @@ unfolding literal_rule
 raw_literal bytes = append-nil bytes
 
 -- a constant that is no scalar
-pub tensor_literal : (k : Kind) → ((w : Width) (bits : ℕ) → k ≡ kind.Constant w bits → ⊥) → rule_text literal_rule (literal_fill k) ≡ dense_text k
+pub tensor_literal : (k : Kind) → ((w : Width) (bits : ℕ) → k ≡ kind.Constant w bits → ⊥)
+    → rule_text literal_rule (literal_fill k) ≡ dense_text k
 tensor_literal (kind.Constant w bits) n = absurd (n w bits refl)
 tensor_literal k n = raw_literal (dense_text k)
 
 -- one more slot
-pub slots_go : (names : Names) (first : ℕ) (t : Tree) (ss : List FormatElement) (i : ℕ) (s : FormatElement) (line line' all : List ℕ) → drop i ss ≡ s ∷ drop (i + 1) ss
+pub slots_go : (names : Names) (first : ℕ) (t : Tree) (ss : List FormatElement) (i : ℕ) (s : FormatElement)
+    (line line' all : List ℕ) → drop i ss ≡ s ∷ drop (i + 1) ss
     → line ++ rule_text (slots_rule (drop i ss)) (slots_fill names first t (drop i ss)) ≡ all
     → line' ≡ line ++ rule_text (slot_rule s) (slot_fill names first t s)
     → line' ++ rule_text (slots_rule (drop (i + 1) ss)) (slots_fill names first t (drop (i + 1) ss)) ≡ all
 slots_go names first t ss i s line line' all at e f =
     let rest : List FormatElement = drop (i + 1) ss in
-    rw f (append_assoc line (rule_text (slot_rule s) (slot_fill names first t s)) (rule_text (slots_rule rest) (slots_fill names first t rest))
-    ∙ ap (λ x. line ++ x) (sym (text_append (written language (slot_rule s) (slot_fill names first t s)) (written language (slots_rule rest) (slots_fill names first t rest))))
+    rw f (append_assoc line (rule_text (slot_rule s) (slot_fill names first t s))
+    (rule_text (slots_rule rest) (slots_fill names first t rest))
+    ∙ ap (λ x. line ++ x) (sym (text_append (written language (slot_rule s) (slot_fill names first t s))
+    (written language (slots_rule rest) (slots_fill names first t rest))))
     ∙ rw at at e)

@@ -1,5 +1,6 @@
 -- The text of one operation, part by part.
-use Rattle.std.specs.Prelude.{ℕ, ◌+◌, ◌*◌, List, [], ◌∷◌, ◌++◌, length, codes, decimal, replicate, Bool, true, false, if◌then◌else◌}
+use Rattle.std.specs.Prelude.{ℕ, ◌+◌, ◌*◌, List, [], ◌∷◌, ◌++◌, length, codes, decimal, replicate, Bool, true, false}
+use Rattle.std.specs.Prelude.{if◌then◌else◌}
 use Rattle.xf_type.specs.declared.payload_type.PayloadType.{PayloadType}
 use Rattle.xf_grammar.specs.Grammar.{Gap, line, begun, written}
 use Rattle.xf_grammar.specs.Layout.{gap_text, text}
@@ -16,7 +17,8 @@ use Rattle.xf_ir.specs.Placed.{functions_of}
 use Rattle.xf_ir.specs.Tree.{Ops, no_ops, Regions, Tree, cons}
 use Rattle.xf_printed.specs.Fills.{rule_text, slots_fill}
 use Rattle.xf_printed.specs.Names.{Names, no_names, first_of, number_of, with_ops}
-use Rattle.xf_printed.specs.PrintedForm.{functions_docs, header_of, is_empty_yield, ops_docs, regions_blocks, row_of, word_of}
+use Rattle.xf_printed.specs.PrintedForm.{functions_docs, header_of, is_empty_yield, ops_docs, regions_blocks, row_of}
+use Rattle.xf_printed.specs.PrintedForm.{word_of}
 
 -- the row of an operation
 unfoldable pub op_row : Kind → Row
@@ -27,7 +29,8 @@ abbrev pub slots_text : Names → Tree → List FormatElement → List ℕ
 slots_text names t ss = rule_text (slots_rule ss) (slots_fill names (first_of (names.entry t.name.0)) t ss)
 
 abbrev pub begun_text : Gap → Names → Tree → List FormatElement → List ℕ
-begun_text g names t ss = text (begun g (written language (slots_rule ss) (slots_fill names (first_of (names.entry t.name.0)) t ss)))
+begun_text g names t ss =
+    text (begun g (written language (slots_rule ss) (slots_fill names (first_of (names.entry t.name.0)) t ss)))
 
 -- ---- heads
 
@@ -81,7 +84,8 @@ unfoldable pub closing : ℕ → List ℕ
 closing margin = 10 ∷ closed margin
 
 unfoldable pub blocks_text : Names → ℕ → Tree → Bool → Regions → List ℕ
-blocks_text names margin t first rs = text (blocks_written format (op_row t.kind) margin first (regions_blocks names (header_of names t) rs))
+blocks_text names margin t first rs =
+    text (blocks_written format (op_row t.kind) margin first (regions_blocks names (header_of names t) rs))
 
 -- ---- operations
 

@@ -1,7 +1,8 @@
 //! What stands behind the words of linalg, appended to the line so far. They refuse for want of memory alone.
 ghost use Rattle.std.specs.Prelude.{◌≡◌, ◌++◌, OnOk, map};
 ghost use Rattle.xf_print_base.specs.Index.{names_of};
-ghost use Rattle.xf_printed.specs.Unread.{attrs_text, dimension_texts, generic_text, given_text, ins_text, map_text, marked_attrs, outs_text, results_text, structured_text, typed_text};
+ghost use Rattle.xf_printed.specs.Unread.{attrs_text, dimension_texts, generic_text, given_text, ins_text, map_text};
+ghost use Rattle.xf_printed.specs.Unread.{marked_attrs, outs_text, results_text, structured_text, typed_text};
 ghost use Rattle.xf_printed.specs.Words.{listed, dimension_text, iterator_text};
 
 use xf_ir::{Attr, IteratorKind, Op, ValueName};

@@ -3,7 +3,9 @@ ghost use Rattle.std.specs.Prelude.{◌≡◌, ◌++◌, OnOk, true, IfOk, [], �
 ghost use Rattle.xf_host.specs.Writes.{WritesText, FailsByCount};
 ghost use Rattle.xf_ir.specs.Placed.{functions_of};
 ghost use Rattle.xf_ir.specs.View.{ops_of, regions_of};
-ghost use Rattle.xf_print.specs.Lines.{block_text, body_text, brace_text, closed, end_line, fed, function_text, functions_text, header_text, op_row, op_text, opened_text, ops_text, rest_text, tail_text, tree_text};
+ghost use Rattle.xf_print.specs.Lines.{block_text, body_text, brace_text, closed, end_line, fed, function_text};
+ghost use Rattle.xf_print.specs.Lines.{functions_text, header_text, op_row, op_text, opened_text, ops_text, rest_text};
+ghost use Rattle.xf_print.specs.Lines.{tail_text, tree_text};
 ghost use Rattle.xf_print_base.specs.Index.{names_of};
 ghost use Rattle.xf_printed.specs.PrintedForm.{is_empty_yield, printed_form};
 

@@ -72,7 +72,8 @@ fn write_count(results: &[PayloadType], line: &mut Vec<u8>) -> Result<(), NoMemo
     }
 }
 
-/// Appends the number of an operation's results, how many they are where they are several, and `=`; nothing for no results.
+/// Appends the number of an operation's results, how many they are where they are several, and `=`;
+/// nothing for no results.
 fn write_results(number: u64, results: &[PayloadType], line: &mut Vec<u8>) -> Result<(), NoMemory>
     ensures { OnOk result (line.new.items ≡ line.old.items ++ results_text number results.now) }
 {

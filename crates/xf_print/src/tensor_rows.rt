@@ -2,7 +2,8 @@
 ghost use Rattle.std.specs.Prelude.{◌≡◌, ◌++◌, OnOk, IfOk, map, drop};
 ghost use Rattle.xf_ir.specs.declared.kind.Kind.TheVariants as kind;
 ghost use Rattle.xf_print_base.specs.Index.{names_of};
-ghost use Rattle.xf_printed.specs.Unread.{place_text, behind_place, place_texts, behind_places, rest_text, stride_text, window_text};
+ghost use Rattle.xf_printed.specs.Unread.{place_text, behind_place, place_texts, behind_places, rest_text, stride_text};
+ghost use Rattle.xf_printed.specs.Unread.{window_text};
 ghost use Rattle.xf_printed.specs.Words.{listed};
 
 use xf_ir::{Op, SliceIndex, ValueName};
@@ -70,7 +71,8 @@ pub fn write_insert(names: &Index<'_>, op: &Op, line: &mut Vec<u8>) -> Result<()
     Ok(())
 }
 
-/// Appends an offset or a size, where the first operand is the next unknown one, and answers the operands that are left.
+/// Appends an offset or a size, where the first operand is the next unknown one, and answers the operands
+/// that are left.
 fn write_place<'a>(
     names: &Index<'_>,
     operands: &'a [ValueName],

@@ -74,6 +74,7 @@ fn write_value(value: &AttrValue, line: &mut Vec<u8>) -> Result<(), NoMemory>
     }
 }
 
+#[tactic(auto, using(crate::proofs::Texts::entry_text, std::proofs::lemmas::Grind::common_steps))]
 fn write_entry(gap: bool, attr: &Attr, line: &mut Vec<u8>) -> Result<(), NoMemory>
     ensures { OnOk result (line.new.items
         ≡ line.old.items ++ text (begun (gap_of gap) (written language entry_rule (entry_fill attr.now)))) }
@@ -99,6 +100,7 @@ fn write_entries(attrs: &[Attr], line: &mut Vec<u8>) -> Result<(), NoMemory>
 }
 
 /// Appends attributes in braces behind a blank, or nothing where there are none.
+#[tactic(auto, using(crate::proofs::Texts::some_dictionary))]
 pub fn write_dictionary(attrs: &[Attr], line: &mut Vec<u8>) -> Result<(), NoMemory>
     ensures { OnOk result (line.new.items ≡ line.old.items ++ rule_text dictionary_rule (dictionary_fill attrs.now)) }
 {
@@ -114,15 +116,15 @@ pub fn write_dictionary(attrs: &[Attr], line: &mut Vec<u8>) -> Result<(), NoMemo
 }
 
 /// Appends `attributes` and attributes in braces, or nothing where there are none.
+#[tactic(auto, using(crate::proofs::Texts::no_attributes, std::proofs::lemmas::Grind::common_steps))]
 pub fn write_attributes(attrs: &[Attr], line: &mut Vec<u8>) -> Result<(), NoMemory>
     ensures { OnOk result (line.new.items ≡ line.old.items ++ rule_text attributes_rule (attributes_fill attrs.now)) }
 {
     match attrs {
         [] => Ok(()),
         [_, ..] => {
-            line.extend_from_slice(b" attributes {")?;
-            write_entries(attrs, line)?;
-            line.push(b'}')?;
+            line.extend_from_slice(b" attributes")?;
+            write_dictionary(attrs, line)?;
             Ok(())
         }
     }

@@ -8,8 +8,10 @@ ghost use Rattle.xf_print_base.specs.Texts.{digits_text};
 ghost use Rattle.xf_format.specs.Rules.{type_rule, use_rule};
 ghost use Rattle.xf_grammar.specs.Grammar.{gap_of};
 ghost use Rattle.xf_grammar.specs.Layout.{gap_text};
-ghost use Rattle.xf_printed.specs.Items.{argument_use, part_digits, result_use, rule_text, use_fill, value_fill, value_type_fill};
-ghost use Rattle.xf_printed.specs.Names.{no_names, with_op, with_ops, with_regions, first_args, next_number, argument_text, type_of, number_of, first_of};
+ghost use Rattle.xf_printed.specs.Items.{argument_use, part_digits, result_use, rule_text, use_fill, value_fill};
+ghost use Rattle.xf_printed.specs.Items.{value_type_fill};
+ghost use Rattle.xf_printed.specs.Names.{no_names, with_op, with_ops, with_regions, first_args, next_number};
+ghost use Rattle.xf_printed.specs.Names.{argument_text, type_of, number_of, first_of};
 
 use crate::types::write_type;
 use crate::words::{write_gap, write_number};
@@ -18,13 +20,12 @@ use std::collections::BTreeMap;
 use xf_ir::{Block, Op, OpName, ValueName, first_args};
 use xf_type::{NoMemory, PayloadType};
 
-/// What an operation defines: results of one number, and arguments of its first block, which have numbers from `first` on.
+/// An operation with the number of its results, and the first number of the arguments of its first block.
 #[derive(Clone, Copy)]
 pub struct Defined<'a> {
+    pub op: &'a Op,
     pub number: u64,
-    pub results: &'a [PayloadType],
     pub first: u64,
-    pub args: &'a [PayloadType],
 }
 
 /// What the operations of a function define, by their names, and the next numbers.
@@ -70,6 +71,7 @@ fn write_part(results: &[PayloadType], num: u32, line: &mut Vec<u8>) -> Result<(
 }
 
 /// Appends the name of a result.
+#[tactic(auto, using(crate::proofs::Texts::use_text, std::proofs::lemmas::Grind::common_steps))]
 fn write_result(gap: bool, of: Defined<'_>, num: u32, line: &mut Vec<u8>) -> Result<(), NoMemory>
     ensures { OnOk result (line.new.items
         ≡ line.old.items ++ rule_text (use_rule gap) (use_fill (result_use (entry_of of.entry) num))) }
@@ -77,7 +79,7 @@ fn write_result(gap: bool, of: Defined<'_>, num: u32, line: &mut Vec<u8>) -> Res
     write_gap(gap, line)?;
     line.push(b'%')?;
     write_number(u128::from(of.number), line)?;
-    write_part(of.results, num, line)?;
+    write_part(results_of(of), num, line)?;
     Ok(())
 }
 
@@ -92,6 +94,7 @@ pub fn write_argument(gap: bool, number: u128, line: &mut Vec<u8>) -> Result<(),
 }
 
 /// Appends the name of an argument of a block.
+#[tactic(auto, using(crate::proofs::Texts::name_text))]
 fn write_block_argument(
     gap: bool,
     of: Defined<'_>,
@@ -103,6 +106,22 @@ fn write_block_argument(
 {
     write_argument(gap, u128::from(of.first) + u128::from(num), line)?;
     Ok(())
+}
+
+/// The types of an operation's results.
+fn results_of<'a>(of: Defined<'a>) -> &'a [PayloadType]
+    ensures { result.now ≡ (entry_of of.entry).results }
+{
+    let op = of.op;
+    op.results.as_slice()
+}
+
+/// The types of the arguments of its first block.
+fn args_of<'a>(of: Defined<'a>) -> &'a [PayloadType]
+    ensures { result.now ≡ (entry_of of.entry).args }
+{
+    let op = of.op;
+    first_args(op.regions.as_slice())
 }
 
 impl<'a> Index<'a> {
@@ -118,23 +137,19 @@ impl<'a> Index<'a> {
     }
 
     /// Gives an operation its numbers. Refuses for want of memory alone.
-    fn add(
-        &mut self,
-        op: OpName,
-        results: &'a [PayloadType],
-        args: &'a [PayloadType],
-    ) -> Result<(), NoMemory>
-        ensures { OnOk result (names_of self.new ≡ with_op op results.now args.now (names_of self.old)) }
+    fn add(&mut self, op: &'a Op) -> Result<(), NoMemory>
+        ensures { OnOk result (names_of self.new
+            ≡ with_op op.now.name op.now.results (first_args op.now.regions) (names_of self.old)) }
     {
         let defined = Defined {
+            op,
             number: self.number,
-            results,
             first: self.argument,
-            args,
         };
-        self.number = next_number(self.number, results)?;
+        let args = first_args(op.regions.as_slice());
+        self.number = next_number(self.number, op.results.as_slice())?;
         self.argument = sum(self.argument, args.len() as u64)?;
-        self.entries.insert(op.0, defined)?;
+        self.entries.insert(op.name.0, defined)?;
         Ok(())
     }
 
@@ -143,11 +158,7 @@ impl<'a> Index<'a> {
     pub fn add_op(&mut self, op: &'a Op) -> Result<(), NoMemory>
         ensures { OnOk result (names_of self.new ≡ with_ops (names_of self.old) (cons op.now no_ops)) }
     {
-        self.add(
-            op.name,
-            op.results.as_slice(),
-            first_args(op.regions.as_slice()),
-        )?;
+        self.add(op)?;
         self.add_regions(op.regions.as_slice())
     }
 
@@ -224,8 +235,8 @@ impl<'a> Index<'a> {
         ensures { option_copied result ≡ type_of (names_of self.now) value }
     {
         match value {
-            ValueName::Result { op, num } => self.defined(op)?.results.get(num as usize),
-            ValueName::Arg { op, num, .. } => self.defined(op)?.args.get(num as usize),
+            ValueName::Result { op, num } => results_of(self.defined(op)?).get(num as usize),
+            ValueName::Arg { op, num, .. } => args_of(self.defined(op)?).get(num as usize),
             ValueName::Free(_) => None,
         }
     }

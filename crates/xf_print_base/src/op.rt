@@ -1,4 +1,5 @@
-//! An operation's operands, their types, its results and attributes, appended to the line so far. They refuse for want of memory alone.
+//! An operation's operands, their types, its results and attributes, appended to the line so far.
+//! They refuse for want of memory alone.
 ghost use Rattle.std.specs.Prelude.{◌≡◌, ◌++◌, OnOk, false, drop};
 ghost use Rattle.xf_print_base.specs.Index.{names_of};
 ghost use Rattle.xf_printed.specs.Unread.{attrs_text, operand, operand_type, results_text, types_text, uses_text};

@@ -2,13 +2,21 @@
 ghost use Rattle.std.specs.Prelude.{◌≡◌, ◌++◌, OnOk, true, false, codes, slice_get};
 ghost use Rattle.xf_format.specs.declared.expected.Expected.TheVariants as due;
 ghost use Rattle.xf_format.specs.declared.list.Item.TheVariants as item;
-ghost use Rattle.xf_format.specs.Rules.{argument_rule, call_results_rule, enclosed_rule, function_name_rule, function_results_rule, if_results_rule, iter_args_rule, kind_rule, listed_results_rule, literal_rule, loop_width_rule, module_name_rule, predicate_rule, result_types_rule, symbol_rule, width_rule, word_rule};
+ghost use Rattle.xf_format.specs.Rules.{argument_rule, call_results_rule, enclosed_rule, function_name_rule};
+ghost use Rattle.xf_format.specs.Rules.{function_results_rule, if_results_rule, iter_args_rule, kind_rule};
+ghost use Rattle.xf_format.specs.Rules.{listed_results_rule, literal_rule, loop_width_rule, module_name_rule};
+ghost use Rattle.xf_format.specs.Rules.{predicate_rule, result_types_rule, symbol_rule, width_rule, word_rule};
 ghost use Rattle.xf_format.specs.Words.{spelling};
 ghost use Rattle.xf_grammar.specs.Tokens.{close_paren};
 ghost use Rattle.xf_lex.specs.declared.token.TokenKind.TheVariants as token;
 ghost use Rattle.xf_print_base.specs.Index.{names_of};
-ghost use Rattle.xf_printed.specs.Fills.{function_name_fill, is_private, loop_width_fill, module_name_fill, predicate_or_none, scalar_fill, symbol_fill, symbol_or_none, symbol_printed, width_or_none, widths_of};
-ghost use Rattle.xf_printed.specs.Items.{argument_fill, call_results_fill, function_results_fill, if_results_fill, iter_args_fill, listed_results_fill, mark_fill, param_fill, params, result_types_fill, rule_text, type_fill, until_fill, value_fill, value_type_fill, word_fill};
+ghost use Rattle.xf_printed.specs.Fills.{function_name_fill, is_private, loop_width_fill, module_name_fill};
+ghost use Rattle.xf_printed.specs.Fills.{predicate_or_none, scalar_fill, symbol_fill, symbol_or_none, symbol_printed};
+ghost use Rattle.xf_printed.specs.Fills.{width_or_none, widths_of};
+ghost use Rattle.xf_printed.specs.Items.{argument_fill, call_results_fill, function_results_fill, if_results_fill};
+ghost use Rattle.xf_printed.specs.Items.{iter_args_fill, listed_results_fill, mark_fill, param_fill, params};
+ghost use Rattle.xf_printed.specs.Items.{result_types_fill, rule_text, type_fill, until_fill, value_fill};
+ghost use Rattle.xf_printed.specs.Items.{value_type_fill, word_fill};
 
 use crate::index::{Index, write_argument};
 use crate::kinds::{is_private, predicate_or_none, symbol_of, symbol_or_none, width_of};
@@ -142,6 +150,7 @@ pub fn write_first(first: u64, line: &mut Vec<u8>) -> Result<(), NoMemory>
 }
 
 /// Appends values up to a parenthesis.
+#[tactic(auto, using(crate::proofs::Texts::until_text, std::proofs::lemmas::Grind::common_steps))]
 pub fn write_enclosed_uses(
     names: &Index<'_>,
     values: &[ValueName],
@@ -156,6 +165,7 @@ pub fn write_enclosed_uses(
 }
 
 /// Appends the types of values up to a parenthesis.
+#[tactic(auto, using(crate::proofs::Texts::until_text, std::proofs::lemmas::Grind::common_steps))]
 pub fn write_enclosed_types(
     names: &Index<'_>,
     values: &[ValueName],
@@ -170,6 +180,7 @@ pub fn write_enclosed_types(
 }
 
 /// Appends arguments with their types up to a parenthesis.
+#[tactic(auto, using(crate::proofs::Texts::until_text, std::proofs::lemmas::Grind::common_steps))]
 pub fn write_enclosed_params(
     first: u64,
     types: &[PayloadType],
@@ -186,6 +197,7 @@ pub fn write_enclosed_params(
 // ---- results
 
 /// Appends types in parentheses.
+#[tactic(auto, using(crate::proofs::Results::listed_text, std::proofs::lemmas::Grind::common_steps))]
 pub fn write_listed_results(types: &[PayloadType], line: &mut Vec<u8>) -> Result<(), NoMemory>
     ensures { OnOk result (line.new.items
         ≡ line.old.items ++ rule_text listed_results_rule (listed_results_fill types.now)) }
@@ -209,6 +221,7 @@ fn write_result_types(types: &[PayloadType], line: &mut Vec<u8>) -> Result<(), N
 }
 
 /// Appends an arrow and the types of results.
+#[tactic(auto, using(crate::proofs::Results::call_results_text, std::proofs::lemmas::Grind::common_steps))]
 pub fn write_call_results(types: &[PayloadType], line: &mut Vec<u8>) -> Result<(), NoMemory>
     ensures { OnOk result (line.new.items
         ≡ line.old.items ++ rule_text call_results_rule (call_results_fill types.now)) }
@@ -219,6 +232,7 @@ pub fn write_call_results(types: &[PayloadType], line: &mut Vec<u8>) -> Result<(
 }
 
 /// Appends an arrow and the types that a function returns, or nothing for none.
+#[tactic(auto, using(crate::proofs::Results::function_results))]
 pub fn write_function_results(types: &[PayloadType], line: &mut Vec<u8>) -> Result<(), NoMemory>
     ensures { OnOk result (line.new.items
         ≡ line.old.items ++ rule_text function_results_rule (function_results_fill types.now)) }
@@ -239,6 +253,7 @@ fn write_arrow_listed(types: &[PayloadType], line: &mut Vec<u8>) -> Result<(), N
 }
 
 /// Appends an arrow and the types of an if, or nothing for none.
+#[tactic(auto, using(crate::proofs::Results::if_results))]
 pub fn write_if_results(types: &[PayloadType], line: &mut Vec<u8>) -> Result<(), NoMemory>
     ensures { OnOk result (line.new.items
         ≡ line.old.items ++ rule_text if_results_rule (if_results_fill types.now)) }
@@ -249,8 +264,9 @@ pub fn write_if_results(types: &[PayloadType], line: &mut Vec<u8>) -> Result<(),
     }
 }
 
-/// Appends what a loop with results carries: its arguments behind the first, their first values and their types; or nothing for no
-/// results.
+/// Appends what a loop with results carries: its arguments behind the first, their first values and their types;
+/// or nothing for no results.
+#[tactic(auto, using(crate::proofs::Results::iter_args))]
 pub fn write_iter_args(
     names: &Index<'_>,
     first: u64,

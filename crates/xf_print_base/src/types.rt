@@ -47,7 +47,8 @@ fn write_shape(dims: &[Dim], elem: Width, line: &mut Vec<u8>) -> Result<(), NoMe
 /// Appends the type of a tensor of that shape.
 #[tactic(auto, unfolding(xf_format::specs::Rules::type_rule))]
 pub fn write_tensor(gap: bool, shape: &Shape, line: &mut Vec<u8>) -> Result<(), NoMemory>
-    ensures { OnOk result (line.new.items ≡ line.old.items ++ rule_text (type_rule gap) (type_fill (Tensor shape.now))) }
+    ensures { OnOk result (line.new.items
+        ≡ line.old.items ++ rule_text (type_rule gap) (type_fill (Tensor shape.now))) }
 {
     write_word(gap, b"tensor", line)?;
     write_shape(shape.dims.as_slice(), shape.elem, line)

@@ -5,7 +5,8 @@ ghost use Rattle.xf_format.specs.Rules.{language, operands_rule, pair_rule, para
 ghost use Rattle.xf_grammar.specs.Grammar.{begun, gap_of, listed, written};
 ghost use Rattle.xf_grammar.specs.Layout.{text};
 ghost use Rattle.xf_print_base.specs.Index.{names_of};
-ghost use Rattle.xf_printed.specs.Items.{operand_fill, operands_fill, pair_fill, pairs, param_fill, params, rule_text, some_fill, value_fill, value_type_fill};
+ghost use Rattle.xf_printed.specs.Items.{operand_fill, operands_fill, pair_fill, pairs, param_fill, params, rule_text};
+ghost use Rattle.xf_printed.specs.Items.{some_fill, value_fill, value_type_fill};
 ghost use Rattle.xf_printed.specs.Unread.{operand_type};
 
 use crate::index::{Index, write_argument};
@@ -107,6 +108,7 @@ pub fn write_use_types(
 }
 
 /// Appends values and their types, or nothing for no values.
+#[tactic(auto, using(crate::proofs::Texts::some_operands))]
 pub fn write_operands(
     names: &Index<'_>,
     values: &[ValueName],
@@ -132,8 +134,8 @@ fn write_param(
     of: &PayloadType,
     line: &mut Vec<u8>,
 ) -> Result<(), NoMemory>
-    ensures { OnOk result (line.new.items ≡ line.old.items
-        ++ text (begun (gap_of gap) (written language param_rule (param_fill (record { number = number; of = of.now }))))) }
+    ensures { OnOk result (line.new.items ≡ line.old.items ++ text (begun (gap_of gap)
+        (written language param_rule (param_fill (record { number = number; of = of.now }))))) }
 {
     write_argument(gap, number, line)?;
     line.push(b':')?;
@@ -166,8 +168,8 @@ fn write_pair(
     value: ValueName,
     line: &mut Vec<u8>,
 ) -> Result<(), NoMemory>
-    ensures { OnOk result (line.new.items ≡ line.old.items ++ text (begun (gap_of gap)
-        (written language pair_rule (pair_fill (names_of names.now) (record { number = number; first_value = value }))))) }
+    ensures { OnOk result (line.new.items ≡ line.old.items ++ text (begun (gap_of gap) (written language pair_rule
+        (pair_fill (names_of names.now) (record { number = number; first_value = value }))))) }
 {
     write_argument(gap, number, line)?;
     line.extend_from_slice(b" =")?;

@@ -1,114 +1,228 @@
--- A filling that fits a rule behind what is said, and what is said then: one rule behind the other, and lists of items.
-use Rattle.std.proofs.Common.{◌≡◌, ℕ, suc, Bool, true, false, List, [], ◌∷◌, ◌++◌, length, refl, sym, ap, subst, ◌∙◌, append_assoc, append-nil}
-use Rattle.std.specs.Prelude.{map, not}
+-- A filling that fits a rule behind what is said: what is said then, and that its tokens are ones that the lexer reads
+-- as themselves. One rule behind the other, and lists of items.
+use Rattle.std.proofs.Common.{◌≡◌, ℕ, ◌^◌, ◌<◌, Bool, true, false, List, [], ◌∷◌, ◌++◌, length, refl, sym, ap, subst}
+use Rattle.std.proofs.Common.{◌∙◌, arith, length-append}
+use Rattle.std.specs.Prelude.{not, nat_lt, ◌&&◌}
+use Rattle.std.proofs.lemmas.Bool.{lt-ltb}
+use Rattle.xf_type.specs.declared.payload_type.PayloadType.{PayloadType}
+use Rattle.xf_type.specs.Limits.{most_entries}
 use Rattle.xf_lex.specs.declared.token.TokenKind.{TokenKind}
-use Rattle.xf_grammar.specs.Tokens.{Terminal, terminal, is_kind, comma}
-use Rattle.xf_grammar.specs.Grammar.{skip, both, listed, Spaced, tokens_of, Fill, nothing, two, written, tokens, more_tokens, tells, fits, first_seen, more_written, more_tells, more_fits}
-use Rattle.xf_grammar.proofs.Basics.{and_is, not_false}
+use Rattle.xf_grammar.specs.Apart.{IsLexeme, FillLexes}
+use Rattle.xf_grammar.specs.Tokens.{Terminal, terminal, is_kind, comma, close_paren, close_brace}
+use Rattle.xf_grammar.specs.Grammar.{skip, take, peek, both, listed, Spaced, tokens_of, Fill, nothing, yes, here, other}
+use Rattle.xf_grammar.specs.Grammar.{two, written, tokens, more_tokens, tells, fits, first_seen, more_written}
+use Rattle.xf_grammar.specs.Grammar.{more_tells, more_fits}
+use Rattle.xf_grammar.proofs.Basics.{and_is, both_true}
 use Rattle.xf_format.specs.declared.expected.Expected.{Expected}
 use Rattle.xf_format.specs.declared.list.Item.{Item}
-use Rattle.xf_format.specs.Actions.{free_said}
-use Rattle.xf_format.specs.Parts.{Said}
+use Rattle.xf_format.specs.Actions.{Saying, free_said}
+use Rattle.xf_format.specs.Parts.{EntrySaid, UseSaid, Said}
 use Rattle.xf_format.specs.Rules.{Rule, language, kind_rule, item_rule, until_rule}
+use Rattle.xf_format.specs.Tests.{Test, allows}
 use Rattle.xf_ir.specs.Lists.{Each}
 use Rattle.xf_printed.specs.Fills.{mark_fill, more_fill, list_fill, until_fill}
+use Rattle.xf_print_laws.proofs.LayoutTokens.{mark_lexes}
 
--- behind d a filling fits before a token, and then e is said
+-- ---- what is said, with more entries in its lists
+
+abbrev pub add_entries : Said → List EntrySaid → Said
+add_entries d xs = record d { entries = d.entries ++ xs }
+
+abbrev pub add_args : Said → List (List ℕ) → Said
+add_args d xs = record d { args = d.args ++ xs }
+
+abbrev pub add_uses : Said → List UseSaid → Said
+add_uses d xs = record d { uses = d.uses ++ xs }
+
+abbrev pub add_types : Said → List PayloadType → Said
+add_types d xs = record d { types = d.types ++ xs }
+
+abbrev pub add_results : Said → List PayloadType → Said
+add_results d xs = record d { results = d.results ++ xs }
+
+-- none of these lists has 2 ^ 32 entries
+pub record FewIn (es : List EntrySaid) (xs : List (List ℕ)) (us : List UseSaid)
+    (ts rs : List PayloadType) : Type 0 where
+  pub entries : length es < 2 ^ 32
+  pub args : length xs < 2 ^ 32
+  pub uses : length us < 2 ^ 32
+  pub types : length ts < 2 ^ 32
+  pub results : length rs < 2 ^ 32
+
+abbrev pub FewSaid : Said → Type 0
+FewSaid d = FewIn d.entries d.args d.uses d.types d.results
+
+cut : {A : Type 0} (xs ys : List A) → length (xs ++ ys) < 2 ^ 32 → length xs < 2 ^ 32
+cut xs ys few = let e = length-append xs ys in omega arith
+
+pub few_entries : (d : Said) (xs : List EntrySaid) → FewSaid (add_entries d xs) → FewSaid d
+few_entries d xs s =
+    record { entries = cut d.entries xs s.entries; args = s.args; uses = s.uses; types = s.types; results = s.results }
+
+pub few_args : (d : Said) (xs : List (List ℕ)) → FewSaid (add_args d xs) → FewSaid d
+few_args d xs s =
+    record { entries = s.entries; args = cut d.args xs s.args; uses = s.uses; types = s.types; results = s.results }
+
+pub few_uses : (d : Said) (xs : List UseSaid) → FewSaid (add_uses d xs) → FewSaid d
+few_uses d xs s =
+    record { entries = s.entries; args = s.args; uses = cut d.uses xs s.uses; types = s.types; results = s.results }
+
+pub few_types : (d : Said) (xs : List PayloadType) → FewSaid (add_types d xs) → FewSaid d
+few_types d xs s =
+    record { entries = s.entries; args = s.args; uses = s.uses; types = cut d.types xs s.types; results = s.results }
+
+pub few_results : (d : Said) (xs : List PayloadType) → FewSaid (add_results d xs) → FewSaid d
+few_results d xs s =
+    record { entries = s.entries; args = s.args; uses = s.uses; types = s.types; results = cut d.results xs s.results }
+
+-- where there are few with one more, there is room for it
+pub room : {A : Type 0} (xs : List A) (x : A) → length (xs ++ x ∷ []) < 2 ^ 32 → nat_lt (length xs) most_entries ≡ true
+room xs x few = let e = length-append xs (x ∷ []) in lt-ltb (length xs) most_entries (omega (arith, e, few))
+
+-- ---- one filling, and one behind the other
+
+-- behind d a filling fits before a token, and then e is said, where that has few entries
 pub record Goes (g : Rule) (f : Fill) (y : Terminal) (d e : Said) : Type 0 where
-  pub fit : fits language g f y (free_said d) ≡ true
+  pub fit : FewSaid e → fits language g f y (free_said d) ≡ true
   pub say : tells language g f (free_said d) ≡ free_said e
+  pub few : FewSaid e → FewSaid d
+  pub lex : FillLexes f
 
 pub skips : {y : Terminal} {d : Said} → Goes skip nothing y d d
-skips = record { fit = refl; say = refl }
+skips = record { fit = λ s. refl; say = refl; few = λ s. s; lex = tt }
 
--- one behind the other
-pub both_go : {g k : Rule} {f p : Fill} {y : Terminal} {d e s : Said} → Goes g f (first_seen (tokens language k p) y) d e → Goes k p y e s → Goes (both g k) (two f p) y d s
-both_go {k = k} {p = p} {y = y} a b =
-    record { fit = and_is _ _ a.fit (subst (λ t. fits language k p y t ≡ true) (sym a.say) b.fit); say = ap (tells language k p) a.say ∙ b.say }
+pub both_go : {g k : Rule} {f p : Fill} {y : Terminal} {d e s : Said}
+    → Goes g f (first_seen (tokens language k p) y) d e → Goes k p y e s → Goes (both g k) (two f p) y d s
+both_go {k = k} {p = p} {y = y} a b = record {
+  fit = λ s. and_is _ _ (a.fit (b.few s)) (subst (λ t. fits language k p y t ≡ true) (sym a.say) (b.fit s));
+  say = ap (tells language k p) a.say ∙ b.say;
+  few = λ s. a.few (b.few s);
+  lex = (a.lex, b.lex);
+}
+
+-- a token that is not held, and what follows it
+pub take_goes : {gap : Bool} {test : Test} {x : Terminal} {on off : Rule} {f : Fill} {y : Terminal} {d e : Said}
+    → IsLexeme x → allows test x (free_said d) ≡ true → Goes on f y d e
+    → Goes (take gap false test on off) (yes x f) y d e
+take_goes l a g = record { fit = λ s. and_is _ _ a (g.fit s); say = g.say; few = g.few; lex = (l, g.lex) }
+
+-- the other way, before a token that does not pass the test
+pub off_goes : {gap keep : Bool} {test : Test} {on off : Rule} {f : Fill} {y : Terminal} {d e : Said}
+    → not (allows test (first_seen (tokens language off f) y) (free_said d)) ≡ true → Goes off f y d e
+    → Goes (take gap keep test on off) (other f) y d e
+off_goes a g = record { fit = λ s. and_is _ _ a (g.fit s); say = g.say; few = g.few; lex = g.lex }
+
+pub peek_goes : {test : Test} {on off : Rule} {f : Fill} {y : Terminal} {d e : Said}
+    → allows test (first_seen (tokens language on f) y) (free_said d) ≡ true → Goes on f y d e
+    → Goes (peek test on off) (here f) y d e
+peek_goes a g = record { fit = λ s. and_is _ _ a (g.fit s); say = g.say; few = g.few; lex = g.lex }
+
+pub peek_off_goes : {test : Test} {on off : Rule} {f : Fill} {y : Terminal} {d e : Said}
+    → not (allows test (first_seen (tokens language off f) y) (free_said d)) ≡ true → Goes off f y d e
+    → Goes (peek test on off) (other f) y d e
+peek_off_goes a g = record { fit = λ s. and_is _ _ a (g.fit s); say = g.say; few = g.few; lex = g.lex }
 
 -- what is said, written in another way
 pub so_said : {g : Rule} {f : Fill} {y : Terminal} {d e s : Said} → e ≡ s → Goes g f y d e → Goes g f y d s
-so_said q a = record { fit = a.fit; say = a.say ∙ ap free_said q }
+so_said {g} {f} {y} {d} q a = subst (Goes g f y d) q a
 
 -- a token that says nothing
-pub silent_goes : (gap : Bool) (due : Expected) (k : TokenKind) {y : Terminal} {d : Said} → is_kind k (terminal k []) ≡ true → Goes (kind_rule gap due k) (mark_fill k) y d d
+pub silent_goes : (gap : Bool) (due : Expected) (k : TokenKind) {y : Terminal} {d : Said} → IsLexeme (terminal k [])
+    → is_kind k (terminal k []) ≡ true → Goes (kind_rule gap due k) (mark_fill k) y d d
 unfolding kind_rule
-silent_goes gap due k e = record { fit = rw e refl; say = refl }
+silent_goes gap due k l e = take_goes l e skips
 
--- ---- items
+-- ---- lists of items
 
--- what items say, one behind the other
-abbrev pub items_say : {A : Type 0} → (A → Said → Said) → List A → Said → Said
-items_say say [] d = d
-items_say say (x ∷ xs) d = items_say say xs (say x d)
+-- the first token of one behind the other
+pub seen_both : (ps qs : List Spaced) (y : Terminal)
+    → first_seen (tokens_of (ps ++ qs)) y ≡ first_seen (tokens_of ps) (first_seen (tokens_of qs) y)
+seen_both [] qs y = refl
+seen_both (p ∷ ps) qs y = refl
 
--- an item fits before each token that may stand behind it, where there is room for it: so much is said of it
-pub record Items {A : Type 0} (g : Rule) (fill : A → Fill) (say : A → Said → Said) (Good : A → Type 0) (Room : ℕ → Said → Type 0) (may : Terminal → Bool) : Type 0 where
-  pub one : (x : A) (n : ℕ) (y : Terminal) (d : Said) → Good x → Room (suc n) d → may y ≡ true → Goes g (fill x) y d (say x d)
-  pub more : (x : A) (n : ℕ) (d : Said) → Room (suc n) d → Room n (say x d)
+-- no token that ends a list
+abbrev pub begins_item : Terminal → Bool
+begins_item y = not (is_kind close_paren y) && not (is_kind close_brace y)
+
+-- an item fits before each token that may stand behind it; what items say
+pub record Items {A : Type 0} (g : Rule) (fill : A → Fill) (put : List A → Said → Said) (Good : A → Type 0)
+    (may : Terminal → Bool) : Type 0 where
+  pub one : (x : A) (y : Terminal) (d : Said) → Good x → may y ≡ true → Goes g (fill x) y d (put (x ∷ []) d)
+  pub begins : (x : A) (y : Terminal) → Good x → begins_item (first_seen (tokens language g (fill x)) y) ≡ true
+  pub none : (d : Said) → d ≡ put [] d
+  pub more : (x : A) (xs : List A) (d : Said) → Good x → put xs (put (x ∷ []) d) ≡ put (x ∷ xs) d
   pub behind : may (terminal comma []) ≡ true
 
+-- further items
 record MoreGo (g : Rule) (r : Fill) (y : Terminal) (d e : Said) : Type 0 where
-  fit : more_fits (written language g) (tells language g) (fits language g) r y (free_said d) ≡ true
+  fit : FewSaid e → more_fits (written language g) (tells language g) (fits language g) r y (free_said d) ≡ true
   say : more_tells (tells language g) r (free_said d) ≡ free_said e
+  few : FewSaid e → FewSaid d
+  lex : FillLexes r
 
-module _ {A : Type 0} (g : Rule) (fill : A → Fill) (say : A → Said → Said) (Good : A → Type 0) (Room : ℕ → Said → Type 0) (may : Terminal → Bool) (items : Items g fill say Good Room may) where
-  may_follow : (xs : List A) (y : Terminal) → may y ≡ true → may (first_seen (more_tokens language g (more_fill fill xs)) y) ≡ true
+module _ {A : Type 0} {g : Rule} {fill : A → Fill} {put : List A → Said → Said} {Good : A → Type 0}
+    {may : Terminal → Bool} (items : Items g fill put Good may) where
+  may_follow : (xs : List A) (y : Terminal) → may y ≡ true
+      → may (first_seen (more_tokens language g (more_fill fill xs)) y) ≡ true
   may_follow [] y e = e
   may_follow (x ∷ xs) y e = items.behind
 
-  more_go : (xs : List A) (y : Terminal) (d : Said) → Each Good xs → Room (length xs) d → may y ≡ true → not (is_kind comma y) ≡ true → MoreGo g (more_fill fill xs) y d (items_say say xs d)
-  more_go [] y d h room m c = record { fit = c; say = refl }
-  more_go (x ∷ xs) y d h room m c =
-      let a = items.one x (length xs) _ d h.0 room (may_follow xs y m) in
-      let b = more_go xs y (say x d) h.1 (items.more x (length xs) d room) m c in
-      record {
-        fit = and_is _ _ a.fit (subst (λ t. more_fits (written language g) (tells language g) (fits language g) (more_fill fill xs) y t ≡ true) (sym a.say) b.fit);
+  step : (x : A) (xs : List A) (y : Terminal) (d : Said) → Good x → may y ≡ true
+      → MoreGo g (more_fill fill xs) y (put (x ∷ []) d) (put xs (put (x ∷ []) d))
+      → Goes (listed g) (list_fill fill x xs) y d (put (x ∷ xs) d)
+  step x xs y d h m b =
+      let a = items.one x _ d h (may_follow xs y m) in
+      let k : Fill → Terminal → Saying → Bool = more_fits (written language g) (tells language g) (fits language g) in
+      so_said (items.more x xs d h) (record {
+        fit = λ s. and_is _ _ (a.fit (b.few s)) (subst (λ t. k (more_fill fill xs) y t ≡ true) (sym a.say) (b.fit s));
         say = ap (more_tells (tells language g) (more_fill fill xs)) a.say ∙ b.say;
-      }
+        few = λ s. a.few (b.few s);
+        lex = (a.lex, b.lex);
+      })
+
+  more_go : (xs : List A) (y : Terminal) (d : Said) → Each Good xs → may y ≡ true → not (is_kind comma y) ≡ true
+      → MoreGo g (more_fill fill xs) y d (put xs d)
+  more_go [] y d h m c =
+      subst (MoreGo g nothing y d) (items.none d) (record { fit = λ s. c; say = refl; few = λ s. s; lex = tt })
+  more_go (x ∷ xs) y d h m c =
+      let a = step x xs y d h.0 m (more_go xs y (put (x ∷ []) d) h.1 m c) in
+      record { fit = a.fit; say = a.say; few = a.few; lex = a.lex }
 
   -- items before a token that is no comma
-  pub list_goes : (x : A) (xs : List A) (y : Terminal) (d : Said) → Each Good (x ∷ xs) → Room (suc (length xs)) d → may y ≡ true → not (is_kind comma y) ≡ true
-      → Goes (listed g) (list_fill fill x xs) y d (items_say say (x ∷ xs) d)
-  list_goes x xs y d h room m c =
-      let a = items.one x (length xs) _ d h.0 room (may_follow xs y m) in
-      let b = more_go xs y (say x d) h.1 (items.more x (length xs) d room) m c in
-      record {
-        fit = and_is _ _ a.fit (subst (λ t. more_fits (written language g) (tells language g) (fits language g) (more_fill fill xs) y t ≡ true) (sym a.say) b.fit);
-        say = ap (more_tells (tells language g) (more_fill fill xs)) a.say ∙ b.say;
-      }
+  pub list_goes : (x : A) (xs : List A) (y : Terminal) (d : Said) → Each Good (x ∷ xs) → may y ≡ true
+      → not (is_kind comma y) ≡ true → Goes (listed g) (list_fill fill x xs) y d (put (x ∷ xs) d)
+  list_goes x xs y d h m c = step x xs y d h.0 m (more_go xs y (put (x ∷ []) d) h.1 m c)
 
--- a token that is seen first is seen before others too, where it is not the end of a list
-pub first_apart : (k : TokenKind) (ps qs : List Spaced) (y : Terminal) → is_kind k (terminal k []) ≡ true → is_kind k (first_seen (tokens_of ps) (terminal k [])) ≡ false → not (is_kind k (first_seen (tokens_of (ps ++ qs)) y)) ≡ true
-first_apart k [] qs y own e = absurd (let z = sym own ∙ e in cc)
-first_apart k (p ∷ ps) qs y own e = not_false _ e
+-- a token that ends a list of items
+pub record Ends (may : Terminal → Bool) (close : TokenKind) : Type 0 where
+  pub own : is_kind close (terminal close []) ≡ true
+  pub may_end : may (terminal close []) ≡ true
+  pub comma : not (is_kind comma (terminal close [])) ≡ true
+  pub lex : IsLexeme (terminal close [])
+  pub apart : (y : Terminal) → begins_item y ≡ true → not (is_kind close y) ≡ true
+
+pub paren_ends : {may : Terminal → Bool} → may (terminal close_paren []) ≡ true → Ends may close_paren
+paren_ends e =
+    record { own = refl; may_end = e; comma = refl; lex = mark_lexes 41 refl; apart = λ y b. (both_true _ _ b).0 }
+
+pub brace_ends : {may : Terminal → Bool} → may (terminal close_brace []) ≡ true → Ends may close_brace
+brace_ends e =
+    record { own = refl; may_end = e; comma = refl; lex = mark_lexes 125 refl; apart = λ y b. (both_true _ _ b).1 }
 
 -- items up to a token that ends them and begins none
-pub until_goes : {A : Type 0} (i : Item) (fill : A → Fill) (say : A → Said → Said) (Good : A → Type 0) (Room : ℕ → Said → Type 0) (may : Terminal → Bool) → Items (item_rule i) fill say Good Room may
-    → (close : TokenKind) (due : Expected) → is_kind close (terminal close []) ≡ true → may (terminal close []) ≡ true → not (is_kind comma (terminal close [])) ≡ true
-    → ((x : A) → Good x → is_kind close (first_seen (tokens language (item_rule i) (fill x)) (terminal close [])) ≡ false)
-    → (xs : List A) (y : Terminal) (d : Said) → Each Good xs → Room (length xs) d → Goes (until_rule close due i) (until_fill close fill xs) y d (items_say say xs d)
+pub until_goes : {A : Type 0} {fill : A → Fill} {put : List A → Said → Said} {Good : A → Type 0}
+    {may : Terminal → Bool} (i : Item) (close : TokenKind) (due : Expected) → Items (item_rule i) fill put Good may
+    → Ends may close → (xs : List A) (y : Terminal) (d : Said) → Each Good xs
+    → Goes (until_rule close due i) (until_fill close fill xs) y d (put xs d)
 unfolding until_rule kind_rule
-until_goes i fill say Good Room may items close due own m c opens [] y d h room = record { fit = rw own refl; say = refl }
-until_goes i fill say Good Room may items close due own m c opens (x ∷ xs) y d h room =
-    let a = list_goes (item_rule i) fill say Good Room may items x xs (terminal close []) d h room m c in
-    let b : Goes (both (listed (item_rule i)) (kind_rule false due close)) (two (list_fill fill x xs) (mark_fill close)) y d (items_say say (x ∷ xs) d) = both_go a (silent_goes false due close own) in
+until_goes i close due items ends [] y d h = so_said (items.none d) (take_goes ends.lex ends.own skips)
+until_goes {fill = fill} {put = put} i close due items ends (x ∷ xs) y d h =
+    let b : Goes (both (listed (item_rule i)) (kind_rule false due close))
+    (two (list_fill fill x xs) (mark_fill close)) y d (put (x ∷ xs) d) =
+    both_go (list_goes items x xs (terminal close []) d h ends.may_end ends.comma)
+    (silent_goes false due close ends.lex ends.own) in
     let first = written language (item_rule i) (fill x) in
     let more = more_written (written language (item_rule i)) (more_fill fill xs) in
     let end = written language (kind_rule false due close) (mark_fill close) in
-    let apart = first_apart close first (more ++ end) y own (opens x h.0) in
-    record { fit = and_is _ _ (subst (λ ps. not (is_kind close (first_seen (tokens_of ps) y)) ≡ true) (sym (append_assoc first more end)) apart) b.fit; say = b.say }
-
--- ---- items that are put at the end of a list of what is said
-
--- one list of it
-pub record Field {B : Type 0} (get : Said → List B) (set : Said → List B → Said) : Type 0 where
-  pub same : (d : Said) (xs : List B) → get (set d xs) ≡ xs
-  pub again : (d : Said) (xs ys : List B) → set (set d xs) ys ≡ set d ys
-  pub kept : (d : Said) → set d (get d) ≡ d
-
-pub appended : {A B : Type 0} (get : Said → List B) (set : Said → List B → Said) → Field get set → (h : A → B) (xs : List A) (d : Said) → items_say (λ x e. set e (get e ++ h x ∷ [])) xs d ≡ set d (get d ++ map h xs)
-appended get set f h [] d = sym (f.kept d) ∙ ap (set d) (sym (append-nil (get d)))
-appended get set f h (x ∷ xs) d =
-    let e : Said = set d (get d ++ h x ∷ []) in
-    appended get set f h xs e ∙ (f.again d (get d ++ h x ∷ []) (get e ++ map h xs) ∙ ap (set d) (ap (λ ys. ys ++ map h xs) (f.same d (get d ++ h x ∷ [])) ∙ append_assoc (get d) (h x ∷ []) (map h xs)))
+    let seen = seen_both (first ++ more) end y ∙ seen_both first more (first_seen (tokens_of end) y) in
+    off_goes (subst (λ z. not (is_kind close z) ≡ true) (sym seen) (ends.apart _ (items.begins x _ h.0))) b

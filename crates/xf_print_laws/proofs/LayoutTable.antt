@@ -1,24 +1,31 @@
 -- No tokens of an operation run together, whatever its row: computed over the table.
-use Rattle.std.proofs.Common.{◌≡◌, inl, inr, ℕ, Bool, true, false, List, [], ◌∷◌, Option, Some, None, refl, ap, subst, arith}
+use Rattle.std.proofs.Common.{◌≡◌, inl, inr, ℕ, Bool, true, false, List, [], ◌∷◌, Option, Some, None, refl, ap, subst}
+use Rattle.std.proofs.Common.{arith}
 use Rattle.std.specs.Prelude.{codes, is_some}
 use Rattle.std.specs.Str.{bytes_eq}
 use Rattle.std.proofs.lemmas.Slice.Eq.{bytes_eq-Decides}
 use Rattle.std.proofs.lemmas.Bool.Decides.{nat_tests}
 use Rattle.xf_lex.specs.declared.token.TokenKind.{TokenKind}
 use Rattle.xf_lex.specs.declared.token.TokenKind.TheVariants as kind
-use Rattle.xf_grammar.specs.Tokens.{Terminal, the_end, terminal, same_kind, is_kind, is_word, is_index}
+use Rattle.xf_grammar.specs.Tokens.{Terminal, the_end, terminal, same_kind, is_kind, is_word, is_index, word_of}
 use Rattle.xf_grammar.specs.Apart.{Before, a_token, before, Classes, Among, Classed, RowsApart, ShapeLexes}
 use Rattle.xf_grammar.proofs.Basics.{both_true}
 use Rattle.xf_grammar.proofs.LaidOut.{known_token}
-use Rattle.xf_format.specs.declared.row.Level.{Level}
 use Rattle.xf_format.specs.declared.row.Row.{Row}
 use Rattle.xf_format.specs.declared.row.Row.TheVariants as row
 use Rattle.xf_format.specs.Actions.{Action, tensor_type, unread_rest, Saying}
 use Rattle.xf_format.specs.Format.{format}
-use Rattle.xf_format.specs.Rules.{language, kind_rule, word_rule, symbol_rule, module_name_rule, function_name_rule, argument_rule, use_rule, width_rule, type_rule, result_rule, predicate_rule, block_name_rule, number_rule, literal_rule, entry_width_rule, entry_number_rule, entry_value_rule, entry_rule, param_rule, pair_rule, until_rule, dictionary_rule, attributes_rule, result_types_rule, call_results_rule, function_results_rule, listed_results_rule, if_results_rule, operands_rule, iter_args_rule, loop_width_rule, row_rule, defines_rule, head_rule}
-use Rattle.xf_format.specs.Tests.{Test, of_kind, of_word, short_symbol, short_word, short_text, an_index, a_width, a_predicate, integer_for, width_for, an_operation, an_unread, a_result, State}
-use Rattle.xf_format.specs.Words.{is_width, is_predicate, row_begun, opens, opens_unread}
-use Rattle.xf_format.specs.Rows.{has_operations}
+use Rattle.xf_format.specs.Rules.{language, kind_rule, word_rule, symbol_rule, module_name_rule, function_name_rule}
+use Rattle.xf_format.specs.Rules.{argument_rule, use_rule, width_rule, type_rule, result_rule, predicate_rule}
+use Rattle.xf_format.specs.Rules.{block_name_rule, number_rule, literal_rule, entry_width_rule, entry_number_rule}
+use Rattle.xf_format.specs.Rules.{entry_value_rule, entry_rule, param_rule, pair_rule, until_rule, dictionary_rule}
+use Rattle.xf_format.specs.Rules.{attributes_rule, result_types_rule, call_results_rule, function_results_rule}
+use Rattle.xf_format.specs.Rules.{listed_results_rule, if_results_rule, operands_rule, iter_args_rule, loop_width_rule}
+use Rattle.xf_format.specs.Rules.{row_rule, defines_rule, head_rule}
+use Rattle.xf_format.specs.Tests.{Test, of_kind, of_word, short_symbol, short_word, short_text, an_index, a_width}
+use Rattle.xf_format.specs.Tests.{a_predicate, integer_for, width_for, an_operation, an_unread, a_result, State}
+use Rattle.xf_format.specs.Words.{Table, lookup, widths, predicates, is_width, row_begun, opens, opens_unread}
+use Rattle.xf_format.specs.Rows.{words, has_operations}
 
 -- ---- what the tokens that pass a test stand as
 
@@ -72,41 +79,28 @@ kind_there k bytes = inl refl
 
 of_kind_there : (k : TokenKind) (y : Terminal) → is_kind k y ≡ true → Among (before y) (kinds k)
 of_kind_there k the_end e = absurd cc
-of_kind_there k (terminal j bytes) e = subst (λ i. Among (before (terminal j bytes)) (kinds i)) (same_kind_is j k e) (kind_there j bytes)
+of_kind_there k (terminal j bytes) e =
+    subst (λ i. Among (before (terminal j bytes)) (kinds i)) (same_kind_is j k e) (kind_there j bytes)
 
 of_word_there : (w : List ℕ) (y : Terminal) → is_word w y ≡ true → Among (before y) (class (of_word w))
-of_word_there w the_end e = absurd cc
-of_word_there w (terminal kind.Word bytes) e = let q : bytes ≡ w = (bytes_eq-Decides bytes w).0 e in inl (ap (λ b. a_token kind.Word (bytes_eq b (codes "tensor"))) q)
-of_word_there w (terminal k bytes) e = absurd cc
+of_word_there w (terminal kind.Word bytes) e =
+    let q : bytes ≡ w = (bytes_eq-Decides bytes w).0 e in inl
+    (ap (λ b. a_token kind.Word (bytes_eq b (codes "tensor"))) q)
+of_word_there w y e = absurd cc
 
 -- only words have a meaning
-width_there : (y : Terminal) → is_width y ≡ true → Among (before y) (kinds kind.Word)
-width_there the_end e = absurd cc
-width_there (terminal kind.Word bytes) e = kind_there kind.Word bytes
-width_there (terminal k bytes) e = absurd cc
-
-predicate_there : (y : Terminal) → is_predicate y ≡ true → Among (before y) (kinds kind.Word)
-predicate_there the_end e = absurd cc
-predicate_there (terminal kind.Word bytes) e = kind_there kind.Word bytes
-predicate_there (terminal k bytes) e = absurd cc
-
-row_there : (y : Terminal) → is_some (row_begun y) ≡ true → Among (before y) (kinds kind.Word)
-row_there the_end e = absurd cc
-row_there (terminal kind.Word bytes) e = kind_there kind.Word bytes
-row_there (terminal k bytes) e = absurd cc
+found_there : {A : Type 0} (table : Table A) (y : Terminal) → lookup table [] ≡ None
+    → is_some (lookup table (word_of y)) ≡ true → Among (before y) (kinds kind.Word)
+found_there table (terminal kind.Word bytes) n e = kind_there kind.Word bytes
+found_there table y n e = absurd (let z = ap is_some n in cc)
 
 index_there : (y : Terminal) → is_index y ≡ true → Among (before y) (kinds kind.Hash)
-index_there the_end e = absurd cc
 index_there (terminal kind.Hash bytes) e = kind_there kind.Hash bytes
-index_there (terminal k bytes) e = absurd cc
+index_there y e = absurd cc
 
-opens_some : (l : Level) (r : Option Row) → opens l r ≡ true → is_some r ≡ true
-opens_some l None e = absurd cc
-opens_some l (Some r) e = refl
-
-opens_unread_some : (l : Level) (r : Option Row) → opens_unread l r ≡ true → is_some r ≡ true
-opens_unread_some l None e = absurd cc
-opens_unread_some l (Some r) e = refl
+some_of : (p : Option Row → Bool) (r : Option Row) → p None ≡ false → p r ≡ true → is_some r ≡ true
+some_of p None n e = absurd cc
+some_of p (Some r) n e = refl
 
 classed : (x : Test) (y : Terminal) (t : Saying) → language.allows x y t ≡ true → Among (before y) (class x)
 classed (of_kind k) y t e = of_kind_there k y e
@@ -115,12 +109,12 @@ classed short_symbol y t e = of_kind_there kind.Symbol y (both_true (is_kind kin
 classed short_word y t e = of_kind_there kind.Word y (both_true (is_kind kind.Word y) _ e).0
 classed short_text y t e = of_kind_there kind.Text y (both_true (is_kind kind.Text y) _ e).0
 classed an_index y t e = index_there y e
-classed a_width y t e = width_there y e
-classed a_predicate y t e = predicate_there y e
+classed a_width y t e = found_there widths y refl e
+classed a_predicate y t e = found_there predicates y refl e
 classed (integer_for negative w) y t e = of_kind_there kind.Integer y (both_true (is_kind kind.Integer y) _ e).0
-classed (width_for negative) y t e = width_there y (both_true (is_width y) _ e).0
-classed (an_operation l) y t e = row_there y (opens_some l (row_begun y) e)
-classed (an_unread l) y t e = row_there y (opens_unread_some l (row_begun y) e)
+classed (width_for negative) y t e = found_there widths y refl (both_true (is_width y) _ e).0
+classed (an_operation l) y t e = found_there words y refl (some_of (opens l) (row_begun y) refl e)
+classed (an_unread l) y t e = found_there words y refl (some_of (opens_unread l) (row_begun y) refl e)
 classed (a_result l) y t e = of_kind_there kind.Value y (both_true (has_operations l) _ e).1
 
 never_space : (k : Action) (t : Saying) → never k ≡ true → language.space k t ≡ false
@@ -134,21 +128,13 @@ known_classes = record { classed = classed; never = never_space; scanned = λ m 
 -- ---- the rows
 
 pub rows_apart : RowsApart format classes
-unfolding kind_rule word_rule symbol_rule module_name_rule function_name_rule argument_rule use_rule width_rule type_rule result_rule predicate_rule block_name_rule number_rule literal_rule entry_width_rule entry_number_rule entry_value_rule entry_rule param_rule pair_rule until_rule dictionary_rule attributes_rule result_types_rule call_results_rule function_results_rule listed_results_rule if_results_rule operands_rule iter_args_rule loop_width_rule row_rule defines_rule head_rule
+unfolding kind_rule word_rule symbol_rule module_name_rule function_name_rule argument_rule use_rule width_rule
+    type_rule result_rule predicate_rule block_name_rule number_rule literal_rule entry_width_rule entry_number_rule
+    entry_value_rule entry_rule param_rule pair_rule until_rule dictionary_rule attributes_rule result_types_rule
+    call_results_rule function_results_rule listed_results_rule if_results_rule operands_rule iter_args_rule
+    loop_width_rule row_rule defines_rule head_rule
 rows_apart l row.Module = refl
-rows_apart l row.Function = refl
-rows_apart l row.Return = refl
-rows_apart l row.Call = refl
-rows_apart l row.Constant = refl
-rows_apart l (row.Binary k) = refl
-rows_apart l row.Compare = refl
-rows_apart l row.Select = refl
-rows_apart l (row.Convert k) = refl
-rows_apart l row.For = refl
-rows_apart l row.If = refl
-rows_apart l row.Yield = refl
-rows_apart l row.Other = refl
-rows_apart l row.Generic = refl
+rows_apart l r = refl
 
 pub shapes_lex : (r : Row) → ShapeLexes (format.shape r)
 shapes_lex row.Module = known_token kind.Word (codes "else") refl refl refl

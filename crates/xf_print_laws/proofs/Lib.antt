@@ -1,14 +1,8 @@
-pub mod Attributes
 pub mod Count
-pub mod Docs
 pub mod Entries
-pub mod Fields
 pub mod Fitted
-pub mod Fitting
 pub mod Goes
-pub mod Heads
 pub mod LayoutDocs
-pub mod LayoutFills
 pub mod LayoutTable
 pub mod LayoutTokens
 pub mod Lists
@@ -19,6 +13,6 @@ pub mod Printed
 pub mod Rows
 pub mod Signed
 pub mod Single
+pub mod Slots
 pub mod Strings
-pub mod Symbols
 pub mod Words

@@ -11,11 +11,11 @@ use Rattle.xf_print_laws.specs.Laws.{PrintedFits, PrintedSaysHeads, PrintedHasFe
 use Rattle.xf_print_laws.specs.SaidPrinted.{printed_said}
 use Rattle.xf_print_laws.specs.Stored.{IsStored}
 use Rattle.xf_print_laws.proofs.Count.{module_few}
-use Rattle.xf_print_laws.proofs.Docs.{DocsGo}
 use Rattle.xf_print_laws.proofs.Fitted.{module_fits}
-use Rattle.xf_print_laws.proofs.Operations.{module_goes}
+use Rattle.xf_print_laws.proofs.Operations.{DocsGo, module_goes}
 
-printed_goes : (m : Module) → IsValid m → IsCore m → IsStored m → IsWithinLimits m → DocsGo level.File 0 (module_docs m) the_end (printed_said m)
+pub printed_goes : (m : Module) → IsValid m → IsCore m → IsStored m → IsWithinLimits m
+    → DocsGo level.File 0 (module_docs m) the_end (printed_said m)
 printed_goes m v core st within =
     let w = module_fits m v core st within.number in
     module_goes m w (subst (RegionsNest 0) w.one within.nesting).1.0

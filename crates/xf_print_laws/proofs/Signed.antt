@@ -3,16 +3,23 @@ use Rattle.std.proofs.Common.{◌≡◌, ◌⊎◌, inl, inr, ℕ, suc, ◌+◌,
 use Rattle.std.specs.Prelude.{ℤ, pos, negsuc, ◌-ℤ◌, nat_lt, if◌then◌else◌}
 use Rattle.std.proofs.lemmas.Bool.{le-leb, ltb-true}
 use Rattle.std.proofs.lemmas.Bool.Decides.{nat_tests}
+use Rattle.std.proofs.lemmas.Fmt.{decimal_is_IsNumeral}
 use Rattle.std.proofs.lemmas.Int.{ints}
+use Rattle.std.specs.Fmt.{decimal}
 use Rattle.xf_type.specs.declared.payload_type.Width.{Width}
-use Rattle.xf_type.specs.declared.payload_type.Width.TheVariants.{I1, I8, I16, I32, I64, Index}
+use Rattle.xf_type.specs.declared.payload_type.Width.TheVariants.{I1, I64}
 use Rattle.xf_type.specs.Integers.{bits_of, signed_value}
 use Rattle.xf_lex.specs.declared.token.TokenKind.TheVariants as token
-use Rattle.xf_grammar.specs.Tokens.{terminal}
+use Rattle.xf_grammar.specs.Apart.{IsLexeme}
+use Rattle.xf_grammar.specs.Tokens.{terminal, number_of}
 use Rattle.xf_format.specs.Tests.{room_for}
 use Rattle.xf_ir.specs.RuleAttributes.{fits_bits}
 use Rattle.xf_printed.specs.Fills.{has_minus, digits_of}
-use Rattle.xf_print_laws.proofs.Single.{number_is}
+use Rattle.xf_print_laws.proofs.LayoutTokens.{integer_lexes}
+
+-- the digits of a number below 2 ^ 64 write it
+pub number_is : (n : ℕ) → n < 2 ^ 64 → number_of (decimal n) ≡ n
+number_is n lt = let e = (decimal_is_IsNumeral n lt).1 in rw e (grind (arith, nat_tests))
 
 -- an integer with as much room as so many bits have
 abbrev InRange : ℕ → ℕ → ℤ → Type 0
@@ -40,9 +47,12 @@ in_range n half full h e = elim (low_or_high n half) [
 ]
 
 -- with its sign and digits, a width of that many bits or more has room for it
-room : (w : Width) (half full : ℕ) (z : ℤ) → InRange half full z → half ≤ 2 ^ (bits_of w - 1) → full ≤ 2 ^ bits_of w → full ≤ 2 ^ 64 → half ≤ 2 ^ 63 → room_for w (has_minus z) (terminal token.Integer (digits_of z)) ≡ true
-room w half full (pos n) h p q r s = let e = number_is n (omega arith) in rw e (le-leb n (2 ^ bits_of w - 1) (omega arith))
-room w half full (negsuc n) h p q r s = let e = number_is (suc n) (omega arith) in rw e (le-leb (suc n) (2 ^ (bits_of w - 1)) (omega arith))
+room : (w : Width) (half full : ℕ) (z : ℤ) → InRange half full z → half ≤ 2 ^ (bits_of w - 1) → full ≤ 2 ^ bits_of w
+    → full ≤ 2 ^ 64 → half ≤ 2 ^ 63 → room_for w (has_minus z) (terminal token.Integer (digits_of z)) ≡ true
+room w half full (pos n) h p q r s =
+    let e = number_is n (omega arith) in rw e (le-leb n (2 ^ bits_of w - 1) (omega arith))
+room w half full (negsuc n) h p q r s =
+    let e = number_is (suc n) (omega arith) in rw e (le-leb (suc n) (2 ^ (bits_of w - 1)) (omega arith))
 
 -- the digits of an integer are those of a number below 2 ^ 64
 abbrev pub IsShort : ℤ → Type 0
@@ -53,20 +63,35 @@ range_short : (half full : ℕ) (z : ℤ) → InRange half full z → full ≤ 2
 range_short half full (pos n) h p q = omega arith
 range_short half full (negsuc n) h p q = omega arith
 
--- a number of a width: there is room for it in the width and in 64 bits, and its digits are those of a number of 64 bits
+digits_lex : (z : ℤ) → IsShort z → IsLexeme (terminal token.Integer (digits_of z))
+digits_lex (pos n) h = integer_lexes n h
+digits_lex (negsuc n) h = integer_lexes (suc n) h
+
+-- a number of a width: there is room for it in the width and in 64 bits, and its digits are those of a number of 64
+-- bits
 pub record Roomy (w : Width) (z : ℤ) : Type 0 where
   pub here : room_for w (has_minus z) (terminal token.Integer (digits_of z)) ≡ true
   pub largest : room_for I64 (has_minus z) (terminal token.Integer (digits_of z)) ≡ true
   pub short : IsShort z
+  pub lex : IsLexeme (terminal token.Integer (digits_of z))
 
-by_range : (w : Width) (half full : ℕ) (z : ℤ) → InRange half full z → half ≤ 2 ^ (bits_of w - 1) → full ≤ 2 ^ bits_of w → full ≤ 2 ^ 64 → half ≤ 2 ^ 63 → Roomy w z
-by_range w half full z h p q r s = record { here = room w half full z h p q r s; largest = room I64 half full z h s r r s; short = range_short half full z h r s }
+by_range : (w : Width) (half full : ℕ) (z : ℤ) → InRange half full z → half ≤ 2 ^ (bits_of w - 1)
+    → full ≤ 2 ^ bits_of w → full ≤ 2 ^ 64 → half ≤ 2 ^ 63 → Roomy w z
+by_range w half full z h p q r s = record {
+  here = room w half full z h p q r s;
+  largest = room I64 half full z h s r r s;
+  short = range_short half full z h r s;
+  lex = digits_lex z (range_short half full z h r s);
+}
 
 pub roomy : (w : Width) (bits : ℕ) → fits_bits w bits ≡ true → Roomy w (signed_value w bits)
 unfolding signed_by
-roomy I1 bits e = by_range I1 (2 ^ 0) (2 ^ 1) (signed_value I1 bits) (in_range bits (2 ^ 0) (2 ^ 1) (ltb-true bits (2 ^ 1) e) refl) (omega arith) (omega arith) (omega arith) (omega arith)
-roomy I8 bits e = by_range I8 (2 ^ 7) (2 ^ 8) (signed_value I8 bits) (in_range bits (2 ^ 7) (2 ^ 8) (ltb-true bits (2 ^ 8) e) refl) (omega arith) (omega arith) (omega arith) (omega arith)
-roomy I16 bits e = by_range I16 (2 ^ 15) (2 ^ 16) (signed_value I16 bits) (in_range bits (2 ^ 15) (2 ^ 16) (ltb-true bits (2 ^ 16) e) refl) (omega arith) (omega arith) (omega arith) (omega arith)
-roomy I32 bits e = by_range I32 (2 ^ 31) (2 ^ 32) (signed_value I32 bits) (in_range bits (2 ^ 31) (2 ^ 32) (ltb-true bits (2 ^ 32) e) refl) (omega arith) (omega arith) (omega arith) (omega arith)
-roomy I64 bits e = by_range I64 (2 ^ 63) (2 ^ 64) (signed_value I64 bits) (in_range bits (2 ^ 63) (2 ^ 64) (ltb-true bits (2 ^ 64) e) refl) (omega arith) (omega arith) (omega arith) (omega arith)
-roomy Index bits e = by_range Index (2 ^ 63) (2 ^ 64) (signed_value Index bits) (in_range bits (2 ^ 63) (2 ^ 64) (ltb-true bits (2 ^ 64) e) refl) (omega arith) (omega arith) (omega arith) (omega arith)
+roomy I1 bits e =
+    by_range I1 1 2 (signed_value I1 bits) (in_range bits 1 2 (ltb-true bits 2 e) refl) (omega arith) (omega arith)
+    (omega arith) (omega arith)
+roomy w bits e =
+    let half = 2 ^ (bits_of w - 1) in
+    let full = 2 ^ bits_of w in
+    by_range w half full (signed_value w bits) (in_range bits half full (ltb-true bits full e) refl) (omega arith)
+    (omega arith) (omega arith)
+    (omega arith)

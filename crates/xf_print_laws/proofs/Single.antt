@@ -1,145 +1,300 @@
--- Slots of one value, type or word.
-use Rattle.std.proofs.Common.{◌≡◌, ℕ, ◌+◌, ◌-◌, ◌^◌, ◌<◌, Bool, true, List, [], ◌∷◌, ◌++◌, length, Option, Some, None, refl, sym, ap, subst, ◌∙◌, arith}
-use Rattle.std.specs.Prelude.{not, nat_lt, min, option_map}
+-- Slots of one value, type, word, symbol or constant.
+use Rattle.std.proofs.Common.{◌≡◌, ℕ, zero, suc, ◌+◌, ◌-◌, ◌^◌, ◌<◌, Bool, true, false, List, [], ◌∷◌, length}
+use Rattle.std.proofs.Common.{Option, Some, None, refl, ap, ◌∙◌, arith, slice_get}
+use Rattle.std.specs.Prelude.{not, min, codes, is_some}
 use Rattle.std.specs.Fmt.{decimal}
+use Rattle.std.specs.Str.{bytes_eq}
+use Rattle.std.proofs.lemmas.Bool.{le-leb}
 use Rattle.std.proofs.lemmas.Bool.Decides.{nat_tests}
-use Rattle.std.proofs.lemmas.Fmt.{decimal_is_IsNumeral}
 use Rattle.xf_type.specs.declared.kind.CmpKind.{CmpKind}
-use Rattle.xf_type.specs.declared.kind.CmpKind.TheVariants as cmp
 use Rattle.xf_type.specs.declared.payload_type.PayloadType.{PayloadType}
+use Rattle.xf_type.specs.declared.payload_type.PayloadType.TheVariants.{Scalar, Tensor}
 use Rattle.xf_type.specs.declared.payload_type.Width.{Width}
-use Rattle.xf_type.specs.declared.payload_type.Width.TheVariants as width
+use Rattle.xf_type.specs.declared.payload_type.Width.TheVariants.{I1, Index}
 use Rattle.xf_type.specs.Limits.{most_entries}
-use Rattle.xf_type.specs.Spelling.{width_spelling, predicate_spelling}
+use Rattle.xf_type.specs.Spelling.{predicate_spelling}
 use Rattle.xf_lex.specs.declared.token.TokenKind.TheVariants as token
 use Rattle.xf_lex.proofs.Stays.{Digits, decimal_digits}
-use Rattle.xf_grammar.specs.Tokens.{Terminal, terminal, is_index, starts_digit, number_of}
+use Rattle.xf_grammar.specs.Apart.{IsLexeme}
+use Rattle.xf_grammar.specs.Tokens.{Terminal, terminal, is_kind, is_index, starts_digit, number_of, colon}
+use Rattle.xf_grammar.specs.Grammar.{both, two}
+use Rattle.xf_grammar.proofs.Basics.{not_true}
 use Rattle.xf_format.specs.declared.expected.Expected.{Expected}
-use Rattle.xf_format.specs.Parts.{count_of, UseSaid, Said, says_use, says_width, says_predicate}
-use Rattle.xf_format.specs.Rules.{argument_rule, use_rule, width_rule, type_rule, result_rule, predicate_rule}
-use Rattle.xf_format.specs.Words.{is_width, width_meant}
+use Rattle.xf_format.specs.declared.expected.Expected.TheVariants as due
+use Rattle.xf_format.specs.Parts.{truth, number, Said, says_symbol, says_private, says_predicate}
+use Rattle.xf_format.specs.Parts.{says_literal, says_width}
+use Rattle.xf_format.specs.Rules.{kind_rule, word_rule, argument_rule, use_rule, width_rule, type_rule, result_rule}
+use Rattle.xf_format.specs.Rules.{predicate_rule, symbol_rule, module_name_rule, function_name_rule, number_rule}
+use Rattle.xf_format.specs.Rules.{literal_rule, loop_width_rule}
+use Rattle.xf_format.specs.Tests.{is_short}
 use Rattle.xf_ir.specs.declared.name.ValueName.{ValueName}
 use Rattle.xf_ir.specs.declared.name.ValueName.TheVariants.{Result, Arg, Free}
+use Rattle.xf_ir.specs.Lists.{Each}
+use Rattle.xf_ir.specs.RuleAttributes.{fits_bits}
+use Rattle.xf_ir.specs.Types.{is_scalar}
+use Rattle.xf_ir.specs.Words.{is_word}
 use Rattle.xf_printed.specs.Names.{DefinedValues, Names, argument_text}
-use Rattle.xf_printed.specs.Fills.{Use, part_digits, use_or_none, use_fill, value_fill, argument_fill, word_fill, width_fill, type_fill}
+use Rattle.xf_printed.specs.Fills.{Use, part_digits, use_or_none, use_fill, value_fill, operand_fill, argument_fill}
+use Rattle.xf_printed.specs.Fills.{word_fill, width_fill, type_fill, type_or_none, symbol_fill, module_name_fill}
+use Rattle.xf_printed.specs.Fills.{function_name_fill, bytes_or_none, mark_fill, truth_fill, signed_fill, scalar_fill}
+use Rattle.xf_printed.specs.Fills.{loop_width_fill, is_set, width_or_none, number_name}
 use Rattle.xf_printed.specs.Fills.{result_use as result_use_of, argument_use as argument_use_of}
 use Rattle.xf_print_laws.specs.Naming.{part_said, result_use, argument_use, use_or, use_printed}
-use Rattle.xf_print_laws.proofs.Fields.{set_args, set_uses, set_types, set_results}
-use Rattle.xf_print_laws.proofs.Goes.{Goes, so_said}
-use Rattle.xf_print_laws.proofs.Needs.{Known, IsScalar}
+use Rattle.xf_print_laws.specs.SaidPrinted.{known_types, literal_printed}
+use Rattle.xf_print_laws.proofs.Goes.{add_args, add_uses, add_types, add_results, few_args, few_uses, few_types}
+use Rattle.xf_print_laws.proofs.Goes.{few_results, room, Goes, skips, take_goes, off_goes, peek_off_goes}
+use Rattle.xf_print_laws.proofs.Goes.{both_go, silent_goes}
+use Rattle.xf_print_laws.proofs.LayoutTokens.{word_lexes, symbol_lexes, number_lexes, index_lexes, argument_lexes}
+use Rattle.xf_print_laws.proofs.LayoutTokens.{mark_lexes}
+use Rattle.xf_print_laws.proofs.Needs.{NamedResult, NamedArgument, Known, IsScalar, SymbolFits}
+use Rattle.xf_print_laws.proofs.Signed.{roomy}
+pub use Rattle.xf_print_laws.proofs.Signed.{number_is}
+use Rattle.xf_print_laws.proofs.Words.{width_found, predicate_found, width_lexes, predicate_lexes}
 
--- ---- numbers
+-- ---- words
 
--- the digits of a number below 2 ^ 64 write it
-pub number_is : (n : ℕ) → n < 2 ^ 64 → number_of (decimal n) ≡ n
-number_is n lt = let e = (decimal_is_IsNumeral n lt).1 in rw e (grind (arith, nat_tests))
+pub word_goes : (w : List ℕ) (y : Terminal) (d : Said) → is_word w ≡ true → bytes_eq w w ≡ true
+    → Goes (word_rule w) (word_fill w) y d d
+unfolding word_rule
+word_goes w y d word e = record { fit = λ s. rw e refl; say = refl; few = λ s. s; lex = (word_lexes w word, tt) }
 
-least : (n : ℕ) → n < 2 ^ 32 → min n (2 ^ 32 - 1) ≡ n
-least n lt = grind (arith, nat_tests)
-
-pub count_is : (n : ℕ) → n < 2 ^ 32 → min (number_of (decimal n)) (2 ^ 32 - 1) ≡ n
-count_is n lt = ap (λ m. min m (2 ^ 32 - 1)) (number_is n (omega (arith, lt))) ∙ least n lt
+pub predicate_goes : (k : CmpKind) (y : Terminal) (d : Said)
+    → Goes predicate_rule (word_fill (predicate_spelling k)) y d (says_predicate k d)
+unfolding predicate_rule
+predicate_goes k y d = let p = predicate_found k in
+    record { fit = λ s. rw p refl; say = rw p refl; few = λ s. s; lex = (predicate_lexes k, tt) }
 
 -- ---- names
 
-pub argument_goes : (gap : Bool) (k : ℕ) (y : Terminal) (d : Said) → nat_lt (length d.args) most_entries ≡ true → Goes (argument_rule gap) (argument_fill k) y d (set_args d (d.args ++ argument_text k ∷ []))
+pub argument_goes : (gap : Bool) (k : ℕ) (y : Terminal) (d : Said) → k < 2 ^ 64
+    → Goes (argument_rule gap) (argument_fill k) y d (add_args d (argument_text k ∷ []))
 unfolding argument_rule
-argument_goes gap k y d room = record { fit = rw room refl; say = refl }
+argument_goes gap k y d lt = record {
+  fit = λ s. (let r = room d.args _ s.args in rw r refl);
+  say = refl;
+  few = few_args d (argument_text k ∷ []);
+  lex = (argument_lexes k lt, tt);
+}
 
--- what a # and digits say
-abbrev index_said : Option (List ℕ) → Option ℕ
-index_said o = option_map (λ digits. count_of (terminal token.Hash (35 ∷ digits))) o
-
-abbrev index_fits : Option (List ℕ) → Bool
-index_fits None = true
-index_fits (Some digits) = starts_digit digits
-
-use_goes : (gap : Bool) (name : List ℕ) (o : Option (List ℕ)) (y : Terminal) (d : Said) → index_fits o ≡ true → not (is_index y) ≡ true → nat_lt (length d.uses) most_entries ≡ true
-    → let u : Use = record { name = name; digits = o } in Goes (use_rule gap) (use_fill u) y d (says_use name (index_said o) d)
-unfolding use_rule
-use_goes gap name None y d i e room = record { fit = rw (e, room) refl; say = refl }
-use_goes gap name (Some digits) y d i e room = record { fit = rw (i, room) refl; say = refl }
+pub count_is : (n : ℕ) → n < 2 ^ 32 → min (number_of (decimal n)) (2 ^ 32 - 1) ≡ n
+count_is n lt = ap (λ m. min m (2 ^ 32 - 1)) (number_is n (omega (arith, lt))) ∙ least n lt
+  where
+    least : (n : ℕ) → n < 2 ^ 32 → min n (2 ^ 32 - 1) ≡ n
+    least n lt = grind (arith, nat_tests)
 
 starts : (ds : List ℕ) → Digits ds → starts_digit ds ≡ true
 starts [] d = absurd (let z = d.some in omega arith)
 starts (b ∷ ds) d = d.all.0
 
-part_fits : (ts : List PayloadType) (num : ℕ) → num < 2 ^ 32 → index_fits (part_digits ts num) ≡ true
-part_fits [] num lt = refl
-part_fits (t ∷ []) num lt = refl
-part_fits (t ∷ (u ∷ ts)) num lt = starts (decimal num) (decimal_digits num (omega arith))
+-- a name with the number of one of these
+abbrev UseGoes : Bool → List ℕ → List PayloadType → ℕ → Terminal → Said → Type 0
+UseGoes gap name ts num y d =
+    let u : Use = record { name = name; digits = part_digits ts num } in
+    Goes (use_rule gap) (use_fill u) y d (add_uses d ((record { name = name; number = part_said ts num }) ∷ []))
 
-part_is : (ts : List PayloadType) (num : ℕ) → num < 2 ^ 32 → index_said (part_digits ts num) ≡ part_said ts num
-part_is [] num lt = refl
-part_is (t ∷ []) num lt = refl
-part_is (t ∷ (u ∷ ts)) num lt = ap Some (count_is num lt)
+use_goes : (gap : Bool) (name : List ℕ) (ts : List PayloadType) (num : ℕ) (y : Terminal) (d : Said)
+    → IsLexeme (terminal token.Value name) → num < 2 ^ 32 → not (is_index y) ≡ true → UseGoes gap name ts num y d
+unfolding use_rule
+use_goes gap name (t ∷ (u ∷ ts)) num y d l lt e =
+    let i = starts (decimal num) (decimal_digits num (omega arith)) in
+    let c = count_is num lt in
+    record {
+      fit = λ s. (let r = room d.uses _ s.uses in rw (i, r) refl);
+      say = rw c refl;
+      few = few_uses d _;
+      lex = (l, ((index_lexes num (omega arith), tt), tt));
+    }
+use_goes gap name ts num y d l lt e =
+    record {
+      fit = λ s. (let r = room d.uses _ s.uses in rw (e, r) refl);
+      say = refl;
+      few = few_uses d _;
+      lex = (l, (tt, tt));
+    }
 
--- a use, and what it says
-abbrev Used : Bool → Terminal → Said → Use → UseSaid → Type 0
-Used gap y d u s = Goes (use_rule gap) (use_fill u) y d (set_uses d (d.uses ++ s ∷ []))
+-- what has this entry
+result_goes : (gap : Bool) (o : Option DefinedValues) (num : ℕ) (y : Terminal) (d : Said) → NamedResult o num
+    → not (is_index y) ≡ true
+    → Goes (use_rule gap) (use_fill (use_or_none (λ e. result_use_of e num) o)) y d
+    (add_uses d (use_or (λ e. result_use e num) o ∷ []))
+result_goes gap None num y d n e = absurd n
+result_goes gap (Some x) num y d n e =
+    use_goes gap (number_name x.number) x.results num y d (number_lexes x.number n.0) n.1 e
 
-pub value_goes : (names : Names) (v : ValueName) (gap : Bool) (y : Terminal) (d : Said) → Known names v → not (is_index y) ≡ true → nat_lt (length d.uses) most_entries ≡ true
-    → Goes (use_rule gap) (value_fill names v) y d (set_uses d (d.uses ++ use_printed names v ∷ []))
-value_goes names (Result o num) gap y d k e room =
-    let lt : num < 2 ^ 32 = k.1.1.1.1.1 in
-    let x : DefinedValues = k.0 in
-    let a = use_goes gap (result_use x num).name (part_digits x.results num) y d (part_fits x.results num lt) e room in
-    let b : Used gap y d (result_use_of x num) (result_use x num) = so_said (ap (λ i. says_use (result_use x num).name i d) (part_is x.results num lt)) a in
-    subst (λ z. Used gap y d (use_or_none (λ e. result_use_of e num) z) (use_or (λ e. result_use e num) z)) (sym k.1.1.0) b
-value_goes names (Arg o r num) gap y d k e room =
-    let x : DefinedValues = k.0 in
-    let b : Used gap y d (argument_use_of x num) (argument_use x num) = use_goes gap (argument_text (x.first + num)) None y d refl e room in
-    subst (λ z. Used gap y d (use_or_none (λ e. argument_use_of e num) z) (use_or (λ e. argument_use e num) z)) (sym k.1.1.0) b
-value_goes names (Free num) gap y d k e room = absurd k
+block_argument_goes : (gap : Bool) (o : Option DefinedValues) (num : ℕ) (y : Terminal) (d : Said)
+    → NamedArgument o num → not (is_index y) ≡ true
+    → Goes (use_rule gap) (use_fill (use_or_none (λ e. argument_use_of e num) o)) y d
+    (add_uses d (use_or (λ e. argument_use e num) o ∷ []))
+block_argument_goes gap None num y d n e = absurd n
+block_argument_goes gap (Some x) num y d n e =
+    use_goes gap (argument_text (x.first + num)) [] 0 y d (argument_lexes (x.first + num) n) (omega arith) e
+
+pub value_goes : (names : Names) (v : ValueName) (gap : Bool) (y : Terminal) (d : Said) → Known names v
+    → not (is_index y) ≡ true → Goes (use_rule gap) (value_fill names v) y d (add_uses d (use_printed names v ∷ []))
+value_goes names (Result o num) gap y d k e = result_goes gap (names.entry o.0) num y d k.1 e
+value_goes names (Arg o r num) gap y d k e = block_argument_goes gap (names.entry o.0) num y d k.1 e
+value_goes names (Free num) gap y d k e = absurd k.1
+
+-- the operand with a number
+abbrev pub with_use : Names → Option ValueName → Said → Said
+with_use names None d = d
+with_use names (Some v) d = add_uses d (use_printed names v ∷ [])
+
+pub operand_goes : (names : Names) (os : List ValueName) (i : ℕ) (y : Terminal) (d : Said) → Each (Known names) os
+    → is_some (slice_get os i) ≡ true → not (is_index y) ≡ true
+    → Goes (use_rule true) (operand_fill names (slice_get os i)) y d (with_use names (slice_get os i) d)
+operand_goes names [] i y d h o e = absurd cc
+operand_goes names (v ∷ os) zero y d h o e = value_goes names v true y d h.0 e
+operand_goes names (v ∷ os) (suc i) y d h o e = operand_goes names os i y d h.1 o e
 
 -- ---- types
 
-abbrev width_token : Width → Terminal
-width_token w = terminal token.Word (width_spelling w)
-
-pub width_word : (w : Width) → is_width (width_token w) ≡ true
-width_word width.I1 = refl
-width_word width.I8 = refl
-width_word width.I16 = refl
-width_word width.I32 = refl
-width_word width.I64 = refl
-width_word width.Index = refl
-
-pub width_means : (w : Width) → width_meant (width_token w) ≡ w
-width_means width.I1 = refl
-width_means width.I8 = refl
-width_means width.I16 = refl
-width_means width.I32 = refl
-width_means width.I64 = refl
-width_means width.Index = refl
-
-pub width_goes : (gap : Bool) (due : Expected) (w : Width) (y : Terminal) (d : Said) → nat_lt (length d.types) most_entries ≡ true → Goes (width_rule gap due) (width_fill w) y d (says_width w d)
+pub width_goes : (gap : Bool) (due : Expected) (w : Width) (y : Terminal) (d : Said)
+    → Goes (width_rule gap due) (width_fill w) y d (says_width w d)
 unfolding width_rule
-width_goes gap due w y d room = let p = width_word w in let m = width_means w in record { fit = rw (p, room) refl; say = rw m refl }
+width_goes gap due w y d = let p = width_found w in
+    record {
+      fit = λ s. (let r = room d.types _ s.types in rw (p, r) refl);
+      say = rw p refl;
+      few = few_types d _;
+      lex = (width_lexes w, tt);
+    }
 
-pub type_goes : (gap : Bool) (t : PayloadType) (y : Terminal) (d : Said) → IsScalar t → nat_lt (length d.types) most_entries ≡ true → Goes (type_rule gap) (type_fill t) y d (set_types d (d.types ++ t ∷ []))
+pub type_goes : (gap : Bool) (o : Option PayloadType) (y : Terminal) (d : Said) → is_scalar o ≡ true
+    → Goes (type_rule gap) (type_or_none o) y d (add_types d (known_types (o ∷ [])))
 unfolding type_rule
-type_goes gap t y d s room =
-    let p = width_word s.0 in
-    let m = width_means s.0 in
-    subst (λ u. Goes (type_rule gap) (type_fill u) y d (set_types d (d.types ++ u ∷ []))) (sym s.1) (record { fit = rw (p, room) refl; say = rw m refl })
+type_goes gap (Some (Scalar w)) y d i = let p = width_found w in
+    record {
+      fit = λ s. (let r = room d.types _ s.types in rw (p, r) refl);
+      say = rw p refl;
+      few = few_types d _;
+      lex = (width_lexes w, tt);
+    }
+type_goes gap o y d i = absurd cc
 
-pub result_goes : (gap : Bool) (t : PayloadType) (y : Terminal) (d : Said) → IsScalar t → nat_lt (length d.results) most_entries ≡ true → Goes (result_rule gap) (type_fill t) y d (set_results d (d.results ++ t ∷ []))
+pub one_result_goes : (gap : Bool) (t : PayloadType) (y : Terminal) (d : Said) → IsScalar t
+    → Goes (result_rule gap) (type_fill t) y d (add_results d (t ∷ []))
 unfolding result_rule
-result_goes gap t y d s room =
-    let p = width_word s.0 in
-    let m = width_means s.0 in
-    subst (λ u. Goes (result_rule gap) (type_fill u) y d (set_results d (d.results ++ u ∷ []))) (sym s.1) (record { fit = rw (p, room) refl; say = rw m refl })
+one_result_goes gap (Scalar w) y d i = let p = width_found w in
+    record {
+      fit = λ s. (let r = room d.results _ s.results in rw
+          (p, r) refl);
+      say = rw p refl;
+      few = few_results d _;
+      lex = (width_lexes w, tt);
+    }
+one_result_goes gap (Tensor s) y d i = absurd cc
 
-pub predicate_goes : (k : CmpKind) (y : Terminal) (d : Said) → Goes predicate_rule (word_fill (predicate_spelling k)) y d (says_predicate k d)
-unfolding predicate_rule
-predicate_goes cmp.Eq y d = record { fit = refl; say = refl }
-predicate_goes cmp.Ne y d = record { fit = refl; say = refl }
-predicate_goes cmp.Slt y d = record { fit = refl; say = refl }
-predicate_goes cmp.Sle y d = record { fit = refl; say = refl }
-predicate_goes cmp.Sgt y d = record { fit = refl; say = refl }
-predicate_goes cmp.Sge y d = record { fit = refl; say = refl }
-predicate_goes cmp.Ult y d = record { fit = refl; say = refl }
-predicate_goes cmp.Ule y d = record { fit = refl; say = refl }
-predicate_goes cmp.Ugt y d = record { fit = refl; say = refl }
-predicate_goes cmp.Uge y d = record { fit = refl; say = refl }
+-- the width with a number
+abbrev pub with_width : Option Width → Said → Said
+with_width None d = d
+with_width (Some w) d = says_width w d
+
+pub width_slot_goes : (due : Expected) (o : Option Width) (y : Terminal) (d : Said) → is_some o ≡ true
+    → Goes (width_rule true due) (width_or_none o) y d (with_width o d)
+width_slot_goes due None y d e = absurd cc
+width_slot_goes due (Some w) y d e = width_goes true due w y d
+
+-- ---- symbols
+
+pub short_is : (bytes : List ℕ) → length bytes < 2 ^ 32 → is_short bytes ≡ true
+short_is bytes few = le-leb (length bytes) most_entries (omega (arith, few))
+
+abbrev pub with_symbol : Option (List ℕ) → Said → Said
+with_symbol None d = d
+with_symbol (Some s) d = says_symbol (64 ∷ s) d
+
+abbrev pub with_privacy : Bool → Said → Said
+with_privacy true d = says_private d
+with_privacy false d = d
+
+pub symbol_goes : (o : Option (List ℕ)) (y : Terminal) (d : Said) → SymbolFits o → is_some o ≡ true
+    → Goes symbol_rule (symbol_fill (bytes_or_none o)) y d (with_symbol o d)
+unfolding symbol_rule
+symbol_goes None y d f i = absurd cc
+symbol_goes (Some s) y d f i = let short = short_is s f.1 in
+    record { fit = λ few. rw short refl; say = refl; few = λ few. few; lex = (symbol_lexes s f.0, tt) }
+
+-- of a module, which may have none
+pub module_name_goes : (o : Option (List ℕ)) (y : Terminal) (d : Said) → SymbolFits o
+    → not (is_kind token.Symbol y) ≡ true → Goes module_name_rule (module_name_fill o) y d (with_symbol o d)
+unfolding module_name_rule
+module_name_goes None y d f e = let n = not_true _ e in off_goes (rw n refl) (peek_off_goes e skips)
+module_name_goes (Some s) y d f e = let short = short_is s f.1 in
+    record { fit = λ few. rw short refl; say = refl; few = λ few. few; lex = (symbol_lexes s f.0, tt) }
+
+pub function_name_goes : (private : Bool) (o : Option (List ℕ)) (y : Terminal) (d : Said) → SymbolFits o
+    → is_some o ≡ true
+    → Goes function_name_rule (function_name_fill private (bytes_or_none o)) y d
+    (with_symbol o (with_privacy private d))
+unfolding function_name_rule symbol_rule
+function_name_goes private None y d f i = absurd cc
+function_name_goes true (Some s) y d f i = let short = short_is s f.1 in
+    record {
+      fit = λ few. rw short refl;
+      say = refl;
+      few = λ few. few;
+      lex = (word_lexes (codes "private") refl, (tt, (symbol_lexes s f.0, tt)));
+    }
+function_name_goes false (Some s) y d f i = let short = short_is s f.1 in
+    record { fit = λ few. rw short refl; say = refl; few = λ few. few; lex = (symbol_lexes s f.0, tt) }
+
+-- ---- constants
+
+truth_goes : (b : Bool) (y : Terminal) (d : Said)
+    → Goes literal_rule (truth_fill b) y d (says_width I1 (says_literal (truth b) d))
+unfolding literal_rule
+truth_goes true y d =
+    record {
+      fit = λ s. (let r = room d.types _ s.types in rw r refl);
+      say = refl;
+      few = few_types d _;
+      lex = (word_lexes (codes "true") refl, tt);
+    }
+truth_goes false y d =
+    record {
+      fit = λ s. (let r = room d.types _ s.types in rw r refl);
+      say = refl;
+      few = few_types d _;
+      lex = (word_lexes (codes "false") refl, tt);
+    }
+
+signed_goes : (negative : Bool) (digits : List ℕ) (w : Width) (y : Terminal) (d : Said)
+    → IsLexeme (terminal token.Integer digits)
+    → Goes literal_rule (signed_fill negative digits w) y d (says_width w (says_literal (number negative digits) d))
+unfolding literal_rule number_rule
+signed_goes negative digits w y d l = by_sign negative
+  where
+    behind : (negative : Bool)
+        → let e : Said = says_literal (number negative digits) d in Goes
+        (both (kind_rule true due.Other colon) (width_rule true due.Width)) (two (mark_fill colon) (width_fill w)) y e
+        (says_width w e)
+    behind negative =
+        both_go (silent_goes true due.Other colon (mark_lexes 58 refl) refl) (width_goes true due.Width w y _)
+
+    by_sign : (negative : Bool)
+        → Goes literal_rule (signed_fill negative digits w) y d (says_width w (says_literal (number negative digits) d))
+    by_sign true =
+        let g = behind true in record {
+          fit = g.fit;
+          say = g.say;
+          few = g.few;
+          lex = (mark_lexes 45 refl, (l, (tt, g.lex)));
+        }
+    by_sign false = let g = behind false in record { fit = g.fit; say = g.say; few = g.few; lex = (l, (tt, g.lex)) }
+
+pub literal_goes : (w : Width) (bits : ℕ) (y : Terminal) (d : Said) → fits_bits w bits ≡ true
+    → Goes literal_rule (scalar_fill w bits) y d (says_width w (says_literal (literal_printed w bits) d))
+literal_goes I1 bits y d f = truth_goes (is_set bits) y d
+literal_goes w bits y d f = signed_goes _ _ w y d (roomy w bits f).lex
+
+-- ---- loops
+
+-- a loop without a width has the width index
+pub loop_width_goes : (o : Option Width) (y : Terminal) (d : Said) → is_some o ≡ true → not (is_kind colon y) ≡ true
+    → Goes loop_width_rule (loop_width_fill o) y d (with_width o d)
+unfolding loop_width_rule
+loop_width_goes None y d i e = absurd cc
+loop_width_goes (Some Index) y d i e =
+    record { fit = λ s. (let r = room d.types _ s.types in rw (e, r) refl); say = refl; few = few_types d _; lex = tt }
+loop_width_goes (Some w) y d i e = take_goes (mark_lexes 58 refl) refl (width_goes true due.Width w y d)

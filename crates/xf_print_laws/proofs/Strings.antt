@@ -1,5 +1,6 @@
 -- A printed string stands for its bytes.
-use Rattle.std.proofs.Common.{◌≡◌, ℕ, ◌+◌, ◌*◌, ◌/◌, ◌%◌, ◌<◌, Bool, true, false, List, [], ◌∷◌, ◌++◌, refl, ap, ◌∙◌, arith, append_assoc}
+use Rattle.std.proofs.Common.{◌≡◌, ℕ, ◌+◌, ◌*◌, ◌/◌, ◌%◌, ◌<◌, Bool, true, false, List, [], ◌∷◌, ◌++◌, refl, ap, ◌∙◌}
+use Rattle.std.proofs.Common.{arith, append_assoc}
 use Rattle.std.specs.Prelude.{◌==◌}
 use Rattle.std.specs.Char.{digit_value}
 use Rattle.std.specs.List.{flat_map}
@@ -9,7 +10,7 @@ use Rattle.xf_format.specs.Strings.{decoded}
 use Rattle.xf_ir.specs.Lists.{Each}
 use Rattle.xf_printed.specs.Attributes.{hex_digit, is_plain, byte_text, string_text}
 
-hex_is : (d : ℕ) → d < 16 → is_hex (hex_digit d) ≡ true
+pub hex_is : (d : ℕ) → d < 16 → is_hex (hex_digit d) ≡ true
 hex_is d h = grind (arith, nat_tests)
 
 hex_value : (d : ℕ) → d < 16 → digit_value (hex_digit d) ≡ d
@@ -31,7 +32,8 @@ two_digits b h =
 abbrev read_on : List ℕ → List ℕ
 read_on bytes = decoded (34 ∷ bytes)
 
-one_byte : (plain : Bool) (b : ℕ) (rest : List ℕ) → is_plain b ≡ plain → b < 256 → read_on (byte_text b ++ rest) ≡ b ∷ read_on rest
+one_byte : (plain : Bool) (b : ℕ) (rest : List ℕ) → is_plain b ≡ plain → b < 256
+    → read_on (byte_text b ++ rest) ≡ b ∷ read_on rest
 one_byte true b rest e h = let p = plain_apart b e in let q = p.0 in let r = p.1 in rw (e, q, r) refl
 one_byte false b rest e h =
     let high : b / 16 < 16 = omega arith in
@@ -43,7 +45,8 @@ decoded_bytes : (bytes : List ℕ) → Each (λ b. b < 256) bytes → read_on (f
 decoded_bytes [] e = refl
 decoded_bytes (b ∷ bytes) e =
     ap read_on (append_assoc (byte_text b) (flat_map byte_text bytes) (34 ∷ []))
-    ∙ (one_byte (is_plain b) b (flat_map byte_text bytes ++ 34 ∷ []) refl e.0 ∙ ap (λ xs. b ∷ xs) (decoded_bytes bytes e.1))
+    ∙ (one_byte (is_plain b) b (flat_map byte_text bytes ++ 34 ∷ []) refl e.0 ∙ ap (λ xs. b ∷ xs)
+    (decoded_bytes bytes e.1))
 
 pub string_again : (bytes : List ℕ) → Each (λ b. b < 256) bytes → decoded (string_text bytes) ≡ bytes
 string_again bytes e = decoded_bytes bytes e

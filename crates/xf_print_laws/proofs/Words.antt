@@ -1,79 +1,92 @@
--- The word of a kind begins its row.
-use Rattle.std.proofs.Common.{◌≡◌, inl, inr, ℕ, true, false, List, Some, None, refl, sym, ap, ◌∙◌}
+-- Words of the tables: what each of them means, and that it is a word.
+use Rattle.std.proofs.Common.{◌≡◌, inl, inr, ℕ, Bool, true, false, List, [], ◌∷◌, Option, Some, None, refl, sym, ap}
+use Rattle.std.proofs.Common.{subst, ◌∙◌}
+use Rattle.std.specs.Prelude.{if◌then◌else◌}
 use Rattle.std.specs.Str.{bytes_eq}
 use Rattle.std.proofs.lemmas.Slice.Eq.{bytes_eq-Decides}
 use Rattle.xf_type.specs.declared.kind.BinKind.{BinKind}
-use Rattle.xf_type.specs.declared.kind.BinKind.TheVariants as bin
+use Rattle.xf_type.specs.declared.kind.BinKind.TheVariants.{Addi}
+use Rattle.xf_type.specs.declared.kind.CmpKind.{CmpKind}
+use Rattle.xf_type.specs.declared.kind.CmpKind.TheVariants.{Eq}
 use Rattle.xf_type.specs.declared.kind.ConvKind.{ConvKind}
-use Rattle.xf_type.specs.declared.kind.ConvKind.TheVariants.{Extsi, Extui, Trunci, IndexCast, IndexCastui}
-use Rattle.xf_type.specs.Spelling.{binary_spelling, conversion_spelling}
-use Rattle.xf_grammar.proofs.Basics.{true_or_false}
+use Rattle.xf_type.specs.declared.kind.ConvKind.TheVariants.{Extsi}
+use Rattle.xf_type.specs.declared.payload_type.Width.{Width}
+use Rattle.xf_type.specs.declared.payload_type.Width.TheVariants.{I1}
+use Rattle.xf_type.specs.Spelling.{binary_spelling, conversion_spelling, width_spelling, predicate_spelling}
+use Rattle.xf_lex.specs.declared.token.TokenKind.TheVariants as token
+use Rattle.xf_grammar.specs.Tokens.{terminal}
+use Rattle.xf_grammar.specs.Apart.{IsLexeme}
+use Rattle.xf_grammar.proofs.Basics.{true_or_false, both_true}
 use Rattle.xf_format.specs.declared.row.Level.TheVariants as level
 use Rattle.xf_format.specs.declared.row.Row.{Row}
 use Rattle.xf_format.specs.declared.row.Row.TheVariants as row
 use Rattle.xf_format.specs.Rows.{words}
-use Rattle.xf_format.specs.Words.{lookup, the_row, opens}
+use Rattle.xf_format.specs.Words.{Table, lookup, widths, predicates, the_row, opens}
 use Rattle.xf_ir.specs.declared.kind.Kind.{Kind}
 use Rattle.xf_ir.specs.declared.kind.Kind.TheVariants as kind
 use Rattle.xf_ir.specs.Kinds.{is_container}
+use Rattle.xf_ir.specs.Lists.{every}
+use Rattle.xf_ir.specs.Words.{is_word}
 use Rattle.xf_printed.specs.PrintedForm.{word_of}
 use Rattle.xf_printed.specs.PrintedForm.{row_of as row_of_word}
 use Rattle.xf_print_laws.specs.Core.{is_core}
 use Rattle.xf_print_laws.specs.SaidPrinted.{row_of}
+use Rattle.xf_print_laws.proofs.LayoutTokens.{word_lexes}
+
+-- ---- what they mean
 
 binary_row : (b : BinKind) → lookup words (binary_spelling b) ≡ Some (row.Binary b)
-binary_row bin.Addi = refl
-binary_row bin.Subi = refl
-binary_row bin.Muli = refl
-binary_row bin.Andi = refl
-binary_row bin.Ori = refl
-binary_row bin.Xori = refl
-binary_row bin.Shli = refl
-binary_row bin.Shrui = refl
-binary_row bin.Shrsi = refl
-binary_row bin.Minsi = refl
-binary_row bin.Maxsi = refl
-binary_row bin.Minui = refl
-binary_row bin.Maxui = refl
+binary_row Addi = refl
+binary_row b = refl
 
 conversion_row : (c : ConvKind) → lookup words (conversion_spelling c) ≡ Some (row.Convert c)
 conversion_row Extsi = refl
-conversion_row Extui = refl
-conversion_row Trunci = refl
-conversion_row IndexCast = refl
-conversion_row IndexCastui = refl
+conversion_row c = refl
 
 pub word_row : (k : Kind) → is_core k ≡ true → lookup words (word_of k) ≡ Some (row_of k)
-word_row (kind.Module symbol) c = refl
-word_row (kind.Func symbol private results) c = refl
-word_row kind.Return c = refl
-word_row (kind.Call callee) c = refl
-word_row (kind.Constant width bits) c = refl
 word_row (kind.Binary which width) c = binary_row which
-word_row (kind.Compare which width) c = refl
-word_row (kind.Select width) c = refl
 word_row (kind.Convert which from to) c = conversion_row which
-word_row (kind.For width) c = refl
-word_row kind.If c = refl
-word_row kind.Yield c = refl
-word_row k c = absurd cc
+word_row k c = cc
 
 pub same_row : (k : Kind) → is_core k ≡ true → row_of_word k ≡ row_of k
 same_row k c = ap the_row (word_row k c)
 
 -- inside a body no module and no function stands
 pub body_opens : (k : Kind) → is_core k ≡ true → is_container k ≡ false → opens level.Body (Some (row_of k)) ≡ true
-body_opens kind.Return c e = refl
-body_opens (kind.Call callee) c e = refl
-body_opens (kind.Constant width bits) c e = refl
-body_opens (kind.Binary which width) c e = refl
-body_opens (kind.Compare which width) c e = refl
-body_opens (kind.Select width) c e = refl
-body_opens (kind.Convert which from to) c e = refl
-body_opens (kind.For width) c e = refl
-body_opens kind.If c e = refl
-body_opens kind.Yield c e = refl
-body_opens k c e = absurd cc
+body_opens (kind.Module symbol) c e = absurd cc
+body_opens k c e = cc
+
+pub width_found : (w : Width) → lookup widths (width_spelling w) ≡ Some w
+width_found I1 = refl
+width_found w = refl
+
+pub predicate_found : (k : CmpKind) → lookup predicates (predicate_spelling k) ≡ Some k
+predicate_found Eq = refl
+predicate_found k = refl
+
+-- ---- they are words
+
+found_or : {A : Type 0} (b : Bool) (p : List ℕ × A) (o : Option A) (w : List ℕ) (a : A) → bytes_eq w p.0 ≡ b
+    → is_word p.0 ≡ true → (o ≡ Some a → is_word w ≡ true) → (if b then Some p.1 else o) ≡ Some a → is_word w ≡ true
+found_or true p o w a same word later found = subst (λ v. is_word v ≡ true) (sym ((bytes_eq-Decides w p.0).0 same)) word
+found_or false p o w a same word later found = later found
+
+-- what is found in a table of words
+found_word : {A : Type 0} (table : Table A) (w : List ℕ) (a : A) → every (λ p. is_word p.0) table ≡ true
+    → lookup table w ≡ Some a → is_word w ≡ true
+found_word [] w a e found = absurd cc
+found_word (p ∷ table) w a e found =
+    let b = both_true (is_word p.0) _ e in
+    found_or (bytes_eq w p.0) p (lookup table w) w a refl b.0 (found_word table w a b.1) found
+
+pub row_lexes : (w : List ℕ) (r : Row) → lookup words w ≡ Some r → IsLexeme (terminal token.Word w)
+row_lexes w r found = word_lexes w (found_word words w r refl found)
+
+pub width_lexes : (w : Width) → IsLexeme (terminal token.Word (width_spelling w))
+width_lexes w = word_lexes _ (found_word widths (width_spelling w) w refl (width_found w))
+
+pub predicate_lexes : (k : CmpKind) → IsLexeme (terminal token.Word (predicate_spelling k))
+predicate_lexes k = word_lexes _ (found_word predicates (predicate_spelling k) k refl (predicate_found k))
 
 -- a word that begins an operation is another than one that begins none
 pub another_word : (w v : List ℕ) (r : Row) → lookup words w ≡ Some r → lookup words v ≡ None → bytes_eq w v ≡ false

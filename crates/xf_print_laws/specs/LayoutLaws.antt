@@ -1,5 +1,5 @@
 -- The printed form of a module is laid out of the tokens that its operations write.
-use Rattle.xf_grammar.specs.Apart.{HasLayout}
+use Rattle.xf_grammar.specs.Apart.{IsLaidOut}
 use Rattle.xf_grammar.specs.Grammar.{tokens_of}
 use Rattle.xf_grammar.specs.Tree.{docs_written}
 use Rattle.xf_format.specs.declared.row.Level.TheVariants as level
@@ -12,7 +12,7 @@ use Rattle.xf_print_laws.specs.Core.{IsCore}
 use Rattle.xf_print_laws.specs.Stored.{IsStored}
 
 -- the lexer reads it back as the tokens that were written
-abbrev pub PrintedHasLayout : Type 0
-PrintedHasLayout =
+abbrev pub PrintedIsLaidOut : Type 0
+PrintedIsLaidOut =
     (m : Module) → IsValid m → IsCore m → IsStored m → IsWithinLimits m
-    → HasLayout (printed_form m) (tokens_of (docs_written format level.File 0 (module_docs m)))
+    → IsLaidOut (printed_form m) (tokens_of (docs_written format level.File 0 (module_docs m)))

@@ -1,5 +1,5 @@
 -- The printed form of worked modules.
-use Rattle.std.specs.Prelude.{◌≡◌, ℕ, pos, List, [], ◌∷◌, codes, None, Some, true, false}
+use Rattle.std.specs.Prelude.{◌≡◌, ℕ, pos, List, [], ◌∷◌, ◌++◌, codes, None, Some, true, false}
 use Rattle.std.specs.Fmt.{digits}
 use Rattle.std.proofs.Common.{refl}
 use Rattle.xf_type.specs.declared.payload_type.Width.TheVariants.{I1, I8, I32, I64, Index}
@@ -19,7 +19,13 @@ use Rattle.xf_ir.specs.declared.kind.Kind.{Kind}
 use Rattle.xf_ir.specs.declared.kind.Kind.TheVariants as kind
 use Rattle.xf_ir.specs.declared.op.Module.{Module}
 use Rattle.xf_ir.specs.Tree.{Ops, no_ops, op, no_regions, region}
-use Rattle.xf_format.specs.Rules.{kind_rule, word_rule, symbol_rule, module_name_rule, function_name_rule, argument_rule, use_rule, width_rule, type_rule, result_rule, predicate_rule, block_name_rule, number_rule, literal_rule, entry_width_rule, entry_number_rule, entry_value_rule, entry_rule, param_rule, pair_rule, until_rule, dictionary_rule, attributes_rule, result_types_rule, call_results_rule, function_results_rule, listed_results_rule, if_results_rule, operands_rule, iter_args_rule, loop_width_rule, row_rule, defines_rule, head_rule}
+use Rattle.xf_format.specs.Rules.{kind_rule, word_rule, symbol_rule, module_name_rule, function_name_rule}
+use Rattle.xf_format.specs.Rules.{argument_rule, use_rule, width_rule, type_rule, result_rule, predicate_rule}
+use Rattle.xf_format.specs.Rules.{block_name_rule, number_rule, literal_rule, entry_width_rule, entry_number_rule}
+use Rattle.xf_format.specs.Rules.{entry_value_rule, entry_rule, param_rule, pair_rule, until_rule, dictionary_rule}
+use Rattle.xf_format.specs.Rules.{attributes_rule, result_types_rule, call_results_rule, function_results_rule}
+use Rattle.xf_format.specs.Rules.{listed_results_rule, if_results_rule, operands_rule, iter_args_rule, loop_width_rule}
+use Rattle.xf_format.specs.Rules.{row_rule, defines_rule, head_rule}
 use Rattle.xf_printed.specs.PrintedForm.{printed_form}
 
 abbrev op_name : ℕ → OpName
@@ -33,7 +39,14 @@ index = Scalar Index
 
 abbrev module_of : Ops → Module
 module_of functions = record {
-  root = record { name = op_name 0; kind = kind.Module None; attrs = []; operands = []; results = []; regions = region [] functions no_regions };
+  root = record {
+    name = op_name 0;
+    kind = kind.Module None;
+    attrs = [];
+    operands = [];
+    results = [];
+    regions = region [] functions no_regions;
+  };
   next = 100;
 }
 
@@ -46,10 +59,16 @@ result n = Result (op_name n) 0
 abbrev argument : ℕ → ℕ → ValueName
 argument n i = Arg (op_name n) 0 i
 
+-- a text by its lines
+abbrev lines : List (List ℕ) → List ℕ
+lines [] = []
+lines (l ∷ ls) = l ++ 10 ∷ lines ls
+
 abbrev turns : Module
 turns = module_of (op (op_name 1) (kind.Func (codes "u") false (i32 ∷ [])) [] [] [] (region (i32 ∷ [])
     (constant 2 0 (constant 3 10 (constant 4 3
-    (op (op_name 5) (kind.For Index) [] (result 2 ∷ result 3 ∷ result 4 ∷ argument 1 0 ∷ []) (i32 ∷ []) (region (index ∷ i32 ∷ [])
+    (op (op_name 5) (kind.For Index) [] (result 2 ∷ result 3 ∷ result 4 ∷ argument 1 0 ∷ []) (i32 ∷ [])
+    (region (index ∷ i32 ∷ [])
     (op (op_name 6) (kind.Convert IndexCast Index I32) [] (argument 5 0 ∷ []) (i32 ∷ []) no_regions
     (op (op_name 7) (kind.Binary Addi I32) [] (argument 5 1 ∷ result 6 ∷ []) (i32 ∷ []) no_regions
     (op (op_name 8) kind.Yield [] (result 7 ∷ []) [] no_regions no_ops)))
@@ -57,8 +76,26 @@ turns = module_of (op (op_name 1) (kind.Func (codes "u") false (i32 ∷ [])) [] 
     (op (op_name 9) kind.Return [] (result 5 ∷ []) [] no_regions no_ops)))))
     no_regions) no_ops)
 
-turns_printed : printed_form turns ≡ codes "module {\n  func.func @u(%arg0: i32) -> i32 {\n    %0 = arith.constant 0 : index\n    %1 = arith.constant 10 : index\n    %2 = arith.constant 3 : index\n    %3 = scf.for %arg1 = %0 to %1 step %2 iter_args(%arg2 = %arg0) -> (i32) {\n      %4 = arith.index_cast %arg1 : index to i32\n      %5 = arith.addi %arg2, %4 : i32\n      scf.yield %5 : i32\n    }\n    func.return %3 : i32\n  }\n}\n"
-unfolding digits kind_rule word_rule symbol_rule module_name_rule function_name_rule argument_rule use_rule width_rule type_rule result_rule predicate_rule block_name_rule number_rule literal_rule entry_width_rule entry_number_rule entry_value_rule entry_rule param_rule pair_rule until_rule dictionary_rule attributes_rule result_types_rule call_results_rule function_results_rule listed_results_rule if_results_rule operands_rule iter_args_rule loop_width_rule row_rule defines_rule head_rule
+turns_printed : printed_form turns
+    ≡ lines (codes "module {"
+    ∷ codes "  func.func @u(%arg0: i32) -> i32 {"
+    ∷ codes "    %0 = arith.constant 0 : index"
+    ∷ codes "    %1 = arith.constant 10 : index"
+    ∷ codes "    %2 = arith.constant 3 : index"
+    ∷ codes "    %3 = scf.for %arg1 = %0 to %1 step %2 iter_args(%arg2 = %arg0) -> (i32) {"
+    ∷ codes "      %4 = arith.index_cast %arg1 : index to i32"
+    ∷ codes "      %5 = arith.addi %arg2, %4 : i32"
+    ∷ codes "      scf.yield %5 : i32"
+    ∷ codes "    }"
+    ∷ codes "    func.return %3 : i32"
+    ∷ codes "  }"
+    ∷ codes "}"
+    ∷ [])
+unfolding digits kind_rule word_rule symbol_rule module_name_rule function_name_rule argument_rule use_rule width_rule
+    type_rule result_rule predicate_rule block_name_rule number_rule literal_rule entry_width_rule entry_number_rule
+    entry_value_rule entry_rule param_rule pair_rule until_rule dictionary_rule attributes_rule result_types_rule
+    call_results_rule function_results_rule listed_results_rule if_results_rule operands_rule iter_args_rule
+    loop_width_rule row_rule defines_rule head_rule
 turns_printed = refl
 
 abbrev pair : PayloadType
@@ -72,7 +109,8 @@ structured = module_of (op (op_name 1) (kind.Func (codes "p") false (i32 ∷ i32
     (plain 2 (kind.Dense (record { dims = Fixed 2 ∷ []; elem = I32 }) (1 ∷ 4294967294 ∷ [])) [] (pair ∷ [])
     (plain 3 (kind.Constant Index 0) [] (index ∷ [])
     (plain 4 (kind.Constant I1 1) [] (Scalar I1 ∷ [])
-    (op (op_name 5) (kind.Generic (record { dims = 1; results = 0 ∷ [] } ∷ record { dims = 1; results = 0 ∷ [] } ∷ []) (Parallel ∷ [])) [] (argument 1 0 ∷ result 2 ∷ []) (pair ∷ []) (region (i32 ∷ i32 ∷ [])
+    (op (op_name 5) (kind.Generic (record { dims = 1; results = 0 ∷ [] } ∷ record { dims = 1; results = 0 ∷ [] } ∷ [])
+    (Parallel ∷ [])) [] (argument 1 0 ∷ result 2 ∷ []) (pair ∷ []) (region (i32 ∷ i32 ∷ [])
     (plain 6 (kind.Binary Addi I32) (argument 5 0 ∷ argument 5 1 ∷ []) (i32 ∷ [])
     (plain 7 kind.LinalgYield (result 6 ∷ []) [] no_ops))
     no_regions)
@@ -83,24 +121,70 @@ structured = module_of (op (op_name 1) (kind.Func (codes "p") false (i32 ∷ i32
     (plain 12 kind.Return (result 9 ∷ Result (op_name 9) 1 ∷ []) [] no_ops)))))))
     no_regions) no_ops)
 
-structured_printed : printed_form structured ≡ codes "module {\n  func.func @p(%arg0: tensor<2xi32>) -> (i32, i32) {\n    %0 = arith.constant dense<[1, -2]> : tensor<2xi32>\n    %1 = arith.constant 0 : index\n    %2 = arith.constant true\n    %3 = linalg.generic {indexing_maps = [affine_map<(d0) -> (d0)>, affine_map<(d0) -> (d0)>], iterator_types = [\"parallel\"]} ins(%arg0 : tensor<2xi32>) outs(%0 : tensor<2xi32>) {\n    ^bb0(%arg1: i32, %arg2: i32):\n      %4 = arith.addi %arg1, %arg2 : i32\n      linalg.yield %4 : i32\n    } -> tensor<2xi32>\n    %5 = tensor.extract %3[%1] : tensor<2xi32>\n    %6:2 = scf.if %2 -> (i32, i32) {\n      scf.yield %5, %5 : i32, i32\n    } else {\n      scf.yield %5, %5 : i32, i32\n    }\n    func.return %6#0, %6#1 : i32, i32\n  }\n}\n"
-unfolding digits kind_rule word_rule symbol_rule module_name_rule function_name_rule argument_rule use_rule width_rule type_rule result_rule predicate_rule block_name_rule number_rule literal_rule entry_width_rule entry_number_rule entry_value_rule entry_rule param_rule pair_rule until_rule dictionary_rule attributes_rule result_types_rule call_results_rule function_results_rule listed_results_rule if_results_rule operands_rule iter_args_rule loop_width_rule row_rule defines_rule head_rule
+structured_printed : printed_form structured
+    ≡ lines (codes "module {"
+    ∷ codes "  func.func @p(%arg0: tensor<2xi32>) -> (i32, i32) {"
+    ∷ codes "    %0 = arith.constant dense<[1, -2]> : tensor<2xi32>"
+    ∷ codes "    %1 = arith.constant 0 : index"
+    ∷ codes "    %2 = arith.constant true"
+    ∷ (codes "    %3 = linalg.generic {indexing_maps = [affine_map<(d0) -> (d0)>, affine_map<(d0) -> "
+    ++ codes "(d0)>], iterator_types = [\"parallel\"]} ins(%arg0 : tensor<2xi32>) outs(%0 : tensor<2xi32>) {")
+    ∷ codes "    ^bb0(%arg1: i32, %arg2: i32):"
+    ∷ codes "      %4 = arith.addi %arg1, %arg2 : i32"
+    ∷ codes "      linalg.yield %4 : i32"
+    ∷ codes "    } -> tensor<2xi32>"
+    ∷ codes "    %5 = tensor.extract %3[%1] : tensor<2xi32>"
+    ∷ codes "    %6:2 = scf.if %2 -> (i32, i32) {"
+    ∷ codes "      scf.yield %5, %5 : i32, i32"
+    ∷ codes "    } else {"
+    ∷ codes "      scf.yield %5, %5 : i32, i32"
+    ∷ codes "    }"
+    ∷ codes "    func.return %6#0, %6#1 : i32, i32"
+    ∷ codes "  }"
+    ∷ codes "}"
+    ∷ [])
+unfolding digits kind_rule word_rule symbol_rule module_name_rule function_name_rule argument_rule use_rule width_rule
+    type_rule result_rule predicate_rule block_name_rule number_rule literal_rule entry_width_rule entry_number_rule
+    entry_value_rule entry_rule param_rule pair_rule until_rule dictionary_rule attributes_rule result_types_rule
+    call_results_rule function_results_rule listed_results_rule if_results_rule operands_rule iter_args_rule
+    loop_width_rule row_rule defines_rule head_rule
 structured_printed = refl
 
 -- a function with attributes, a call of it, and an empty yield
 abbrev called : Module
-called = module_of (op (op_name 1) (kind.Func (codes "s") true (i32 ∷ i32 ∷ [])) (record { name = codes "n"; value = Int I64 2 } ∷ []) [] [] (region (i32 ∷ [])
-    (op (op_name 2) (kind.Binary Addi I32) (record { name = codes "x"; value = unit_attr } ∷ []) (argument 1 0 ∷ argument 1 0 ∷ []) (i32 ∷ []) no_regions
+called =
+    module_of (op (op_name 1) (kind.Func (codes "s") true (i32 ∷ i32 ∷ []))
+    (record { name = codes "n"; value = Int I64 2 } ∷ []) [] [] (region (i32 ∷ [])
+    (op (op_name 2) (kind.Binary Addi I32) (record { name = codes "x"; value = unit_attr } ∷ [])
+    (argument 1 0 ∷ argument 1 0 ∷ []) (i32 ∷ []) no_regions
     (plain 3 kind.Return (result 2 ∷ result 2 ∷ []) [] no_ops))
     no_regions)
     (op (op_name 4) (kind.Func (codes "t") false []) [] [] [] (region (i32 ∷ Scalar I1 ∷ [])
     (op (op_name 5) kind.If (record { name = codes "k"; value = Text (codes "a\"b") } ∷ []) (argument 4 1 ∷ []) []
-    (region [] (plain 6 (kind.Call (codes "s")) (argument 4 0 ∷ []) (i32 ∷ i32 ∷ []) (plain 7 kind.Yield [] [] no_ops)) no_regions)
+    (region [] (plain 6 (kind.Call (codes "s")) (argument 4 0 ∷ []) (i32 ∷ i32 ∷ [])
+    (plain 7 kind.Yield [] [] no_ops)) no_regions)
     (plain 8 kind.Return [] [] no_ops))
     no_regions) no_ops))
 
-called_printed : printed_form called ≡ codes "module {\n  func.func private @s(%arg0: i32) -> (i32, i32) attributes {n = 2 : i64} {\n    %0 = arith.addi %arg0, %arg0 {x} : i32\n    func.return %0, %0 : i32, i32\n  }\n  func.func @t(%arg0: i32, %arg1: i1) {\n    scf.if %arg1 {\n      %0:2 = func.call @s(%arg0) : (i32) -> (i32, i32)\n    } {k = \"a\\22b\"}\n    func.return\n  }\n}\n"
-unfolding digits kind_rule word_rule symbol_rule module_name_rule function_name_rule argument_rule use_rule width_rule type_rule result_rule predicate_rule block_name_rule number_rule literal_rule entry_width_rule entry_number_rule entry_value_rule entry_rule param_rule pair_rule until_rule dictionary_rule attributes_rule result_types_rule call_results_rule function_results_rule listed_results_rule if_results_rule operands_rule iter_args_rule loop_width_rule row_rule defines_rule head_rule
+called_printed : printed_form called
+    ≡ lines (codes "module {"
+    ∷ codes "  func.func private @s(%arg0: i32) -> (i32, i32) attributes {n = 2 : i64} {"
+    ∷ codes "    %0 = arith.addi %arg0, %arg0 {x} : i32"
+    ∷ codes "    func.return %0, %0 : i32, i32"
+    ∷ codes "  }"
+    ∷ codes "  func.func @t(%arg0: i32, %arg1: i1) {"
+    ∷ codes "    scf.if %arg1 {"
+    ∷ codes "      %0:2 = func.call @s(%arg0) : (i32) -> (i32, i32)"
+    ∷ codes "    } {k = \"a\\22b\"}"
+    ∷ codes "    func.return"
+    ∷ codes "  }"
+    ∷ codes "}"
+    ∷ [])
+unfolding digits kind_rule word_rule symbol_rule module_name_rule function_name_rule argument_rule use_rule width_rule
+    type_rule result_rule predicate_rule block_name_rule number_rule literal_rule entry_width_rule entry_number_rule
+    entry_value_rule entry_rule param_rule pair_rule until_rule dictionary_rule attributes_rule result_types_rule
+    call_results_rule function_results_rule listed_results_rule if_results_rule operands_rule iter_args_rule
+    loop_width_rule row_rule defines_rule head_rule
 called_printed = refl
 
 abbrev grid : PayloadType
@@ -123,9 +207,13 @@ tensors = record {
         (plain 2 (kind.Dense (record { dims = Fixed 2 ∷ Fixed 2 ∷ []; elem = I32 }) (7 ∷ [])) [] (square ∷ [])
         (plain 3 (kind.Constant I8 255) [] (Scalar I8 ∷ [])
         (plain 4 kind.Empty (argument 1 1 ∷ []) (grid ∷ [])
-        (op (op_name 5) kind.Dim ((record { name = codes "a"; value = Int I8 255 }) ∷ (record { name = codes "b"; value = Int I1 1 }) ∷ []) (argument 1 0 ∷ argument 1 1 ∷ []) (index ∷ []) no_regions
-        (plain 6 (kind.ExtractSlice (At (pos 0) ∷ Next ∷ []) (At (pos 2) ∷ At (pos 2) ∷ [])) (argument 1 0 ∷ argument 1 1 ∷ []) (square ∷ [])
-        (plain 7 (kind.InsertSlice (Next ∷ At (pos 0) ∷ []) (At (pos 2) ∷ At (pos 2) ∷ [])) (result 6 ∷ result 4 ∷ result 5 ∷ []) (grid ∷ [])
+        (op (op_name 5) kind.Dim
+        ((record { name = codes "a"; value = Int I8 255 }) ∷ (record { name = codes "b"; value = Int I1 1 }) ∷ [])
+        (argument 1 0 ∷ argument 1 1 ∷ []) (index ∷ []) no_regions
+        (plain 6 (kind.ExtractSlice (At (pos 0) ∷ Next ∷ []) (At (pos 2) ∷ At (pos 2) ∷ []))
+        (argument 1 0 ∷ argument 1 1 ∷ []) (square ∷ [])
+        (plain 7 (kind.InsertSlice (Next ∷ At (pos 0) ∷ []) (At (pos 2) ∷ At (pos 2) ∷ []))
+        (result 6 ∷ result 4 ∷ result 5 ∷ []) (grid ∷ [])
         (plain 8 (kind.Named Fill) (result 3 ∷ result 7 ∷ []) (grid ∷ [])
         (plain 9 kind.Cast (result 8 ∷ []) (grid ∷ [])
         (plain 10 kind.Return (result 9 ∷ []) [] no_ops)))))))))
@@ -134,6 +222,24 @@ tensors = record {
   next = 100;
 }
 
-tensors_printed : printed_form tensors ≡ codes "module @m attributes {v} {\n  func.func @f(%arg0: tensor<?x4xi32>, %arg1: index) -> tensor<?x4xi32> {\n    %0 = arith.constant dense<7> : tensor<2x2xi32>\n    %1 = arith.constant -1 : i8\n    %2 = tensor.empty(%arg1) : tensor<?x4xi32>\n    %3 = tensor.dim {a = -1 : i8, b = true} %arg0, %arg1 : tensor<?x4xi32>\n    %4 = tensor.extract_slice %arg0[0, %arg1] [2, 2] [1, 1] : tensor<?x4xi32> to tensor<2x2xi32>\n    %5 = tensor.insert_slice %4 into %2[%3, 0] [2, 2] [1, 1] : tensor<2x2xi32> into tensor<?x4xi32>\n    %6 = linalg.fill ins(%1 : i8) outs(%5 : tensor<?x4xi32>) -> tensor<?x4xi32>\n    %7 = tensor.cast %6 : tensor<?x4xi32> to tensor<?x4xi32>\n    func.return %7 : tensor<?x4xi32>\n  }\n}\n"
-unfolding digits kind_rule word_rule symbol_rule module_name_rule function_name_rule argument_rule use_rule width_rule type_rule result_rule predicate_rule block_name_rule number_rule literal_rule entry_width_rule entry_number_rule entry_value_rule entry_rule param_rule pair_rule until_rule dictionary_rule attributes_rule result_types_rule call_results_rule function_results_rule listed_results_rule if_results_rule operands_rule iter_args_rule loop_width_rule row_rule defines_rule head_rule
+tensors_printed : printed_form tensors
+    ≡ lines (codes "module @m attributes {v} {"
+    ∷ codes "  func.func @f(%arg0: tensor<?x4xi32>, %arg1: index) -> tensor<?x4xi32> {"
+    ∷ codes "    %0 = arith.constant dense<7> : tensor<2x2xi32>"
+    ∷ codes "    %1 = arith.constant -1 : i8"
+    ∷ codes "    %2 = tensor.empty(%arg1) : tensor<?x4xi32>"
+    ∷ codes "    %3 = tensor.dim {a = -1 : i8, b = true} %arg0, %arg1 : tensor<?x4xi32>"
+    ∷ codes "    %4 = tensor.extract_slice %arg0[0, %arg1] [2, 2] [1, 1] : tensor<?x4xi32> to tensor<2x2xi32>"
+    ∷ codes "    %5 = tensor.insert_slice %4 into %2[%3, 0] [2, 2] [1, 1] : tensor<2x2xi32> into tensor<?x4xi32>"
+    ∷ codes "    %6 = linalg.fill ins(%1 : i8) outs(%5 : tensor<?x4xi32>) -> tensor<?x4xi32>"
+    ∷ codes "    %7 = tensor.cast %6 : tensor<?x4xi32> to tensor<?x4xi32>"
+    ∷ codes "    func.return %7 : tensor<?x4xi32>"
+    ∷ codes "  }"
+    ∷ codes "}"
+    ∷ [])
+unfolding digits kind_rule word_rule symbol_rule module_name_rule function_name_rule argument_rule use_rule width_rule
+    type_rule result_rule predicate_rule block_name_rule number_rule literal_rule entry_width_rule entry_number_rule
+    entry_value_rule entry_rule param_rule pair_rule until_rule dictionary_rule attributes_rule result_types_rule
+    call_results_rule function_results_rule listed_results_rule if_results_rule operands_rule iter_args_rule
+    loop_width_rule row_rule defines_rule head_rule
 tensors_printed = refl

@@ -153,4 +153,5 @@ count_fill ts = yes (terminal colon []) (token_fill token.Integer (decimal (leng
 abbrev pub head_fill : ℕ → List PayloadType → List ℕ → Fill
 head_fill number [] w = other (word_fill w)
 head_fill number ts w =
-    yes (terminal token.Value (number_name number)) (two (two (count_fill ts) (two nothing (mark_fill equals))) (word_fill w))
+    yes (terminal token.Value (number_name number))
+    (two (two (count_fill ts) (two nothing (mark_fill equals))) (word_fill w))

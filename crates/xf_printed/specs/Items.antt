@@ -1,18 +1,17 @@
 -- How single tokens, names, types, lists and attributes fill their rules.
 use Rattle.std.specs.Prelude.{ℕ, suc, ◌+◌, List, [], ◌∷◌, ◌++◌, drop, codes, Option, Some, None, Bool, true, false}
 use Rattle.std.specs.Fmt.{decimal}
-use Rattle.std.specs.List.{flat_map}
 use Rattle.xf_type.specs.declared.attribute.AttrValue.{AttrValue}
 use Rattle.xf_type.specs.declared.attribute.AttrValue.TheVariants as attr
 use Rattle.xf_type.specs.declared.payload_type.PayloadType.{PayloadType}
 use Rattle.xf_type.specs.declared.payload_type.PayloadType.TheVariants.{Scalar, Tensor}
-use Rattle.xf_type.specs.declared.payload_type.Shape.{Shape}
 use Rattle.xf_type.specs.declared.payload_type.Width.{Width}
 use Rattle.xf_type.specs.declared.payload_type.Width.TheVariants.{I1}
 use Rattle.xf_type.specs.Integers.{signed_value}
 use Rattle.xf_type.specs.Spelling.{width_spelling}
 use Rattle.xf_lex.specs.declared.token.TokenKind.{TokenKind}
 use Rattle.xf_lex.specs.declared.token.TokenKind.TheVariants as token
+pub use Rattle.xf_shape.specs.Written.{shape_text}
 use Rattle.xf_grammar.specs.Tokens.{terminal, open_paren, close_paren, minus, colon, equals, open_brace, close_brace}
 use Rattle.xf_grammar.specs.Grammar.{Fill, nothing, yes, here, other, two, list, written}
 use Rattle.xf_grammar.specs.Layout.{text}
@@ -23,7 +22,6 @@ use Rattle.xf_ir.specs.declared.name.ValueName.TheVariants.{Result, Arg, Free}
 use Rattle.xf_printed.specs.Attributes.{string_text}
 use Rattle.xf_printed.specs.Names.{DefinedValues, Names, argument_text, type_of}
 use Rattle.xf_printed.specs.Numbers.{has_minus, digits_of, is_set, truth_word}
-use Rattle.xf_printed.specs.Words.{dim_text}
 
 -- the bytes that a rule writes, filled so
 abbrev pub rule_text : Rule → Fill → List ℕ
@@ -97,10 +95,6 @@ argument_fill k = here (token_fill token.Value (argument_text k))
 abbrev pub width_fill : Width → Fill
 width_fill w = here (word_fill (width_spelling w))
 
--- what stands between < and >, with them
-abbrev pub shape_text : Shape → List ℕ
-shape_text s = codes "<" ++ (flat_map dim_text s.dims ++ (width_spelling s.elem ++ codes ">"))
-
 abbrev pub type_fill : PayloadType → Fill
 type_fill (Scalar w) = width_fill w
 type_fill (Tensor s) = other (here (yes (terminal token.Word (codes "tensor")) (token_fill token.Shape (shape_text s))))
@@ -160,7 +154,8 @@ pair_fill names p = here (two (argument_fill p.number) (two (mark_fill equals) (
 
 -- a number is written with its width
 abbrev pub typed_fill : List ℕ → Width → Fill
-typed_fill digits w = here (yes (terminal token.Integer digits) (yes (terminal colon []) (here (word_fill (width_spelling w)))))
+typed_fill digits w =
+    here (yes (terminal token.Integer digits) (yes (terminal colon []) (here (word_fill (width_spelling w)))))
 
 abbrev pub truth_entry_fill : Bool → Fill
 truth_entry_fill true = word_fill (truth_word true)
@@ -178,7 +173,8 @@ int_entry_fill w bits = number_entry_fill (has_minus (signed_value w bits)) (dig
 abbrev pub entry_value_fill : AttrValue → Fill
 entry_value_fill attr.Unit = other nothing
 entry_value_fill (attr.Int w bits) = yes (terminal equals []) (int_entry_fill w bits)
-entry_value_fill (attr.Text bytes) = yes (terminal equals []) (other (other (other (token_fill token.Text (string_text bytes)))))
+entry_value_fill (attr.Text bytes) =
+    yes (terminal equals []) (other (other (other (token_fill token.Text (string_text bytes)))))
 
 abbrev pub entry_fill : Attr → Fill
 entry_fill d = here (yes (terminal token.Word d.name) (entry_value_fill d.value))
@@ -189,7 +185,8 @@ dictionary_fill ds = yes (terminal open_brace []) (until_fill close_brace entry_
 
 abbrev pub attributes_fill : List Attr → Fill
 attributes_fill [] = other nothing
-attributes_fill ds = yes (terminal token.Word (codes "attributes")) (two (mark_fill open_brace) (until_fill close_brace entry_fill ds))
+attributes_fill ds =
+    yes (terminal token.Word (codes "attributes")) (two (mark_fill open_brace) (until_fill close_brace entry_fill ds))
 
 -- ---- types and operands
 

@@ -56,7 +56,8 @@ abbrev mutual
   ops_docs names (op n k ds os ts rs rest) =
       let t : Tree = record { name = n; kind = k; attrs = ds; operands = os; results = ts; regions = rs } in
       if is_empty_yield k ds os then ops_docs names rest
-      else doc (head_of names t) (slots_of names t) (regions_blocks names (header_of names t) rs) (tail_of names t) (ops_docs names rest)
+      else doc (head_of names t) (slots_of names t) (regions_blocks names (header_of names t) rs) (tail_of names t)
+      (ops_docs names rest)
 
   -- each block begins with this header
   pub regions_blocks : Names → Fill → Regions → Blocks
@@ -69,7 +70,8 @@ functions_docs no_ops = no_docs
 functions_docs (op n k ds os ts rs rest) =
     let names = with_ops no_names (op n k ds os ts rs no_ops) in
     let t : Tree = record { name = n; kind = k; attrs = ds; operands = os; results = ts; regions = rs } in
-    doc (head_of names t) (slots_of names t) (regions_blocks names (header_of names t) rs) (tail_of names t) (functions_docs rest)
+    doc (head_of names t) (slots_of names t) (regions_blocks names (header_of names t) rs) (tail_of names t)
+    (functions_docs rest)
 
 abbrev pub module_docs : Module → Docs
 module_docs m =

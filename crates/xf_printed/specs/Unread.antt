@@ -1,5 +1,5 @@
--- The text of the operations of tensor and linalg, and of dense constants, which are not rows of slots yet (MLIR: the pages of
--- tensor and linalg; DenseIntOrFPElementsAttr).
+-- The text of the operations of tensor and linalg, and of dense constants, which are not rows of slots yet (MLIR: the
+-- pages of tensor and linalg; DenseIntOrFPElementsAttr).
 use Rattle.std.specs.Prelude.{ℕ, zero, suc, ◌-◌, List, [], ◌∷◌, ◌++◌, length, take, drop, map, codes}
 use Rattle.std.specs.Prelude.{Bool, true, false, slice_get, option_and_then}
 use Rattle.std.specs.Fmt.{signed_decimal}
@@ -18,7 +18,8 @@ use Rattle.xf_ir.specs.declared.kind.IteratorKind.{IteratorKind}
 use Rattle.xf_printed.specs.Words.{iterator_text, dimension_text}
 use Rattle.xf_printed.specs.Words.{listed as joined}
 use Rattle.xf_printed.specs.Dense.{body_text}
-use Rattle.xf_printed.specs.Items.{rule_text, some_fill, operand_fill, value_fill, value_type_fill, type_fill, type_or_none}
+use Rattle.xf_printed.specs.Items.{rule_text, some_fill, operand_fill, value_fill, value_type_fill, type_fill}
+use Rattle.xf_printed.specs.Items.{type_or_none}
 use Rattle.xf_printed.specs.Items.{call_results_fill, dictionary_fill, operands_fill}
 use Rattle.xf_printed.specs.Names.{Names, type_of}
 
@@ -130,21 +131,25 @@ marked_attrs ds = codes " attrs =" ++ attrs_text ds
 abbrev pub rest_text : Names → Kind → List Attr → List ValueName → List PayloadType → List ℕ
 rest_text names kind.Empty ds os ts =
     codes "(" ++ (uses_text false names os ++ (codes ")" ++ (attrs_text ds ++ (codes " :" ++ types_text ts))))
-rest_text names kind.Dim ds os ts = attrs_text ds ++ (uses_text true names os ++ (codes " :" ++ operand_type names os 0))
+rest_text names kind.Dim ds os ts =
+    attrs_text ds ++ (uses_text true names os ++ (codes " :" ++ operand_type names os 0))
 rest_text names kind.Extract ds os ts =
     operand true names os 0 ++ (codes "[" ++ (uses_text false names (drop 1 os)
     ++ (codes "]" ++ (attrs_text ds ++ (codes " :" ++ operand_type names os 0)))))
 rest_text names kind.Insert ds os ts =
-    operand true names os 0 ++ (codes " into" ++ (operand true names os 1 ++ (codes "[" ++ (uses_text false names (drop 2 os)
+    operand true names os 0
+    ++ (codes " into" ++ (operand true names os 1 ++ (codes "[" ++ (uses_text false names (drop 2 os)
     ++ (codes "]" ++ (attrs_text ds ++ (codes " :" ++ operand_type names os 1)))))))
 rest_text names (kind.ExtractSlice offsets sizes) ds os ts =
     operand true names os 0 ++ (window_text names offsets sizes (drop 1 os)
     ++ (attrs_text ds ++ (codes " :" ++ (operand_type names os 0 ++ (codes " to" ++ types_text ts)))))
 rest_text names (kind.InsertSlice offsets sizes) ds os ts =
-    operand true names os 0 ++ (codes " into" ++ (operand true names os 1 ++ (window_text names offsets sizes (drop 2 os)
+    operand true names os 0
+    ++ (codes " into" ++ (operand true names os 1 ++ (window_text names offsets sizes (drop 2 os)
     ++ (attrs_text ds ++ (codes " :" ++ (operand_type names os 0 ++ (codes " into" ++ operand_type names os 1)))))))
 rest_text names kind.Cast ds os ts =
-    uses_text true names os ++ (attrs_text ds ++ (codes " :" ++ (operand_type names os 0 ++ (codes " to" ++ types_text ts))))
+    uses_text true names os
+    ++ (attrs_text ds ++ (codes " :" ++ (operand_type names os 0 ++ (codes " to" ++ types_text ts))))
 rest_text names (kind.Named which) ds os ts = attrs_text ds ++ (structured_text names os ++ results_text ts)
 rest_text names (kind.Generic maps iterators) ds os ts =
     generic_text maps iterators ++ (structured_text names os ++ marked_attrs ds)
@@ -154,5 +159,6 @@ rest_text names _ ds os ts = []
 -- the value of a dense constant, behind a blank
 abbrev pub dense_text : Kind → List ℕ
 dense_text (kind.Dense shape numbers) =
-    codes " dense<" ++ (body_text shape numbers ++ (codes "> :" ++ rule_text (type_rule true) (type_fill (Tensor shape))))
+    codes " dense<"
+    ++ (body_text shape numbers ++ (codes "> :" ++ rule_text (type_rule true) (type_fill (Tensor shape))))
 dense_text _ = []

@@ -1,8 +1,7 @@
--- Words of the printed form: dimensions, iterators (MLIR: builtin types, linalg), and lists.
+-- Words of the printed form: iterators and dimensions of maps (MLIR: linalg, affine maps), and lists.
 use Rattle.std.specs.Prelude.{ℕ, List, [], ◌∷◌, ◌++◌, codes}
 use Rattle.std.specs.Fmt.{decimal}
-use Rattle.xf_type.specs.declared.payload_type.Dim.{Dim}
-use Rattle.xf_type.specs.declared.payload_type.Dim.TheVariants.{Fixed, Dynamic}
+pub use Rattle.xf_shape.specs.Written.{dim_text}
 use Rattle.xf_ir.specs.declared.kind.IteratorKind.{IteratorKind}
 use Rattle.xf_ir.specs.declared.kind.IteratorKind.TheVariants.{Parallel, Reduction}
 
@@ -17,13 +16,6 @@ listed_more (t ∷ ts) = codes ", " ++ (t ++ listed_more ts)
 abbrev pub listed : List (List ℕ) → List ℕ
 listed [] = []
 listed (t ∷ ts) = t ++ listed_more ts
-
--- ---- types
-
--- a dimension and the x behind it
-abbrev pub dim_text : Dim → List ℕ
-dim_text (Fixed extent) = decimal extent ++ codes "x"
-dim_text Dynamic = codes "?x"
 
 -- ---- what belongs to kinds
 

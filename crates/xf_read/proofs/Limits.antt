@@ -2,21 +2,19 @@
 use Rattle.std.proofs.Common.{◌≡◌, ℕ, ◌+◌, Bool, true, false, List, refl, subst, arith}
 use Rattle.std.specs.Prelude.{if◌then◌else◌}
 use Rattle.xf_lex.specs.declared.token.Token.{Token}
-use Rattle.xf_format.specs.declared.parts.Parts.{Parts}
 use Rattle.xf_ir.specs.Count.{ops_count, regions_count}
 use Rattle.xf_ir.specs.Limits.{OpsNest, RegionsNest, IsWithinLimits}
 use Rattle.xf_ir.specs.Tree.{Ops, no_ops, op, cons}
 use Rattle.xf_syntax.specs.declared.tree.File.{File}
 use Rattle.xf_syntax.specs.Laws.{IsText}
-use Rattle.xf_read.specs.Meant.{joined, left_out, yield_tree, nodes_meant, bodies_meant, meant}
-use Rattle.xf_read.specs.Names.{yield_count, nodes_count, bodies_count, inside, behind}
+use Rattle.xf_syntax.specs.Telling.{SaidNodes, no_nodes_said, node_said, SaidBodies, no_bodies_said, body_said, bodies_said, left_out, operations, operations_inside}
+use Rattle.xf_read.specs.Meant.{joined, lacks_yield, yield_said, yield_tree, ops_said, regions_said, meant}
+use Rattle.xf_read.specs.Names.{inside, behind}
 use Rattle.xf_read.specs.Scopes.{Meanings, no_names}
 use Rattle.xf_read.specs.Short.{SpeltIsWithinLimits}
-use Rattle.xf_read.specs.Names.{lacks_yield}
-use Rattle.xf_grammar.specs.Tree.{Nodes, no_nodes, node, Bodies, no_bodies, body, nodes_said, bodies_said}
 use Rattle.xf_grammar.proofs.TreesNest.{NodesNest, BodiesNest}
 use Rattle.xf_format.specs.Format.{most_open}
-use Rattle.xf_format.specs.Parts.{said}
+use Rattle.xf_format.specs.Parts.{Said, said}
 use Rattle.xf_read.proofs.Counting.{few_operations}
 use Rattle.xf_read.proofs.Texts.{text_nests}
 
@@ -31,18 +29,18 @@ yield_nests true n depth = (tt, tt)
 yield_nests false n depth = tt
 
 mutual
-  nodes_nest : (all : List Token) (n : ℕ) (scope : Meanings) (ns : Nodes Parts) (depth : ℕ) → NodesNest most_open 2 depth (nodes_said (said all) ns) → OpsNest depth (nodes_meant all n scope ns)
-  nodes_nest all n scope no_nodes depth h = tt
-  nodes_nest all n scope (node first p bs rest) depth h =
-      (bodies_nest all (n + 1) p (inside all n p scope) bs depth h.1.0, nodes_nest all (n + (1 + bodies_count p bs)) (behind all n p scope) rest depth h.1.1)
+  ops_nest : (n : ℕ) (scope : Meanings) (ns : SaidNodes) (depth : ℕ) → NodesNest most_open 2 depth ns → OpsNest depth (ops_said n scope ns)
+  ops_nest n scope no_nodes_said depth h = tt
+  ops_nest n scope (node_said t bs rest) depth h =
+      (regions_nest (n + 1) t (inside n t scope) bs depth h.1.0, ops_nest (n + (1 + operations_inside t bs)) (behind n t scope) rest depth h.1.1)
 
-  bodies_nest : (all : List Token) (n : ℕ) (p : Parts) (scope : Meanings) (bs : Bodies Parts) (depth : ℕ) → BodiesNest most_open 2 depth (bodies_said (said all) bs) → RegionsNest depth (bodies_meant all n p scope bs)
-  bodies_nest all n p scope no_bodies depth h = tt
-  bodies_nest all n p scope (body ns close rest) depth h = (
+  regions_nest : (n : ℕ) (t : Said) (scope : Meanings) (bs : SaidBodies) (depth : ℕ) → BodiesNest most_open 2 depth bs → RegionsNest depth (regions_said n t scope bs)
+  regions_nest n t scope no_bodies_said depth h = tt
+  regions_nest n t scope (body_said ns rest) depth h = (
     h.0,
     (
-      joined_nest (depth + 1) (nodes_meant all n scope ns) (left_out p ns (n + nodes_count ns)) (nodes_nest all n scope ns (depth + 1) h.1.0) (yield_nests (lacks_yield p ns) (n + nodes_count ns) (depth + 1)),
-      bodies_nest all (n + (nodes_count ns + yield_count p ns)) p scope rest depth h.1.1,
+      joined_nest (depth + 1) (ops_said n scope ns) (yield_said t ns (n + operations ns)) (ops_nest n scope ns (depth + 1) h.1.0) (yield_nests (lacks_yield t ns) (n + operations ns) (depth + 1)),
+      regions_nest (n + (operations ns + left_out t ns)) t scope rest depth h.1.1,
     ),
   )
 
@@ -57,31 +55,31 @@ left_count true n = refl
 left_count false n = refl
 
 mutual
-  nodes_counted : (all : List Token) (n : ℕ) (scope : Meanings) (ns : Nodes Parts) → ops_count (nodes_meant all n scope ns) ≡ nodes_count ns
-  nodes_counted all n scope no_nodes = refl
-  nodes_counted all n scope (node first p bs rest) =
-      let a = bodies_counted all (n + 1) p (inside all n p scope) bs in
-      let b = nodes_counted all (n + (1 + bodies_count p bs)) (behind all n p scope) rest in
+  ops_counted : (n : ℕ) (scope : Meanings) (ns : SaidNodes) → ops_count (ops_said n scope ns) ≡ operations ns
+  ops_counted n scope no_nodes_said = refl
+  ops_counted n scope (node_said t bs rest) =
+      let a = regions_counted (n + 1) t (inside n t scope) bs in
+      let b = ops_counted (n + (1 + operations_inside t bs)) (behind n t scope) rest in
       omega (arith, a, b)
 
-  bodies_counted : (all : List Token) (n : ℕ) (p : Parts) (scope : Meanings) (bs : Bodies Parts) → regions_count (bodies_meant all n p scope bs) ≡ bodies_count p bs
-  bodies_counted all n p scope no_bodies = refl
-  bodies_counted all n p scope (body ns close rest) =
-      let a = nodes_counted all n scope ns in
-      let b = left_count (lacks_yield p ns) (n + nodes_count ns) in
-      let c = joined_count (nodes_meant all n scope ns) (left_out p ns (n + nodes_count ns)) in
-      let d = bodies_counted all (n + (nodes_count ns + yield_count p ns)) p scope rest in
+  regions_counted : (n : ℕ) (t : Said) (scope : Meanings) (bs : SaidBodies) → regions_count (regions_said n t scope bs) ≡ operations_inside t bs
+  regions_counted n t scope no_bodies_said = refl
+  regions_counted n t scope (body_said ns rest) =
+      let a = ops_counted n scope ns in
+      let b = left_count (lacks_yield t ns) (n + operations ns) in
+      let c = joined_count (ops_said n scope ns) (yield_said t ns (n + operations ns)) in
+      let d = regions_counted (n + (operations ns + left_out t ns)) t scope rest in
       omega (arith, a, b, c, d)
 
 -- ---- texts
 
 text_within : (all : List Token) (file : File) → IsText all file → IsWithinLimits (meant all file)
 text_within all file text =
-    let t = file.root in
-    let nests = text_nests all file text in
+    let t : Said = said all file.root.parts in
+    let bs : SaidBodies = bodies_said all file.root.bodies in
     let few = few_operations all file text in
-    let counted = bodies_counted all 1 t.parts (inside all 0 t.parts no_names) t.bodies in
-    record { nesting = bodies_nest all 1 t.parts (inside all 0 t.parts no_names) t.bodies 0 nests.1.0; number = omega (arith, few, counted) }
+    let counted = regions_counted 1 t (inside 0 t no_names) bs in
+    record { nesting = regions_nest 1 t (inside 0 t no_names) bs 0 (text_nests all file text).1.0; number = omega (arith, few, counted) }
 
 pub spelt_is_within_limits : SpeltIsWithinLimits
 spelt_is_within_limits bytes m s = subst IsWithinLimits s.means (text_within s.tokens s.file s.is_text)

@@ -8,11 +8,13 @@ use Rattle.xf_ir.specs.Tree.{Ops, Regions, region, cons}
 use Rattle.xf_ir.specs.Tree.{Tree as Op, Body as IrBlock}
 use Rattle.xf_ir.specs.View.{ops_of, regions_of}
 use Rattle.xf_read.specs.declared.faults.Faults.{Faults}
-use Rattle.xf_read.specs.Meant.{joined, left_out, nodes_meant, bodies_meant, tree_meant, place_of, yield_places, nodes_places, bodies_places}
-use Rattle.xf_read.specs.Names.{with_faults, no_faults, yield_count, nodes_count, bodies_count, tree_count, inside, behind, head_faults, nodes_faults, bodies_faults, tree_faults}
+use Rattle.xf_format.specs.Parts.{said}
+use Rattle.xf_syntax.specs.Telling.{SaidNodes, nodes_said, SaidBodies, bodies_said, left_out, operations, operations_inside}
+use Rattle.xf_read.specs.Meant.{joined, yield_said, ops_said, regions_said, tree_said, place_of, yield_places, nodes_places, bodies_places}
+use Rattle.xf_read.specs.Names.{with_faults, no_faults, tree_count, inside, behind, head_faults, nodes_faults, bodies_faults, tree_faults}
 use Rattle.xf_read.specs.Scopes.{Meanings}
 use Rattle.xf_grammar.specs.Tree.{Tree, Block}
-use Rattle.xf_read.specs.Types.{args_by}
+use Rattle.xf_read.specs.Types.{argument_types}
 use Rattle.xf_syntax.specs.View.{nodes_of, bodies_of}
 use Rattle.xf_read.specs.Walks.{joined_regions}
 use Rattle.xf_read.proofs.Earlier.{faults_regrouped, faults_not}
@@ -23,26 +25,32 @@ module _ (all : List Token) (ts : List (Tree Parts)) (i : ℕ) (this : Tree Part
     abbrev rest : List (Tree Parts)
     rest = drop (i + 1) ts
 
+    abbrev trees_said : List (Tree Parts) → SaidNodes
+    trees_said xs = nodes_said all (nodes_of xs)
+
+    abbrev this_said : ℕ → Meanings → Op
+    this_said n s = tree_said n s (said all this.parts) (bodies_said all this.bodies)
+
     first_is : {Y : Type 0} (F : List (Tree Parts) → Y) → F (drop i ts) ≡ F (this ∷ rest)
     first_is F = at_drop_more F ts i this lt ∙ ap (λ x. F (x ∷ rest)) (sym is)
 
-    pub ops_more : (n m : ℕ) (s z : Meanings) (os us : List Op) (o : Op) (total : Ops) → o ≡ tree_meant all n s this → m ≡ n + tree_count this → z ≡ behind all n this.parts s → us ≡ os ++ o ∷ []
-        → joined (ops_of os) (nodes_meant all n s (nodes_of (drop i ts))) ≡ total → joined (ops_of us) (nodes_meant all m z (nodes_of rest)) ≡ total
+    pub ops_more : (n m : ℕ) (s z : Meanings) (os us : List Op) (o : Op) (total : Ops) → o ≡ this_said n s → m ≡ n + tree_count all this → z ≡ behind n (said all this.parts) s → us ≡ os ++ o ∷ []
+        → joined (ops_of os) (ops_said n s (trees_said (drop i ts))) ≡ total → joined (ops_of us) (ops_said m z (trees_said rest)) ≡ total
     ops_more n m s z os us o total e f g p h =
-        ap (λ xs. joined (ops_of xs) (nodes_meant all m z (nodes_of rest))) p
-        ∙ ops_push os o (nodes_meant all m z (nodes_of rest))
-        ∙ ap (λ x. joined (ops_of os) (cons x (nodes_meant all m z (nodes_of rest)))) e
-        ∙ ap (λ k. joined (ops_of os) (cons (tree_meant all n s this) (nodes_meant all k z (nodes_of rest)))) f
-        ∙ ap (λ y. joined (ops_of os) (cons (tree_meant all n s this) (nodes_meant all (n + tree_count this) y (nodes_of rest)))) g
-        ∙ sym (first_is (λ xs. joined (ops_of os) (nodes_meant all n s (nodes_of xs)))) ∙ h
+        ap (λ xs. joined (ops_of xs) (ops_said m z (trees_said rest))) p
+        ∙ ops_push os o (ops_said m z (trees_said rest))
+        ∙ ap (λ x. joined (ops_of os) (cons x (ops_said m z (trees_said rest)))) e
+        ∙ ap (λ k. joined (ops_of os) (cons (this_said n s) (ops_said k z (trees_said rest)))) f
+        ∙ ap (λ y. joined (ops_of os) (cons (this_said n s) (ops_said (n + tree_count all this) y (trees_said rest)))) g
+        ∙ sym (first_is (λ xs. joined (ops_of os) (ops_said n s (trees_said xs)))) ∙ h
 
-    pub faults_more : (n m : ℕ) (s z : Meanings) (f g total : Faults) → g ≡ with_faults f (tree_faults all n s this) → m ≡ n + tree_count this → z ≡ behind all n this.parts s
+    pub faults_more : (n m : ℕ) (s z : Meanings) (f g total : Faults) → g ≡ with_faults f (tree_faults all n s this) → m ≡ n + tree_count all this → z ≡ behind n (said all this.parts) s
         → with_faults f (nodes_faults all n s (nodes_of (drop i ts))) ≡ total → with_faults g (nodes_faults all m z (nodes_of rest)) ≡ total
     faults_more n m s z f g total p e q h =
         ap (λ x. with_faults x (nodes_faults all m z (nodes_of rest))) p
         ∙ ap (λ k. with_faults (with_faults f (tree_faults all n s this)) (nodes_faults all k z (nodes_of rest))) e
-        ∙ ap (λ y. with_faults (with_faults f (tree_faults all n s this)) (nodes_faults all (n + tree_count this) y (nodes_of rest))) q
-        ∙ faults_regrouped f (tree_faults all n s this) (nodes_faults all (n + tree_count this) (behind all n this.parts s) (nodes_of rest))
+        ∙ ap (λ y. with_faults (with_faults f (tree_faults all n s this)) (nodes_faults all (n + tree_count all this) y (nodes_of rest))) q
+        ∙ faults_regrouped f (tree_faults all n s this) (nodes_faults all (n + tree_count all this) (behind n (said all this.parts) s) (nodes_of rest))
         ∙ sym (first_is (λ xs. with_faults f (nodes_faults all n s (nodes_of xs)))) ∙ h
 
     pub places_more : (ps qs total : List Place) → qs ≡ ps ++ (place_of all this.first ∷ bodies_places all this.parts this.bodies) → ps ++ nodes_places all (nodes_of (drop i ts)) ≡ total → qs ++ nodes_places all (nodes_of rest) ≡ total
@@ -51,15 +59,15 @@ module _ (all : List Token) (ts : List (Tree Parts)) (i : ℕ) (this : Tree Part
         ∙ append_assoc ps (place_of all this.first ∷ bodies_places all this.parts this.bodies) (nodes_places all (nodes_of rest))
         ∙ sym (first_is (λ xs. ps ++ nodes_places all (nodes_of xs))) ∙ h
 
-    pub count_more : (n m total : ℕ) → m ≡ n + tree_count this → n + nodes_count (nodes_of (drop i ts)) ≡ total → m + nodes_count (nodes_of rest) ≡ total
+    pub count_more : (n m total : ℕ) → m ≡ n + tree_count all this → n + operations (trees_said (drop i ts)) ≡ total → m + operations (trees_said rest) ≡ total
     count_more n m total e h =
-        let c : nodes_count (nodes_of (drop i ts)) ≡ tree_count this + nodes_count (nodes_of rest) = first_is (λ xs. nodes_count (nodes_of xs)) in
+        let c : operations (trees_said (drop i ts)) ≡ 1 + (operations_inside (said all this.parts) (bodies_said all this.bodies) + operations (trees_said rest)) = first_is (λ xs. operations (trees_said xs)) in
         omega arith
 
     -- the operation that is next has a number
-    pub count_fits : (n : ℕ) → n + nodes_count (nodes_of (drop i ts)) < 2 ^ 64 → n + tree_count this < 2 ^ 64
+    pub count_fits : (n : ℕ) → n + operations (trees_said (drop i ts)) < 2 ^ 64 → n + tree_count all this < 2 ^ 64
     count_fits n h =
-        let c : nodes_count (nodes_of (drop i ts)) ≡ tree_count this + nodes_count (nodes_of rest) = first_is (λ xs. nodes_count (nodes_of xs)) in
+        let c : operations (trees_said (drop i ts)) ≡ 1 + (operations_inside (said all this.parts) (bodies_said all this.bodies) + operations (trees_said rest)) = first_is (λ xs. operations (trees_said xs)) in
         omega arith
 
 module _ (all : List Token) (p : Parts) (bs : List (Block Parts)) (i : ℕ) (here : Block Parts) (is : here ≡ get_or bs i here) (lt : i < length bs)
@@ -70,18 +78,24 @@ module _ (all : List Token) (p : Parts) (bs : List (Block Parts)) (i : ℕ) (her
     next_is : {Y : Type 0} (F : List (Block Parts) → Y) → F (drop i bs) ≡ F (here ∷ later)
     next_is F = at_drop_more F bs i here lt ∙ ap (λ x. F (x ∷ later)) (sym is)
 
-    abbrev size : ℕ
-    size = nodes_count here.nodes + yield_count p here.nodes
+    abbrev nodes : SaidNodes
+    nodes = nodes_said all here.nodes
 
-    pub blocks_more : (n m : ℕ) (s : Meanings) (xs ys : List IrBlock) (b : IrBlock) (total : Regions) → b.args ≡ args_by p.row p → b.ops ≡ joined (nodes_meant all n s here.nodes) (left_out p here.nodes (n + nodes_count here.nodes)) → m ≡ n + size
-        → ys ≡ xs ++ b ∷ [] → joined_regions (regions_of xs) (bodies_meant all n p s (bodies_of (drop i bs))) ≡ total → joined_regions (regions_of ys) (bodies_meant all m p s (bodies_of later)) ≡ total
+    abbrev blocks_said : List (Block Parts) → SaidBodies
+    blocks_said xs = bodies_said all (bodies_of xs)
+
+    abbrev size : ℕ
+    size = operations nodes + left_out (said all p) nodes
+
+    pub blocks_more : (n m : ℕ) (s : Meanings) (xs ys : List IrBlock) (b : IrBlock) (total : Regions) → b.args ≡ argument_types (said all p) → b.ops ≡ joined (ops_said n s nodes) (yield_said (said all p) nodes (n + operations nodes)) → m ≡ n + size
+        → ys ≡ xs ++ b ∷ [] → joined_regions (regions_of xs) (regions_said n (said all p) s (blocks_said (drop i bs))) ≡ total → joined_regions (regions_of ys) (regions_said m (said all p) s (blocks_said later)) ≡ total
     blocks_more n m s xs ys b total e f g q h =
-        ap (λ x. joined_regions (regions_of x) (bodies_meant all m p s (bodies_of later))) q
-        ∙ regions_push xs b (bodies_meant all m p s (bodies_of later))
-        ∙ ap (λ a. joined_regions (regions_of xs) (region a b.ops (bodies_meant all m p s (bodies_of later)))) e
-        ∙ ap (λ o. joined_regions (regions_of xs) (region (args_by p.row p) o (bodies_meant all m p s (bodies_of later)))) f
-        ∙ ap (λ k. joined_regions (regions_of xs) (region (args_by p.row p) (joined (nodes_meant all n s here.nodes) (left_out p here.nodes (n + nodes_count here.nodes))) (bodies_meant all k p s (bodies_of later)))) g
-        ∙ sym (next_is (λ x. joined_regions (regions_of xs) (bodies_meant all n p s (bodies_of x)))) ∙ h
+        ap (λ x. joined_regions (regions_of x) (regions_said m (said all p) s (blocks_said later))) q
+        ∙ regions_push xs b (regions_said m (said all p) s (blocks_said later))
+        ∙ ap (λ a. joined_regions (regions_of xs) (region a b.ops (regions_said m (said all p) s (blocks_said later)))) e
+        ∙ ap (λ o. joined_regions (regions_of xs) (region (argument_types (said all p)) o (regions_said m (said all p) s (blocks_said later)))) f
+        ∙ ap (λ k. joined_regions (regions_of xs) (region (argument_types (said all p)) (joined (ops_said n s nodes) (yield_said (said all p) nodes (n + operations nodes))) (regions_said k (said all p) s (blocks_said later)))) g
+        ∙ sym (next_is (λ x. joined_regions (regions_of xs) (regions_said n (said all p) s (blocks_said x)))) ∙ h
 
     pub block_faults_more : (n m : ℕ) (s : Meanings) (f g k total : Faults) → g ≡ with_faults f (nodes_faults all n s here.nodes) → k ≡ with_faults g no_faults → m ≡ n + size
         → with_faults f (bodies_faults all n p s (bodies_of (drop i bs))) ≡ total → with_faults k (bodies_faults all m p s (bodies_of later)) ≡ total
@@ -100,25 +114,25 @@ module _ (all : List Token) (p : Parts) (bs : List (Block Parts)) (i : ℕ) (her
         ∙ append_assoc ps (nodes_places all here.nodes) (yield_places all p here.nodes here.close ++ bodies_places all p (bodies_of later))
         ∙ sym (next_is (λ x. ps ++ bodies_places all p (bodies_of x))) ∙ h
 
-    pub block_count : bodies_count p (bodies_of (drop i bs)) ≡ size + bodies_count p (bodies_of later)
-    block_count = next_is (λ x. bodies_count p (bodies_of x))
-
-    pub block_next_more : (n m k total : ℕ) → m ≡ n + nodes_count here.nodes → k ≡ m + yield_count p here.nodes → n + bodies_count p (bodies_of (drop i bs)) ≡ total → k + bodies_count p (bodies_of later) ≡ total
-    block_next_more n m k total e f h = let c : bodies_count p (bodies_of (drop i bs)) ≡ size + bodies_count p (bodies_of later) = block_count in omega arith
+    pub block_next_more : (n m k total : ℕ) → m ≡ n + operations nodes → k ≡ m + left_out (said all p) nodes → n + operations_inside (said all p) (blocks_said (drop i bs)) ≡ total → k + operations_inside (said all p) (blocks_said later) ≡ total
+    block_next_more n m k total e f h =
+        let c : operations_inside (said all p) (blocks_said (drop i bs)) ≡ operations nodes + (left_out (said all p) nodes + operations_inside (said all p) (blocks_said later)) =
+        next_is (λ x. operations_inside (said all p) (blocks_said x)) in
+        omega arith
 
 -- ---- one operation, from its head and its bodies
 
-module _ (all : List Token) (s z : Meanings) (t : Tree Parts) (n m : ℕ) (e : m ≡ n + 1) (q : z ≡ inside all n t.parts s)
+module _ (all : List Token) (s z : Meanings) (t : Tree Parts) (n m : ℕ) (e : m ≡ n + 1) (q : z ≡ inside n (said all t.parts) s)
   where
     pub tree_faults_are : (f g h : Faults) → g ≡ with_faults f (head_faults all n t.first t.parts s) → h ≡ with_faults g (bodies_faults all m t.parts z t.bodies) → h ≡ with_faults f (tree_faults all n s t)
     tree_faults_are f g h a b =
         b ∙ ap (λ x. with_faults x (bodies_faults all m t.parts z t.bodies)) a
         ∙ ap (λ k. with_faults (with_faults f (head_faults all n t.first t.parts s)) (bodies_faults all k t.parts z t.bodies)) e
         ∙ ap (λ y. with_faults (with_faults f (head_faults all n t.first t.parts s)) (bodies_faults all (n + 1) t.parts y t.bodies)) q
-        ∙ faults_regrouped f (head_faults all n t.first t.parts s) (bodies_faults all (n + 1) t.parts (inside all n t.parts s) t.bodies)
+        ∙ faults_regrouped f (head_faults all n t.first t.parts s) (bodies_faults all (n + 1) t.parts (inside n (said all t.parts) s) t.bodies)
 
     pub tree_places_are : (ps qs rs : List Place) (place : Place) → qs ≡ ps ++ place ∷ [] → rs ≡ qs ++ bodies_places all t.parts t.bodies → rs ≡ ps ++ (place ∷ bodies_places all t.parts t.bodies)
     tree_places_are ps qs rs place a b = b ∙ ap (λ x. x ++ bodies_places all t.parts t.bodies) a ∙ append_assoc ps (place ∷ []) (bodies_places all t.parts t.bodies)
 
-    pub tree_next_is : (k : ℕ) → k ≡ m + bodies_count t.parts t.bodies → k ≡ n + tree_count t
+    pub tree_next_is : (k : ℕ) → k ≡ m + operations_inside (said all t.parts) (bodies_said all t.bodies) → k ≡ n + tree_count all t
     tree_next_is k h = omega arith

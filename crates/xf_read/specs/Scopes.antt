@@ -3,10 +3,8 @@ use Rattle.std.specs.Prelude.{ℕ, zero, suc, max, List, Option, Some, None, Boo
 use Rattle.std.specs.Prelude.{nat_lt, slice_get}
 use Rattle.std.specs.Str.{bytes_eq}
 use Rattle.xf_type.specs.declared.payload_type.PayloadType.{PayloadType}
-use Rattle.xf_lex.specs.declared.token.Token.{Token}
-use Rattle.xf_format.specs.declared.parts.Use.{Use}
+use Rattle.xf_format.specs.Parts.{UseSaid}
 use Rattle.xf_read_base.specs.Spelt.{count_used}
-use Rattle.xf_read_base.specs.Values.{text}
 use Rattle.xf_ir.specs.declared.name.ValueName.{ValueName}
 use Rattle.xf_ir.specs.declared.name.ValueName.TheVariants.{Result, Arg, Free}
 use Rattle.xf_read.specs.declared.scope.Definer.{Definer}
@@ -53,13 +51,9 @@ abbrev pub has_use : Option ℕ → Option Named → Bool
 has_use number None = false
 has_use number (Some x) = has_value number x
 
--- what the text of a use stands for
-abbrev pub named_by : List Token → Meanings → Use → Option Named
-named_by all scope u = scope (text all u.token)
-
 -- whether a use stands for a value
-abbrev pub means : List Token → Meanings → Use → Bool
-means all scope u = has_use u.number (named_by all scope u)
+abbrev pub use_means : Meanings → UseSaid → Bool
+use_means scope u = has_use u.number (scope u.name)
 
 -- ---- values and their types
 
@@ -78,8 +72,8 @@ type_in None i = None
 type_in (Some x) i = slice_get x.types i
 
 -- the value that a use stands for, and its type; without a number it is value 0
-abbrev pub value_used : List Token → Meanings → Use → ValueName
-value_used all scope u = value_in (named_by all scope u) (count_used u.number)
+abbrev pub use_value : Meanings → UseSaid → ValueName
+use_value scope u = value_in (scope u.name) (count_used u.number)
 
-abbrev pub type_used : List Token → Meanings → Use → Option PayloadType
-type_used all scope u = type_in (named_by all scope u) (count_used u.number)
+abbrev pub use_type : Meanings → UseSaid → Option PayloadType
+use_type scope u = type_in (scope u.name) (count_used u.number)

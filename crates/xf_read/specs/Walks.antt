@@ -1,8 +1,9 @@
 -- What the walk over the operations has done.
-use Rattle.std.specs.Prelude.{◌≡◌, ℕ, ◌+◌, List, ◌++◌, if◌then◌else◌, Some, None, false}
+use Rattle.std.specs.Prelude.{◌≡◌, ℕ, ◌+◌, List, ◌++◌, map, if◌then◌else◌, Some, None, false}
 use Rattle.xf_span.specs.declared.place.Place.{Place}
 use Rattle.xf_lex.specs.declared.token.Token.{Token}
 use Rattle.xf_format.specs.declared.parts.Parts.{Parts}
+use Rattle.xf_format.specs.Parts.{said}
 use Rattle.xf_ir.specs.Tree.{Regions, no_regions, region}
 use Rattle.xf_ir.specs.Tree.{Tree as Op}
 use Rattle.xf_read.specs.declared.faults.Faults.{Faults}
@@ -11,12 +12,13 @@ use Rattle.xf_read.specs.declared.scope.VisibleNames.{VisibleNames as Visible}
 use Rattle.xf_read.specs.declared.walk.Walk.{Walk}
 use Rattle.xf_read.specs.declared.read.Built.{Built}
 use Rattle.xf_syntax.specs.declared.tree.File.{File}
-use Rattle.xf_read.specs.Meant.{operands_of, meant, places_of, file_faults}
+use Rattle.xf_read.specs.Meant.{meant, places_of, file_faults}
 use Rattle.xf_read_base.specs.Attributes.{entries_twice}
-use Rattle.xf_read.specs.Names.{op_name, earlier, with_faults, undefined_in, names_twice, agrees}
-use Rattle.xf_read.specs.Scopes.{Meanings}
-use Rattle.xf_read.specs.Types.{results_by, args_by}
-use Rattle.xf_read_base.specs.Values.{attrs_of, kind_by}
+use Rattle.xf_read.specs.Names.{op_name, earlier, with_faults, undefined_in, names_twice}
+use Rattle.xf_read.specs.Names.{types_agree}
+use Rattle.xf_read.specs.Scopes.{Meanings, use_value}
+use Rattle.xf_read.specs.Types.{result_types, argument_types}
+use Rattle.xf_read_base.specs.Values.{attrs_said, kind_said}
 use Rattle.xf_read.specs.Visible.{names_in}
 
 -- so many operations were built, which have these places and these faults
@@ -33,14 +35,14 @@ pub record Same (old new : Visible) : Type 0 where
 -- what an operation holds beside its name and its regions, and its faults but for names of its arguments that stand
 -- twice
 pub record IsHead (all : List Token) (scope : Meanings) (first : ℕ) (p : Parts) (h : MeantHead) : Type 0 where
-  pub kind : h.kind ≡ kind_by all p.row p
-  pub attrs : h.attrs ≡ attrs_of all p.entries
-  pub operands : h.operands ≡ operands_of all scope p.uses
-  pub results : h.results ≡ results_by p.row p
-  pub args : h.args ≡ args_by p.row p
+  pub kind : h.kind ≡ kind_said p.row (said all p)
+  pub attrs : h.attrs ≡ attrs_said (said all p).entries
+  pub operands : h.operands ≡ map (use_value scope) (said all p).uses
+  pub results : h.results ≡ result_types (said all p)
+  pub args : h.args ≡ argument_types (said all p)
   pub undefined : h.faults.undefined ≡ undefined_in all scope p.uses
   pub twice : h.faults.twice ≡ earlier (entries_twice all (λ name. false) p.entries) (names_twice all p scope)
-  pub mismatch : h.faults.mismatch ≡ (if agrees all p scope then None else Some first)
+  pub mismatch : h.faults.mismatch ≡ (if types_agree (said all p) scope then None else Some first)
 
 -- regions before others
 abbrev pub joined_regions : Regions → Regions → Regions

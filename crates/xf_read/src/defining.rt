@@ -1,9 +1,10 @@
 //! What an operation lets names stand for.
-ghost use Rattle.std.specs.Prelude.{◌≡◌, IfOk, OnOk, min};
+ghost use Rattle.std.specs.Prelude.{◌≡◌, IfOk, OnOk, map, min, option_map};
+ghost use Rattle.xf_format.specs.Parts.{text_at, arg_said, define_said, said};
 ghost use Rattle.xf_read.specs.Names.{earlier, argument_number, argument_named, results_named, symbol_named};
-ghost use Rattle.xf_read.specs.Names.{args_twice, with_args, with_results, with_symbol, behind};
+ghost use Rattle.xf_read.specs.Names.{args_twice, with_arguments, with_defines, with_function, behind};
 ghost use Rattle.std.specs.Option.{option_copied};
-ghost use Rattle.xf_read.specs.Types.{results_by};
+ghost use Rattle.xf_read.specs.Types.{result_types};
 ghost use Rattle.xf_read.specs.Visible.{names_in, Grows};
 
 use crate::faults::{earlier, function_symbol, has_values, token_if};
@@ -47,8 +48,10 @@ pub fn enter_args<'a>(
     types: &TypeList,
     args: &[Ref],
 ) -> Result<Option<usize>, NoMemory>
-    ensures twice { IfOk result (λ twice. twice ≡ args_twice tokens.now number 0 types.now args.now (names_in scope.old)) }
-    ensures names { OnOk result (names_in scope.new ≡ with_args tokens.now number 0 types.now args.now (names_in scope.old)) }
+    ensures twice { IfOk result (λ twice. twice ≡ args_twice tokens.now number 0 types.now args.now
+        (names_in scope.old)) }
+    ensures names { OnOk result (names_in scope.new ≡ with_arguments number 0 types.now
+        (map (arg_said tokens.now) args.now) (names_in scope.old)) }
     ensures grows { OnOk result (Grows scope.old scope.new) }
 {
     let mut twice = None;
@@ -69,7 +72,8 @@ fn enter_results<'a>(
     types: &TypeList,
     defines: &[Ref],
 ) -> Result<(), NoMemory>
-    ensures names { OnOk result (names_in scope.new ≡ with_results tokens.now number types.now defines.now (names_in scope.old)) }
+    ensures names { OnOk result (names_in scope.new ≡ with_defines number types.now
+        (map (define_said tokens.now) defines.now) (names_in scope.old)) }
     ensures grows { OnOk result (Grows scope.old scope.new) }
 {
     match defines {
@@ -91,7 +95,8 @@ fn enter_symbol<'a>(
     scope: &mut VisibleNames<'a>,
     symbol: Option<usize>,
 ) -> Result<(), NoMemory>
-    ensures names { OnOk result (names_in scope.new ≡ with_symbol tokens.now symbol (names_in scope.old)) }
+    ensures names { OnOk result (names_in scope.new ≡ with_function (option_map (text_at tokens.now) symbol)
+        (names_in scope.old)) }
     ensures grows { OnOk result (Grows scope.old scope.new) }
 {
     match symbol {
@@ -114,8 +119,8 @@ pub fn enter_names<'a>(
     types: &TypeList,
     parts: &Parts,
 ) -> Result<(), NoMemory>
-    requires { types.now ≡ results_by parts.now.row parts.now }
-    ensures names { OnOk result (names_in scope.new ≡ behind tokens.now number parts.now (names_in scope.old)) }
+    requires { types.now ≡ result_types (said tokens.now parts.now) }
+    ensures names { OnOk result (names_in scope.new ≡ behind number (said tokens.now parts.now) (names_in scope.old)) }
     ensures grows { OnOk result (Grows scope.old scope.new) }
 {
     enter_symbol(alloc, tokens, scope, function_symbol(parts))?;

@@ -43,7 +43,7 @@ fn module_place(tokens: &[Token], file: &File) -> Place
 
 /// What a file means. Refuses for want of memory alone.
 fn build(alloc: Global, tokens: &[Token], file: &File) -> Result<Built, NoMemory>
-    requires { file_count file.now < 2 ^ 64 }
+    requires { file_count tokens.now file.now < 2 ^ 64 }
     ensures { IfOk result (λ built. IsBuilt tokens.now file.now built) }
 {
     let mut walk = Walk {

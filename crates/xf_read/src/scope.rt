@@ -139,7 +139,8 @@ impl<'a> VisibleNames<'a> {
     /// Refuses for want of memory alone.
     pub fn leave(&mut self, height: usize) -> Result<(), NoMemory>
         requires { height ≤ length self.old.changes.items }
-        ensures names { OnOk result (names_in self.new ≡ before (drop height self.old.changes.items) (names_in self.old)) }
+        ensures names { OnOk result (names_in self.new ≡
+            before (drop height self.old.changes.items) (names_in self.old)) }
         ensures changes { OnOk result (self.new.changes.items ≡ take height self.old.changes.items) }
     {
         'changes: while self.changes.len() > height {

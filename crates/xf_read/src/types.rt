@@ -1,9 +1,12 @@
 //! The types of an operation's operands, results and arguments.
-ghost use Rattle.std.specs.Prelude.{◌≡◌, ◌==◌, length, IfOk};
+ghost use Rattle.std.specs.Prelude.{◌≡◌, ◌==◌, length, map, List, IfOk};
 ghost use Rattle.std.specs.Option.{option_copied};
-ghost use Rattle.xf_read.specs.Names.{operands_fit, results_fit, agrees};
+ghost use Rattle.xf_lex.specs.declared.token.Token.{Token as GhostToken};
+ghost use Rattle.xf_format.specs.Parts.{said, use_said, define_said};
+ghost use Rattle.xf_read.specs.Names.{uses_fit, defines_fit, types_agree};
 ghost use Rattle.xf_type.specs.Equal.{same_type};
 ghost use Rattle.xf_read.specs.Types.{one_type, results_by, args_by, operands_by, stated_by, fits};
+ghost use Rattle.xf_read.specs.Types.{result_types, argument_types};
 ghost use Rattle.xf_read.specs.Visible.{names_in};
 
 use crate::scope::VisibleNames;
@@ -26,7 +29,7 @@ pub fn one_type(alloc: Global, ty: Option<&PayloadType>) -> Result<TypeList, NoM
 
 /// The types of the results. Refuses for want of memory alone.
 pub fn result_types(alloc: Global, parts: &Parts) -> Result<TypeList, NoMemory>
-    ensures { IfOk result (λ types. types ≡ results_by parts.now.row parts.now) }
+    ensures { IfOk result (λ types. types ≡ results_by parts.now.row parts.now.types parts.now.results) }
 {
     match parts.row {
         Row::Call | Row::For | Row::If => parts.results.duplicate(alloc),
@@ -39,7 +42,7 @@ pub fn result_types(alloc: Global, parts: &Parts) -> Result<TypeList, NoMemory>
 
 /// The types of the block arguments. Refuses for want of memory alone.
 pub fn arg_types(alloc: Global, parts: &Parts) -> Result<TypeList, NoMemory>
-    ensures { IfOk result (λ types. types ≡ args_by parts.now.row parts.now) }
+    ensures { IfOk result (λ types. types ≡ args_by parts.now.row parts.now.types parts.now.results) }
 {
     match parts.row {
         Row::Function => parts.types.duplicate(alloc),
@@ -54,7 +57,8 @@ pub fn arg_types(alloc: Global, parts: &Parts) -> Result<TypeList, NoMemory>
 
 /// Whether there are as many operands as there are to be.
 fn has_operands(parts: &Parts) -> bool
-    ensures { result ≡ (length parts.now.uses == operands_by parts.now.row parts.now) }
+    ensures { result ≡ (length parts.now.uses
+        == operands_by parts.now.row parts.now.types parts.now.results) }
 {
     let uses = parts.uses.len();
     match parts.row {
@@ -69,7 +73,7 @@ fn has_operands(parts: &Parts) -> bool
 
 /// The type that is stated for an operand.
 fn stated(parts: &Parts, at: usize) -> Option<&PayloadType>
-    ensures { option_copied result ≡ stated_by parts.now.row parts.now at }
+    ensures { option_copied result ≡ stated_by parts.now.row parts.now.types parts.now.results at }
 {
     match parts.row {
         Row::Return | Row::Call | Row::Yield => parts.types.get(at),
@@ -97,7 +101,8 @@ fn fits(stated: Option<&PayloadType>, used: Option<&PayloadType>) -> bool
 
 /// Whether the operands have the types that are stated for them.
 fn operands_fit(tokens: &[Token], scope: &VisibleNames, parts: &Parts) -> bool
-    ensures { result ≡ operands_fit tokens.now (names_in scope.now) parts.now.row parts.now 0 parts.now.uses }
+    ensures { result ≡ uses_fit (names_in scope.now) (said tokens.now parts.now) 0
+        (map (use_said tokens.now) parts.now.uses) }
 {
     let uses = parts.uses.as_slice();
     for (i, name) in uses.iter().enumerate() {
@@ -110,7 +115,7 @@ fn operands_fit(tokens: &[Token], scope: &VisibleNames, parts: &Parts) -> bool
 
 /// Whether a name of results, where there is one, is one of so many.
 fn results_fit(defines: &[Ref], types: &TypeList) -> bool
-    ensures { result ≡ results_fit defines.now types.now }
+    ensures { (all : List GhostToken) → result ≡ defines_fit (map (define_said all) defines.now) types.now }
 {
     match defines {
         [] => true,
@@ -127,9 +132,9 @@ pub fn agrees(
     results: &TypeList,
     args: &TypeList,
 ) -> bool
-    requires results { results.now ≡ results_by parts.now.row parts.now }
-    requires args { args.now ≡ args_by parts.now.row parts.now }
-    ensures { result ≡ agrees tokens.now parts.now (names_in scope.now) }
+    requires results { results.now ≡ result_types (said tokens.now parts.now) }
+    requires args { args.now ≡ argument_types (said tokens.now parts.now) }
+    ensures { result ≡ types_agree (said tokens.now parts.now) (names_in scope.now) }
 {
     has_operands(parts)
         && operands_fit(tokens, scope, parts)

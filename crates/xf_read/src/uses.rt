@@ -1,9 +1,9 @@
 //! The values that names stand for.
 ghost use Rattle.std.specs.Prelude.{◌≡◌, IfOk, map};
 ghost use Rattle.std.specs.Option.{option_copied};
-ghost use Rattle.xf_read.specs.Meant.{operands_of};
+ghost use Rattle.xf_format.specs.Parts.{use_said};
 ghost use Rattle.xf_read.specs.Names.{undefined_in};
-ghost use Rattle.xf_read.specs.Scopes.{means, value_used, type_used};
+ghost use Rattle.xf_read.specs.Scopes.{use_means, use_value, use_type};
 ghost use Rattle.xf_read.specs.Visible.{names_in};
 
 use crate::scope::{Definer, VisibleNames};
@@ -16,7 +16,7 @@ use xf_type::{NoMemory, PayloadType};
 
 /// Whether a use stands for a value.
 fn means(tokens: &[Token], scope: &VisibleNames, name: Use) -> bool
-    ensures { result ≡ means tokens.now (names_in scope.now) name }
+    ensures { result ≡ use_means (names_in scope.now) (use_said tokens.now name) }
 {
     match scope.look(text(tokens, name.token)) {
         None => false,
@@ -41,7 +41,7 @@ pub fn undefined(tokens: &[Token], scope: &VisibleNames, uses: &[Use]) -> Option
 
 /// The value that a use stands for, or any where it stands for none.
 fn value_used(tokens: &[Token], scope: &VisibleNames, name: Use) -> ValueName
-    ensures { result ≡ value_used tokens.now (names_in scope.now) name }
+    ensures { result ≡ use_value (names_in scope.now) (use_said tokens.now name) }
 {
     match scope.look(text(tokens, name.token)) {
         None => ValueName::Free(0),
@@ -63,7 +63,8 @@ pub fn operands(
     scope: &VisibleNames,
     uses: &[Use],
 ) -> Result<ValueList, NoMemory>
-    ensures { IfOk result (λ values. values ≡ operands_of tokens.now (names_in scope.now) uses.now) }
+    ensures { IfOk result (λ values. values ≡
+        map (use_value (names_in scope.now)) (map (use_said tokens.now) uses.now)) }
 {
     let mut values = ValueList::new(alloc);
     for name in uses {
@@ -78,7 +79,7 @@ pub fn type_used<'s>(
     scope: &'s VisibleNames,
     name: Use,
 ) -> Option<&'s PayloadType>
-    ensures { option_copied result ≡ type_used tokens.now (names_in scope.now) name }
+    ensures { option_copied result ≡ use_type (names_in scope.now) (use_said tokens.now name) }
 {
     match scope.look(text(tokens, name.token)) {
         None => None,

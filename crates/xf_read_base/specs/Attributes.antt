@@ -9,7 +9,7 @@ use Rattle.xf_type.specs.declared.attribute.AttrValue.{AttrValue}
 use Rattle.xf_lex.specs.declared.token.Token.{Token}
 use Rattle.xf_ir.specs.declared.kind.Attr.{Attr}
 use Rattle.xf_format.specs.declared.parts.AttrEntry.{AttrEntry}
-use Rattle.xf_read_base.specs.Values.{text}
+use Rattle.xf_format.specs.Parts.{text_at}
 
 abbrev pub attr_in : Bor (List ℕ) × AttrValue → Attr
 attr_in e = record { name = e.0.now; value = e.1 }
@@ -31,4 +31,4 @@ also name names other = bytes_eq name other || names other
 abbrev pub entries_twice : List Token → (List ℕ → Bool) → List AttrEntry → Option ℕ
 entries_twice all names [] = None
 entries_twice all names (e ∷ es) =
-    if names (text all e.name) then Some e.name else entries_twice all (also (text all e.name) names) es
+    if names (text_at all e.name) then Some e.name else entries_twice all (also (text_at all e.name) names) es

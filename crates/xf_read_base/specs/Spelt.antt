@@ -20,11 +20,11 @@ use Rattle.xf_format.specs.declared.row.Row.{Row}
 use Rattle.xf_format.specs.declared.row.Row.TheVariants as row
 use Rattle.xf_format.specs.Actions.{Reading}
 use Rattle.xf_format.specs.Format.{payload_head_at}
-use Rattle.xf_format.specs.Parts.{ref}
+use Rattle.xf_format.specs.Parts.{ref, entry_said, said}
 use Rattle.xf_format.specs.Words.{row_begun, opens}
 use Rattle.xf_read_base.specs.declared.heads.Head.{Head}
 use Rattle.xf_read_base.specs.Stops.{due_fault}
-use Rattle.xf_read_base.specs.Values.{attrs_of, kind_by}
+use Rattle.xf_read_base.specs.Values.{attrs_said, kind_said}
 
 -- the types that are stated, in order: of a loop those of its results go before its width, and true and false state
 -- none
@@ -49,8 +49,8 @@ ref_used u = ref u.token (count_used u.number)
 -- the head with these parts, up to a token
 abbrev pub head_of : List Token → Parts → ℕ → Head
 head_of all p next = record {
-  kind = kind_by all p.row p;
-  attrs = attrs_of all p.entries;
+  kind = kind_said p.row (said all p);
+  attrs = attrs_said (map (entry_said all) p.entries);
   defines = p.defines;
   args = p.args;
   uses = map ref_used p.uses;

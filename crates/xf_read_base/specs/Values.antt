@@ -1,4 +1,4 @@
--- What the parts of a head mean: the kind of the operation, and its attributes.
+-- What a head means by what it says in bytes: the kind of the operation, and its attributes.
 use Rattle.std.specs.Prelude.{ℕ, ◌-◌, ◌^◌, ℤ, pos, neg_ℤ, List, [], ◌∷◌, drop, Option, Some, None, Bool}
 use Rattle.std.specs.Prelude.{if◌then◌else◌, slice_get}
 use Rattle.std.specs.Option.{option_map}
@@ -13,31 +13,17 @@ use Rattle.xf_type.specs.declared.payload_type.PayloadType.TheVariants.{Scalar, 
 use Rattle.xf_type.specs.declared.payload_type.Width.{Width}
 use Rattle.xf_type.specs.declared.payload_type.Width.TheVariants.{I1, Index}
 use Rattle.xf_type.specs.Integers.{wrapped}
-use Rattle.xf_lex.specs.declared.token.Token.{Token}
-use Rattle.xf_grammar.specs.Tokens.{number_at}
-use Rattle.xf_format.specs.declared.parts.AttrEntry.{AttrEntry}
-use Rattle.xf_format.specs.declared.parts.EntryValue.{EntryValue}
-use Rattle.xf_format.specs.declared.parts.EntryValue.TheVariants as entry
-use Rattle.xf_format.specs.declared.parts.Literal.{Literal}
-use Rattle.xf_format.specs.declared.parts.Literal.TheVariants as literal
-use Rattle.xf_format.specs.declared.parts.Parts.{Parts}
+use Rattle.xf_grammar.specs.Tokens.{number_of}
 use Rattle.xf_format.specs.declared.row.Row.{Row}
 use Rattle.xf_format.specs.declared.row.Row.TheVariants as row
+use Rattle.xf_format.specs.Parts.{LiteralSaid, truth, number, ValueSaid, no_value, truth_value, number_value}
+use Rattle.xf_format.specs.Parts.{text_value}
+use Rattle.xf_format.specs.Parts.{EntrySaid, Said}
 use Rattle.xf_format.specs.Strings.{decoded}
 use Rattle.xf_format.specs.Tests.{has_room}
 use Rattle.xf_ir.specs.declared.kind.Attr.{Attr}
 use Rattle.xf_ir.specs.declared.kind.Kind.{Kind}
 use Rattle.xf_ir.specs.declared.kind.Kind.TheVariants as kind
-
--- ---- texts
-
-abbrev pub bytes_of : Option Token → List ℕ
-bytes_of None = []
-bytes_of (Some t) = t.bytes
-
--- the bytes of the token with a number
-abbrev pub text : List Token → ℕ → List ℕ
-text all at = bytes_of (slice_get all at)
 
 -- ---- numbers
 
@@ -53,21 +39,21 @@ abbrev pub integer_bits : Width → Bool → ℕ → ℕ
 integer_bits w negative n =
     if has_room w negative n then wrapped w (signed negative n) else (if negative then 2 ^ 128 - n else n)
 
-abbrev pub literal_bits : List Token → Width → Option Literal → ℕ
-literal_bits all w None = 0
-literal_bits all w (Some (literal.Truth b)) = truth_bits b
-literal_bits all w (Some (literal.Integer negative at)) = integer_bits w negative (number_at all at)
+abbrev pub bits_said : Width → Option LiteralSaid → ℕ
+bits_said w None = 0
+bits_said w (Some (truth b)) = truth_bits b
+bits_said w (Some (number negative digits)) = integer_bits w negative (number_of digits)
 
 -- ---- attributes
 
-abbrev pub value_of_entry : List Token → EntryValue → AttrValue
-value_of_entry all entry.Unit = attr.Unit
-value_of_entry all (entry.Truth b) = attr.Int I1 (truth_bits b)
-value_of_entry all (entry.Integer negative at w) = attr.Int w (wrapped w (signed negative (number_at all at)))
-value_of_entry all (entry.Text at) = attr.Text (decoded (text all at))
+abbrev pub attr_value : ValueSaid → AttrValue
+attr_value no_value = attr.Unit
+attr_value (truth_value b) = attr.Int I1 (truth_bits b)
+attr_value (number_value negative digits w) = attr.Int w (wrapped w (signed negative (number_of digits)))
+attr_value (text_value quoted) = attr.Text (decoded quoted)
 
-abbrev pub attr_of : List Token → AttrEntry → Attr
-attr_of all e = record { name = text all e.name; value = value_of_entry all e.value }
+abbrev pub attr_said : EntrySaid → Attr
+attr_said e = record { name = e.name; value = attr_value e.value }
 
 -- with an attribute at its place by the bytes of the names, instead of one of its name
 abbrev pub with_attr : Attr → List Attr → List Attr
@@ -76,23 +62,20 @@ with_attr a (b ∷ bs) =
     match_ordering (slice_cmp nat_cmp a.name b.name) (a ∷ b ∷ bs) (record { name = b.name; value = a.value } ∷ bs)
     (b ∷ with_attr a bs)
 
-abbrev pub with_entries : List Token → List AttrEntry → List Attr → List Attr
-with_entries all [] attrs = attrs
-with_entries all (e ∷ es) attrs = with_entries all es (with_attr (attr_of all e) attrs)
+abbrev pub with_said : List EntrySaid → List Attr → List Attr
+with_said [] attrs = attrs
+with_said (e ∷ es) attrs = with_said es (with_attr (attr_said e) attrs)
 
 -- the attributes, sorted by the bytes of their names
-abbrev pub attrs_of : List Token → List AttrEntry → List Attr
-attrs_of all es = with_entries all es []
+abbrev pub attrs_said : List EntrySaid → List Attr
+attrs_said es = with_said es []
 
 -- ---- kinds
 
 -- the word of a symbol, behind its @
-abbrev pub symbol_of : List Token → ℕ → List ℕ
-symbol_of all at = drop 1 (text all at)
-
-abbrev pub symbol_or : List Token → Option ℕ → List ℕ
-symbol_or all None = []
-symbol_or all (Some at) = symbol_of all at
+abbrev pub word_said : Option (List ℕ) → List ℕ
+word_said None = []
+word_said (Some symbol) = drop 1 symbol
 
 abbrev pub width_of : Option PayloadType → Width
 width_of None = Index
@@ -100,26 +83,26 @@ width_of (Some (Scalar w)) = w
 width_of (Some (Tensor s)) = s.elem
 
 -- the width that is stated at a number
-abbrev pub width_at : Parts → ℕ → Width
-width_at p i = width_of (slice_get p.types i)
+abbrev pub width_at : List PayloadType → ℕ → Width
+width_at ts i = width_of (slice_get ts i)
 
 abbrev pub predicate_or : Option CmpKind → CmpKind
 predicate_or None = cmp.Eq
 predicate_or (Some k) = k
 
-abbrev pub kind_by : List Token → Row → Parts → Kind
-kind_by all row.Module p = kind.Module (option_map (symbol_of all) p.symbol)
-kind_by all row.Function p = kind.Func (symbol_or all p.symbol) p.private p.results
-kind_by all row.Return p = kind.Return
-kind_by all row.Call p = kind.Call (symbol_or all p.symbol)
-kind_by all row.Constant p = kind.Constant (width_at p 0) (literal_bits all (width_at p 0) p.literal)
-kind_by all (row.Binary k) p = kind.Binary k (width_at p 0)
-kind_by all row.Compare p = kind.Compare (predicate_or p.predicate) (width_at p 0)
-kind_by all row.Select p = kind.Select (width_at p 0)
-kind_by all (row.Convert k) p = kind.Convert k (width_at p 0) (width_at p 1)
-kind_by all row.For p = kind.For (width_at p 0)
-kind_by all row.If p = kind.If
-kind_by all row.Yield p = kind.Yield
+abbrev pub kind_said : Row → Said → Kind
+kind_said row.Module t = kind.Module (option_map (drop 1) t.symbol)
+kind_said row.Function t = kind.Func (word_said t.symbol) t.private t.results
+kind_said row.Return t = kind.Return
+kind_said row.Call t = kind.Call (word_said t.symbol)
+kind_said row.Constant t = kind.Constant (width_at t.types 0) (bits_said (width_at t.types 0) t.literal)
+kind_said (row.Binary k) t = kind.Binary k (width_at t.types 0)
+kind_said row.Compare t = kind.Compare (predicate_or t.predicate) (width_at t.types 0)
+kind_said row.Select t = kind.Select (width_at t.types 0)
+kind_said (row.Convert k) t = kind.Convert k (width_at t.types 0) (width_at t.types 1)
+kind_said row.For t = kind.For (width_at t.types 0)
+kind_said row.If t = kind.If
+kind_said row.Yield t = kind.Yield
 -- any of an operation that is not read yet
-kind_by all row.Other p = kind.Yield
-kind_by all row.Generic p = kind.Yield
+kind_said row.Other t = kind.Yield
+kind_said row.Generic t = kind.Yield

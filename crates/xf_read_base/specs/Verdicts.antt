@@ -1,12 +1,12 @@
 -- The code of the fault at the token that fits no text: whether it is a form of MLIR that is listed as not supported,
 -- by what was due there, the token and the one behind it.
-use Rattle.std.specs.Prelude.{ℕ, List, [], ◌∷◌, length, drop, Option, Some, None, Bool, true, false, not, ◌&&◌, ◌||◌}
+use Rattle.std.specs.Prelude.{ℕ, List, [], ◌∷◌, Option, Some, None, Bool, true, false, not, ◌&&◌, ◌||◌}
 use Rattle.std.specs.Prelude.{◌==◌, if◌then◌else◌, is_some, codes}
-use Rattle.std.specs.List.{starts_with, list_any}
+use Rattle.std.specs.List.{list_any}
 use Rattle.std.specs.Option.{option_or}
 use Rattle.std.specs.Str.{bytes_eq}
 use Rattle.xf_lex.specs.declared.token.TokenKind.TheVariants as kind
-use Rattle.xf_type.specs.Bytes.{is_digit}
+use Rattle.xf_shape.specs.TypeWords.{one_of, begins, type_number}
 use Rattle.xf_grammar.specs.Tokens.{Terminal, is_kind, is_word, word_of, less, open_paren, open_bracket}
 use Rattle.xf_grammar.specs.Tokens.{open_brace, close_brace}
 use Rattle.xf_format.specs.declared.expected.Expected.{Expected}
@@ -17,13 +17,6 @@ use Rattle.xf_format.specs.Rows.{words}
 use Rattle.xf_format.specs.Words.{lookup, widths}
 use Rattle.xf_read_base.specs.declared.verdict.Verdict.{Verdict}
 use Rattle.xf_read_base.specs.declared.verdict.Verdict.TheVariants.{Syntax, OutOfProfile, NotBuilt, TooMany, TooDeep}
-
-abbrev pub one_of : List (List ℕ) → List ℕ → Bool
-one_of [] w = false
-one_of (k ∷ ks) w = bytes_eq w k || one_of ks w
-
-abbrev pub begins : List ℕ → List ℕ → Bool
-begins p w = starts_with ◌==◌ w p
 
 abbrev pub has_dot : List ℕ → Bool
 has_dot w = list_any (λ b. b == 46) w
@@ -70,32 +63,6 @@ is_function w = begins_function (lookup words w)
 -- a module is listed in every place but at the begin of a file
 abbrev pub word_number : List ℕ → Option ℕ
 word_number w = if is_module w then Some 15 else dotted_number w
-
--- ---- words in the place of a type
-
-abbrev pub floats : List (List ℕ)
-floats =
-    codes "f16" ∷ codes "f32" ∷ codes "f64" ∷ codes "f80" ∷ codes "f128" ∷ codes "bf16" ∷ codes "tf32" ∷ []
-
-abbrev pub all_digits : List ℕ → Bool
-all_digits [] = true
-all_digits (b ∷ bs) = is_digit b && all_digits bs
-
--- letters, and then one digit or more
-abbrev pub digits_behind : List ℕ → List ℕ → Bool
-digits_behind p w = begins p w && (not (bytes_eq w p) && all_digits (drop (length p) w))
-
--- an integer type that is no width
-abbrev pub is_other_integer : List ℕ → Bool
-is_other_integer w =
-    not (is_some (lookup widths w))
-    && (digits_behind (codes "i") w || (digits_behind (codes "si") w || digits_behind (codes "ui") w))
-
-abbrev pub type_number : List ℕ → Option ℕ
-type_number w =
-    if one_of floats w || begins (codes "f8E") w then Some 1
-    else (if is_other_integer w then Some 4
-    else (if one_of (codes "memref" ∷ codes "vector" ∷ []) w then Some 5 else None))
 
 -- ---- the value of an attribute
 

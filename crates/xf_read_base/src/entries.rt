@@ -1,14 +1,15 @@
 //! Discardable attributes.
-ghost use Rattle.std.specs.Prelude.{◌≡◌, if◌then◌else◌, Some, None, false, IfOk};
+ghost use Rattle.std.specs.Prelude.{◌≡◌, if◌then◌else◌, map, Some, None, false, IfOk};
+ghost use Rattle.xf_format.specs.Parts.{entry_said, value_said};
 ghost use Rattle.xf_ir.specs.Walk.{first_of};
 ghost use Rattle.xf_read_base.specs.Attributes.{attrs_in, entries_twice};
-ghost use Rattle.xf_read_base.specs.Values.{signed, truth_bits, value_of_entry, attrs_of};
+ghost use Rattle.xf_read_base.specs.Values.{signed, truth_bits, attr_value, attrs_said};
 
 use crate::texts::text;
 use std::alloc::Global;
 use std::collections::BTreeMap;
 use xf_format::{AttrEntry, EntryValue, decoded};
-use xf_grammar::number_at;
+use xf_grammar::number;
 use xf_ir::{Attr, AttrList};
 use xf_lex::Token;
 use xf_type::{AttrValue, ByteList, ListOf, NoMemory, Width, wrap};
@@ -29,8 +30,8 @@ pub fn truth_bits(truth: bool) -> u64
 }
 
 /// The value of an attribute. Refuses for want of memory alone.
-fn value_of_entry(alloc: Global, tokens: &[Token], value: EntryValue) -> Result<AttrValue, NoMemory>
-    ensures { IfOk result (λ read. read ≡ value_of_entry tokens.now value) }
+fn attr_value(alloc: Global, tokens: &[Token], value: EntryValue) -> Result<AttrValue, NoMemory>
+    ensures { IfOk result (λ read. read ≡ attr_value (value_said tokens.now value)) }
 {
     Ok(match value {
         EntryValue::Unit => AttrValue::Unit,
@@ -44,7 +45,7 @@ fn value_of_entry(alloc: Global, tokens: &[Token], value: EntryValue) -> Result<
             width,
         } => AttrValue::Int {
             width,
-            bits: wrap(width, signed(negative, number_at(tokens, token))),
+            bits: wrap(width, signed(negative, number(text(tokens, token)))),
         },
         EntryValue::Text(token) => AttrValue::Text(decoded(alloc, text(tokens, token))?),
     })
@@ -81,13 +82,13 @@ pub fn attributes(
     tokens: &[Token],
     entries: &[AttrEntry],
 ) -> Result<(AttrList, Option<usize>), NoMemory>
-    ensures attrs { IfOk result (λ r. r.0 ≡ attrs_of tokens.now entries.now) }
+    ensures attrs { IfOk result (λ r. r.0 ≡ attrs_said (map (entry_said tokens.now) entries.now)) }
     ensures twice { IfOk result (λ r. r.1 ≡ entries_twice tokens.now (λ name. false) entries.now) }
 {
     let mut values = BTreeMap::new(alloc);
     let mut twice = None;
     for entry in entries {
-        let value = value_of_entry(alloc, tokens, entry.value)?;
+        let value = attr_value(alloc, tokens, entry.value)?;
         let before = values.insert(text(tokens, entry.name), value)?;
         twice = first_twice(twice, before.is_some(), entry.name);
     }

@@ -1,17 +1,17 @@
 //! The kinds of operations.
-ghost use Rattle.std.specs.Prelude.{◌≡◌, IfOk};
+ghost use Rattle.std.specs.Prelude.{◌≡◌, drop, IfOk};
 ghost use Rattle.std.specs.Option.{option_map};
-ghost use Rattle.xf_read_base.specs.Values.{integer_bits, literal_bits, symbol_of, symbol_or, width_at, predicate_or};
-ghost use Rattle.xf_read_base.specs.Values.{kind_by};
+ghost use Rattle.xf_format.specs.Parts.{text_at, literal_said, said};
+ghost use Rattle.xf_read_base.specs.Values.{integer_bits, bits_said, word_said, width_at, predicate_or, kind_said};
 
 use crate::entries::{signed, truth_bits};
 use crate::texts::text;
 use std::alloc::Global;
 use xf_format::{Literal, Parts, Row, behind_first, has_room};
-use xf_grammar::number_at;
+use xf_grammar::number;
 use xf_ir::Kind;
 use xf_lex::Token;
-use xf_type::{ByteList, CmpKind, Duplicate, NoMemory, PayloadType, Width, wrap};
+use xf_type::{ByteList, CmpKind, Duplicate, NoMemory, PayloadType, TypeList, Width, wrap};
 
 /// The number of a literal of a width.
 fn integer_bits(width: Width, negative: bool, number: u64) -> u128
@@ -27,26 +27,26 @@ fn integer_bits(width: Width, negative: bool, number: u64) -> u128
 }
 
 fn literal_bits(tokens: &[Token], width: Width, literal: Option<Literal>) -> u128
-    ensures { result ≡ literal_bits tokens.now width literal }
+    ensures { result ≡ bits_said width (option_map (literal_said tokens.now) literal) }
 {
     match literal {
         None => 0,
         Some(Literal::Truth(truth)) => u128::from(truth_bits(truth)),
         Some(Literal::Integer { negative, token }) => {
-            integer_bits(width, negative, number_at(tokens, token))
+            integer_bits(width, negative, number(text(tokens, token)))
         }
     }
 }
 
 /// The word of a symbol.
 fn symbol(alloc: Global, tokens: &[Token], at: usize) -> Result<ByteList, NoMemory>
-    ensures { IfOk result (λ symbol. symbol ≡ symbol_of tokens.now at) }
+    ensures { IfOk result (λ symbol. symbol ≡ drop 1 (text_at tokens.now at)) }
 {
     ByteList::from_slice(alloc, behind_first(text(tokens, at)))
 }
 
 fn symbol_or(alloc: Global, tokens: &[Token], at: Option<usize>) -> Result<ByteList, NoMemory>
-    ensures { IfOk result (λ symbol. symbol ≡ symbol_or tokens.now at) }
+    ensures { IfOk result (λ symbol. symbol ≡ word_said (option_map (text_at tokens.now) at)) }
 {
     match at {
         None => Ok(ByteList::new(alloc)),
@@ -59,7 +59,7 @@ fn module_symbol(
     tokens: &[Token],
     at: Option<usize>,
 ) -> Result<Option<ByteList>, NoMemory>
-    ensures { IfOk result (λ symbol. symbol ≡ option_map (symbol_of tokens.now) at) }
+    ensures { IfOk result (λ symbol. symbol ≡ option_map (drop 1) (option_map (text_at tokens.now) at)) }
 {
     match at {
         None => Ok(None),
@@ -68,10 +68,10 @@ fn module_symbol(
 }
 
 /// The width that is stated at a number.
-fn width_at(parts: &Parts, at: usize) -> Width
-    ensures { result ≡ width_at parts.now at }
+fn width_at(types: &TypeList, at: usize) -> Width
+    ensures { result ≡ width_at types.now at }
 {
-    match parts.types.get(at) {
+    match types.get(at) {
         None => Width::Index,
         Some(PayloadType::Scalar(width)) => *width,
         Some(PayloadType::Tensor(shape)) => shape.elem,
@@ -90,9 +90,9 @@ fn predicate_or(predicate: Option<CmpKind>) -> CmpKind
 /// The kind of an operation, with the attributes of its own; any of one that is not read yet. Refuses
 /// for want of memory alone.
 pub fn kind_of(alloc: Global, tokens: &[Token], parts: &Parts) -> Result<Kind, NoMemory>
-    ensures { IfOk result (λ kind. kind ≡ kind_by tokens.now parts.now.row parts.now) }
+    ensures { IfOk result (λ kind. kind ≡ kind_said parts.now.row (said tokens.now parts.now)) }
 {
-    let width = width_at(parts, 0);
+    let width = width_at(&parts.types, 0);
     Ok(match parts.row {
         Row::Module => Kind::Module {
             symbol: module_symbol(alloc, tokens, parts.symbol)?,
@@ -119,7 +119,7 @@ pub fn kind_of(alloc: Global, tokens: &[Token], parts: &Parts) -> Result<Kind, N
         Row::Convert(kind) => Kind::Convert {
             kind,
             from: width,
-            to: width_at(parts, 1),
+            to: width_at(&parts.types, 1),
         },
         Row::For => Kind::For { width },
         Row::If => Kind::If,

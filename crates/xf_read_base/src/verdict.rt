@@ -1,15 +1,16 @@
 //! The code of the fault at the token that fits no head.
-ghost use Rattle.std.specs.Prelude.{◌≡◌, ◌+◌, length, drop};
+ghost use Rattle.std.specs.Prelude.{◌≡◌, ◌+◌, length};
+ghost use Rattle.xf_shape.specs.TypeWords.{one_of, begins};
 ghost use Rattle.xf_grammar.specs.Tokens.{terminal_at};
-ghost use Rattle.xf_read_base.specs.Verdicts.{one_of, begins, has_dot, is_row, divisions, dotted_number, is_module};
-ghost use Rattle.xf_read_base.specs.Verdicts.{word_number, floats, all_digits, digits_behind, is_other_integer};
-ghost use Rattle.xf_read_base.specs.Verdicts.{type_number, attribute_words, begins_attribute, begins_constant};
+ghost use Rattle.xf_read_base.specs.Verdicts.{has_dot, is_row, divisions, dotted_number, is_module, is_function};
+ghost use Rattle.xf_read_base.specs.Verdicts.{word_number, attribute_words, begins_attribute, begins_constant};
 ghost use Rattle.xf_read_base.specs.Verdicts.{anywhere, number_if, unnamed_number, operation_number, file_number};
-ghost use Rattle.xf_read_base.specs.Verdicts.{value_number, is_function, listed_number, is_not_built, listed, verdict};
+ghost use Rattle.xf_read_base.specs.Verdicts.{value_number, listed_number, is_not_built, listed, verdict};
 
-use xf_format::{Expected, Row, row_of, width_of};
+use xf_format::{Expected, Row, row_of};
 use xf_grammar::{looks, says, word_at};
 use xf_lex::{Token, TokenKind};
+use xf_shape::{type_number, width_of};
 
 /// What a token is that fits no head.
 #[derive(Clone, Copy, Debug, PartialEq, Eq)]
@@ -46,18 +47,6 @@ fn is_row(word: &[u8]) -> bool
     ensures { result ≡ is_row word.now }
 {
     row_of(word).is_some()
-}
-
-fn is_float(word: &[u8]) -> bool
-    ensures { result ≡ one_of floats word.now }
-{
-    word == b"f16".as_slice()
-        || word == b"f32".as_slice()
-        || word == b"f64".as_slice()
-        || word == b"f80".as_slice()
-        || word == b"f128".as_slice()
-        || word == b"bf16".as_slice()
-        || word == b"tf32".as_slice()
 }
 
 fn is_attribute_word(word: &[u8]) -> bool
@@ -140,47 +129,6 @@ fn word_number(word: &[u8]) -> Option<u32>
         Some(15)
     } else {
         dotted_number(word)
-    }
-}
-
-fn all_digits(bytes: &[u8]) -> bool
-    ensures { result ≡ all_digits bytes.now }
-{
-    for b in bytes {
-        if !b.is_ascii_digit() {
-            return false;
-        }
-    }
-    true
-}
-
-/// Whether a word is these letters and one digit or more.
-fn digits_behind(letters: &[u8], word: &[u8]) -> bool
-    ensures { result ≡ digits_behind letters.now word.now }
-{
-    word.starts_with(letters) && word != letters && all_digits(&word[letters.len()..])
-}
-
-/// Whether a word is an integer type that is no width.
-fn is_other_integer(word: &[u8]) -> bool
-    ensures { result ≡ is_other_integer word.now }
-{
-    width_of(word).is_none()
-        && (digits_behind(b"i", word) || digits_behind(b"si", word) || digits_behind(b"ui", word))
-}
-
-/// The number of a word that is a type.
-fn type_number(word: &[u8]) -> Option<u32>
-    ensures { result ≡ type_number word.now }
-{
-    if is_float(word) || begins(b"f8E", word) {
-        Some(1)
-    } else if is_other_integer(word) {
-        Some(4)
-    } else if word == b"memref".as_slice() || word == b"vector".as_slice() {
-        Some(5)
-    } else {
-        None
     }
 }
 

@@ -15,18 +15,16 @@ use Rattle.xf_ir.specs.Places.{Seen, done, inside, AllSeen}
 use Rattle.xf_ir.specs.Tree.{Ops, no_ops, op, Regions, no_regions, region, cons}
 use Rattle.xf_ir.specs.Valid.{OpsSee, RegionsSee}
 use Rattle.xf_ir.specs.Renamed.{ops_renamed, regions_renamed}
-use Rattle.xf_read.specs.Meant.{joined, yield_tree}
-use Rattle.xf_read.specs.Names.{op_name}
-use Rattle.xf_read.specs.Scopes.{Meanings}
+use Rattle.xf_read.specs.Meant.{joined, yield_tree, yield_said, ops_said, regions_said}
+use Rattle.xf_read.specs.Names.{op_name, with_arguments, with_defines, with_function, function_symbol, inside as inside_said, behind as behind_said, uses_fit, defines_fit, types_agree}
+use Rattle.xf_read.specs.Scopes.{Meanings, use_type}
 use Rattle.xf_format.specs.Format.{ends_open}
-use Rattle.xf_read.specs.Types.{operands_by, stated_by, fits}
+use Rattle.xf_read.specs.Types.{operands_number, stated_type, fits, result_types, argument_types}
+use Rattle.xf_read_base.specs.Values.{attrs_said, kind_said}
 use Rattle.xf_syntax.specs.Telling.{SaidNodes, node_said, SaidBodies, says_yield_last, operations, left_out, operations_inside}
 use Rattle.xf_printed.specs.Names.{Names, first_args, next_number, number_of, first_of, type_of}
 use Rattle.xf_printed.specs.PrintedForm.{is_empty_yield}
-use Rattle.xf_roundtrip.specs.Saying.{use_type, shape, result_types, argument_types, attrs_said, kind_said, with_arguments, with_defines, with_function, function_named}
-use Rattle.xf_roundtrip.specs.Saying.{inside as inside_said, behind as behind_said}
-use Rattle.xf_roundtrip.specs.SaidMeant.{yield_said, ops_said, regions_said}
-use Rattle.xf_roundtrip.specs.SaidWell.{entries_once, symbol_new, arguments_new, names_once, uses_fit, defines_fit, types_agree, head_well, nodes_well, bodies_well}
+use Rattle.xf_roundtrip.specs.SaidWell.{entries_once, symbol_new, arguments_new, names_once, head_well, nodes_well, bodies_well}
 use Rattle.xf_print_laws.specs.Naming.{use_printed, defines_printed, arguments_printed}
 use Rattle.xf_print_laws.specs.SaidPrinted.{head_by, ops_printed, regions_printed}
 use Rattle.xf_ir.specs.Count.{ops_count, regions_count}
@@ -38,7 +36,7 @@ use Rattle.xf_roundtrip.proofs.Names.{Knows, Clear, clear_more, IsFirst, knows_r
 -- the operands have the types that are stated
 abbrev pub all_fit : Said → ℕ → List (Option PayloadType) → Bool
 all_fit t i [] = true
-all_fit t i (o ∷ os) = fits (stated_by t.row (shape t) i) o && all_fit t (i + 1) os
+all_fit t i (o ∷ os) = fits (stated_type t i) o && all_fit t (i + 1) os
 
 -- a head says what its operation is
 pub record SaysIt (names : Names) (t : Said) (k : Kind) (ds : List Attr) (os : List ValueName) (ts args : List PayloadType) (named : Option (List ℕ)) : Type 0 where
@@ -47,8 +45,8 @@ pub record SaysIt (names : Names) (t : Said) (k : Kind) (ds : List Attr) (os : L
   pub results : result_types t ≡ ts
   pub arguments : argument_types t ≡ args
   pub once : entries_once (λ name. false) t.entries ≡ true
-  pub symbol : function_named t.row t.symbol ≡ named
-  pub count : (length os == operands_by t.row (shape t)) ≡ true
+  pub symbol : function_symbol t.row t.symbol ≡ named
+  pub count : (length os == operands_number t) ≡ true
   pub fit : all_fit t 0 (map (type_of names) os) ≡ true
 
 -- a yield that is left out, at the end
@@ -99,7 +97,7 @@ abbrev mutual
 
 uses_fit_by : (scope : Meanings) (t : Said) (i : ℕ) (us : List UseSaid) → uses_fit scope t i us ≡ all_fit t i (map (use_type scope) us)
 uses_fit_by scope t i [] = refl
-uses_fit_by scope t i (u ∷ us) = ap (λ b. fits (stated_by t.row (shape t) i) (use_type scope u) && b) (uses_fit_by scope t (i + 1) us)
+uses_fit_by scope t i (u ∷ us) = ap (λ b. fits (stated_type t i) (use_type scope u) && b) (uses_fit_by scope t (i + 1) us)
 
 defines_fit_by : (k : ℕ) (ts us : List PayloadType) → us ≡ ts → defines_fit (defines_printed k ts) us ≡ true
 defines_fit_by k [] us e = refl
@@ -116,11 +114,11 @@ pub head_is_well : (names : Names) (renamed : OpName → OpName) (n k a : ℕ) (
 head_is_well names renamed n k a kd ds os ts args named ss scope says lt room new h w c =
     let t : Said = head_by names k a kd ds os ts args in
     let us = uses_again names renamed ss scope os w h in
-    let symbol : symbol_new scope (function_named t.row t.symbol) ≡ true = ap (symbol_new scope) says.symbol ∙ new in
+    let symbol : symbol_new scope (function_symbol t.row t.symbol) ≡ true = ap (symbol_new scope) says.symbol ∙ new in
     let defines = results_new k a ts scope lt c in
     let arguments : arguments_new n 0 (argument_types t) t.args scope ≡ true = ap (λ xs. arguments_new n 0 xs (arguments_printed a args) scope) says.arguments ∙ arguments_are_new n 0 k a args args scope room c in
     let names_are : names_once n t scope ≡ true = and_is _ _ says.once (and_is _ _ (and_is _ _ symbol defines) arguments) in
-    let count : (length t.uses == operands_by t.row (shape t)) ≡ true = ap (λ l. l == operands_by t.row (shape t)) (length-map os (use_printed names)) ∙ says.count in
+    let count : (length t.uses == operands_number t) ≡ true = ap (λ l. l == operands_number t) (length-map os (use_printed names)) ∙ says.count in
     let fit : uses_fit scope t 0 t.uses ≡ true = uses_fit_by scope t 0 t.uses ∙ ap (all_fit t 0) us.types ∙ says.fit in
     let results : defines_fit t.defines (result_types t) ≡ true = defines_fit_by k ts (result_types t) says.results in
     let lengths : (length t.args == length (argument_types t)) ≡ true = eq-eqb (length t.args) (length (argument_types t)) (arguments_length a args ∙ ap length (sym says.arguments)) in

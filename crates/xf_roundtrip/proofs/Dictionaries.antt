@@ -18,9 +18,8 @@ use Rattle.xf_ir.specs.RuleAttributes.{value_fits, attributes_fit}
 use Rattle.xf_ir.specs.Words.{is_word}
 use Rattle.xf_ir.proofs.BytesOrder.{not_itself}
 use Rattle.xf_read_base.specs.Attributes.{also}
-use Rattle.xf_read_base.specs.Values.{with_attr}
+use Rattle.xf_read_base.specs.Values.{with_attr, attr_value, attr_said, with_said, attrs_said}
 use Rattle.xf_print_laws.specs.Stored.{HasBytes}
-use Rattle.xf_roundtrip.specs.Saying.{attr_value, attr_said, with_said, attrs_said}
 use Rattle.xf_roundtrip.specs.SaidWell.{entries_once}
 use Rattle.xf_print_laws.specs.SaidPrinted.{value_printed, entry_printed}
 use Rattle.xf_print_laws.proofs.Strings.{string_again}

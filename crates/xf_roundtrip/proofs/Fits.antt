@@ -11,8 +11,7 @@ use Rattle.xf_format.specs.Parts.{Said}
 use Rattle.xf_type.specs.Equal.{same_type}
 use Rattle.xf_type.proofs.EqualTypes.{type_itself, type_is}
 use Rattle.xf_ir.specs.Types.{have_types}
-use Rattle.xf_read.specs.Types.{stated_by, fits}
-use Rattle.xf_roundtrip.specs.Saying.{shape}
+use Rattle.xf_read.specs.Types.{stated_type, fits}
 use Rattle.xf_print_laws.specs.SaidPrinted.{known_types}
 use Rattle.xf_grammar.proofs.Basics.{and_is}
 use Rattle.xf_roundtrip.proofs.Again.{all_fit}
@@ -41,16 +40,16 @@ get_behind [] ts t = refl
 get_behind (u ∷ front) ts t = get_behind front ts t
 
 -- the types that are stated are those of a list
-fit_from : (t : Said) (all : List PayloadType) → ((i : ℕ) → stated_by t.row (shape t) i ≡ slice_get all i) → (front us : List PayloadType) → all ≡ front ++ us → all_fit t (length front) (map Some us) ≡ true
+fit_from : (t : Said) (all : List PayloadType) → ((i : ℕ) → stated_type t i ≡ slice_get all i) → (front us : List PayloadType) → all ≡ front ++ us → all_fit t (length front) (map Some us) ≡ true
 fit_from t all f front [] e = refl
 fit_from t all f front (u ∷ us) e =
-    let here : stated_by t.row (shape t) (length front) ≡ Some u = f (length front) ∙ (ap (λ xs. slice_get xs (length front)) e ∙ get_behind front us u) in
-    let one : fits (stated_by t.row (shape t) (length front)) (Some u) ≡ true = ap (λ o. fits o (Some u)) here ∙ type_itself u in
+    let here : stated_type t (length front) ≡ Some u = f (length front) ∙ (ap (λ xs. slice_get xs (length front)) e ∙ get_behind front us u) in
+    let one : fits (stated_type t (length front)) (Some u) ≡ true = ap (λ o. fits o (Some u)) here ∙ type_itself u in
     let n : length (front ++ u ∷ []) ≡ length front + 1 = length-append front (u ∷ []) in
     let more = fit_from t all f (front ++ u ∷ []) us (e ∙ sym (append_assoc front (u ∷ []) us)) in
     and_is _ _ one (subst (λ k. all_fit t k (map Some us) ≡ true) n more)
 
-pub fit_all : (t : Said) (all : List PayloadType) → ((i : ℕ) → stated_by t.row (shape t) i ≡ slice_get all i) → all_fit t 0 (map Some all) ≡ true
+pub fit_all : (t : Said) (all : List PayloadType) → ((i : ℕ) → stated_type t i ≡ slice_get all i) → all_fit t 0 (map Some all) ≡ true
 fit_all t all f = fit_from t all f [] all refl
 
 -- the operands are as many as the types

@@ -17,17 +17,15 @@ use Rattle.xf_ir.specs.Places.{inside, AllSeen}
 use Rattle.xf_ir.specs.Tree.{Ops, no_ops, op, Regions, no_regions, region, cons}
 use Rattle.xf_ir.specs.Placed.{block_of}
 use Rattle.xf_ir.specs.Valid.{FunctionsSee, symbols_of, symbols_before}
-use Rattle.xf_read.specs.Meant.{joined, yield_tree}
-use Rattle.xf_read.specs.Names.{op_name, symbol_named}
-use Rattle.xf_read.specs.Scopes.{Meanings, no_names, with_name}
+use Rattle.xf_read.specs.Meant.{joined, yield_tree, ops_said, regions_said, said_meant}
+use Rattle.xf_read.specs.Names.{op_name, symbol_named, with_arguments, with_function, with_defines, function_symbol, inside as inside_said, behind as behind_said}
+use Rattle.xf_read.specs.Scopes.{Meanings, no_names, with_name, use_value}
+use Rattle.xf_read.specs.Types.{result_types}
 use Rattle.xf_format.specs.Format.{ends_open}
 use Rattle.xf_syntax.specs.Telling.{SaidNodes, no_nodes_said, node_said, SaidBodies, no_bodies_said, body_said, says_yield_last, operations, operations_inside}
 use Rattle.xf_printed.specs.Names.{Names, first_args, with_ops, number_of, first_of}
 use Rattle.xf_printed.specs.Names.{no_names as no_numbers}
 use Rattle.xf_ir.specs.Renamed.{value_renamed, ops_renamed, regions_renamed, tree_renamed}
-use Rattle.xf_roundtrip.specs.Saying.{use_value, with_arguments, with_function, with_defines, function_named, result_types}
-use Rattle.xf_roundtrip.specs.Saying.{inside as inside_said, behind as behind_said}
-use Rattle.xf_roundtrip.specs.SaidMeant.{ops_said, regions_said, said_meant}
 use Rattle.xf_roundtrip.specs.SaidWell.{symbol_new, nodes_well, bodies_well, said_well}
 use Rattle.xf_print_laws.specs.Naming.{use_printed, defines_printed, arguments_printed}
 use Rattle.xf_print_laws.specs.SaidPrinted.{head_by, regions_printed, functions_printed, printed_said}
@@ -90,7 +88,7 @@ knows_nothing names renamed scope = record { by = λ v s. absurd (let z : false 
 
 -- ---- functions
 
-behind_is : (n : ℕ) (t : Said) (ts : List PayloadType) (scope : Meanings) (symbol : List ℕ) → t.defines ≡ defines_printed 0 ts → ts ≡ [] → function_named t.row t.symbol ≡ Some (64 ∷ symbol) → behind_said n t scope ≡ with_name (64 ∷ symbol) symbol_named scope
+behind_is : (n : ℕ) (t : Said) (ts : List PayloadType) (scope : Meanings) (symbol : List ℕ) → t.defines ≡ defines_printed 0 ts → ts ≡ [] → function_symbol t.row t.symbol ≡ Some (64 ∷ symbol) → behind_said n t scope ≡ with_name (64 ∷ symbol) symbol_named scope
 behind_is n t ts scope symbol d e f =
     let x = d ∙ ap (defines_printed 0) e in
     λ i. with_defines n (result_types t) (x i) (with_function (f i) scope)

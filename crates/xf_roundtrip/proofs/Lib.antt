@@ -3,10 +3,8 @@ pub mod Blocks
 pub mod Dictionaries
 pub mod Fits
 pub mod Functions
-pub mod Heads
 pub mod Laws
 pub mod Literals
-pub mod Meaning
 pub mod NamedOnce
 pub mod Names
 pub mod Operations

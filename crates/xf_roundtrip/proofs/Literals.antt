@@ -11,12 +11,11 @@ use Rattle.xf_type.proofs.LawLemmas.{wrapped-signed_value}
 use Rattle.xf_grammar.specs.Tokens.{number_of}
 use Rattle.xf_format.specs.Parts.{number, number_value}
 use Rattle.xf_ir.specs.RuleAttributes.{fits_bits}
-use Rattle.xf_read_base.specs.Values.{signed, truth_bits, integer_bits}
+use Rattle.xf_read_base.specs.Values.{signed, truth_bits, integer_bits, bits_said, attr_value}
 use Rattle.xf_printed.specs.Fills.{has_minus, digits_of, is_set}
 use Rattle.xf_print_laws.specs.SaidPrinted.{signed_said, literal_printed, integer_printed}
 use Rattle.xf_print_laws.proofs.Signed.{IsShort, roomy}
 use Rattle.xf_print_laws.proofs.Single.{number_is}
-use Rattle.xf_roundtrip.specs.Saying.{bits_said, attr_value}
 
 truth_again : (bits : ℕ) → bits < 2 → truth_bits (is_set bits) ≡ bits
 truth_again bits h = grind (arith, nat_tests)

@@ -9,16 +9,13 @@ use Rattle.xf_ir.specs.Tree.{Ops, no_ops, op, cons}
 use Rattle.xf_ir.specs.Valid.{IsNamedOnce}
 use Rattle.xf_ir.specs.Walk.{ops_names, regions_names}
 use Rattle.xf_ir.proofs.Lists.{not_both, each_both, each_map}
-use Rattle.xf_read.specs.Meant.{joined, yield_tree}
-use Rattle.xf_read.specs.Names.{op_name}
+use Rattle.xf_read.specs.Meant.{joined, yield_tree, yield_said, ops_said, regions_said, root_said}
+use Rattle.xf_read.specs.Names.{op_name, inside, behind}
 use Rattle.xf_read.specs.Scopes.{Meanings, no_names}
 use Rattle.xf_format.specs.Format.{ends_open}
 use Rattle.xf_syntax.specs.Telling.{SaidNodes, no_nodes_said, node_said, SaidBodies, no_bodies_said, body_said, says_yield_last, operations, left_out, operations_inside, bodies_said}
 use Rattle.xf_format.specs.Parts.{said}
 use Rattle.xf_roundtrip.specs.AgainLaws.{SpeltIsNamedOnce}
-use Rattle.xf_roundtrip.specs.Saying.{inside, behind}
-use Rattle.xf_roundtrip.specs.SaidMeant.{yield_said, ops_said, regions_said, root_said}
-use Rattle.xf_roundtrip.proofs.Laws.{tokens_mean}
 
 -- ---- names between two numbers
 
@@ -114,4 +111,4 @@ said_named t bs =
 
 pub spelt_is_named : SpeltIsNamedOnce
 spelt_is_named bytes m s =
-    subst IsNamedOnce (sym (tokens_mean s.tokens s.file s.is_text) ∙ s.means) (said_named (said s.tokens s.file.root.parts) (bodies_said s.tokens s.file.root.bodies))
+    subst IsNamedOnce s.means (said_named (said s.tokens s.file.root.parts) (bodies_said s.tokens s.file.root.bodies))

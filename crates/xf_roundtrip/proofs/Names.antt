@@ -19,13 +19,12 @@ use Rattle.xf_ir.specs.Lists.{every}
 use Rattle.xf_ir.specs.Places.{Seen, done, inside, results_of, args_of, below, sees, AllSeen}
 use Rattle.xf_ir.specs.Renamed.{value_renamed}
 use Rattle.xf_read.specs.declared.scope.Named.{Named}
-use Rattle.xf_read.specs.Names.{op_name, argument_number, argument_named, results_named}
+use Rattle.xf_read.specs.Names.{op_name, argument_number, argument_named, results_named, with_arguments, with_defines}
 use Rattle.xf_read_base.specs.Spelt.{count_used}
-use Rattle.xf_read.specs.Scopes.{Meanings, beside, with_name, has_value, has_use, value_in, type_in, value_of}
+use Rattle.xf_read.specs.Scopes.{Meanings, beside, with_name, has_value, has_use, value_in, type_in, value_of, use_means, use_value, use_type}
 use Rattle.xf_read.specs.Types.{one_type}
 use Rattle.xf_printed.specs.Names.{DefinedValues, Names, argument_text, next_number, type_of}
 use Rattle.xf_print_laws.proofs.Entries.{HasEntry}
-use Rattle.xf_roundtrip.specs.Saying.{use_means, use_value, use_type, with_arguments, with_defines}
 use Rattle.xf_roundtrip.specs.SaidWell.{is_new, defines_new, arguments_new}
 use Rattle.xf_print_laws.specs.Naming.{number_name, part_said, result_use, argument_use, use_or, use_printed, defines_printed, arguments_printed}
 

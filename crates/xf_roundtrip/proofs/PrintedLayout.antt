@@ -19,7 +19,7 @@ use Rattle.xf_printed.specs.Fills.{head_fill}
 use Rattle.xf_printed.specs.Names.{no_names}
 use Rattle.xf_printed.specs.PrintedForm.{word_of, head_of, slots_of, header_of, tail_of, functions_docs, module_docs}
 use Rattle.xf_print_laws.specs.SaidPrinted.{printed_said}
-use Rattle.xf_print_laws.proofs.LayoutDocs.{printed_has_layout as laid_out}
+use Rattle.xf_print_laws.proofs.LayoutDocs.{printed_is_laid_out as laid_out}
 use Rattle.xf_print_laws.proofs.Printed.{printed_fits, printed_says_heads, printed_has_few}
 use Rattle.xf_syntax.specs.Written.{AreFilled, IsWritten}
 use Rattle.xf_roundtrip.specs.PrintedLaws.{PrintedHasLayout}

@@ -20,12 +20,13 @@ use Rattle.xf_ir.specs.RuleTypes.{takes_gives, are_inputs}
 use Rattle.xf_ir.specs.RuleTypes.{row_of as type_row}
 use Rattle.xf_ir.specs.Tree.{Regions}
 use Rattle.xf_ir.specs.Types.{have_types}
-use Rattle.xf_read.specs.Types.{operands_by}
+use Rattle.xf_read.specs.Types.{operands_number, stated_type, result_types, argument_types}
+use Rattle.xf_read.specs.Names.{function_symbol}
+use Rattle.xf_read_base.specs.Values.{kind_said}
 use Rattle.xf_printed.specs.Names.{Names, first_args, type_of}
 use Rattle.xf_print_laws.specs.Core.{is_core}
 use Rattle.xf_print_laws.specs.SaidPrinted.{row_of, symbol_said, head_by, known_types}
 use Rattle.xf_print_laws.specs.Stored.{HasBytes}
-use Rattle.xf_roundtrip.specs.Saying.{shape, kind_said, result_types, argument_types, function_named}
 use Rattle.xf_roundtrip.proofs.Again.{all_fit, SaysIt}
 use Rattle.xf_roundtrip.proofs.Blocks.{no_args, args_of}
 use Rattle.xf_roundtrip.proofs.Dictionaries.{attrs_again, entries_differ}
@@ -49,7 +50,7 @@ abbrev pub symbol_named : Kind → Option (List ℕ)
 symbol_named (kind.Func symbol private results) = Some (64 ∷ symbol)
 symbol_named _ = None
 
-symbol_is : (k : Kind) → function_named (row_of k) (symbol_said k) ≡ symbol_named k
+symbol_is : (k : Kind) → function_symbol (row_of k) (symbol_said k) ≡ symbol_named k
 symbol_is (kind.Func symbol private results) = refl
 symbol_is k = refl
 
@@ -130,29 +131,22 @@ types_again sigs gives names i a k ds os types ts args c e s = absurd cc
 
 -- as many operands as are stated, of the types that are stated
 record AsStated (t : Said) (us : List PayloadType) : Type 0 where
-  count : length us ≡ operands_by t.row (shape t)
+  count : length us ≡ operands_number t
   fit : all_fit t 0 (map Some us) ≡ true
 
--- where the list of types that stand in the head is stated
-listed : (t : Said) (os : List (Option PayloadType)) (us : List PayloadType) → t.types ≡ known_types os → os ≡ map Some us → t.types ≡ us
-listed t os us e p = e ∙ (ap known_types p ∙ known_are us)
+-- where a type is stated for each operand
+each_stated : (t : Said) (os : List (Option PayloadType)) (us : List PayloadType) → t.types ≡ known_types os → os ≡ map Some us → operands_number t ≡ length t.types → ((i : ℕ) → stated_type t i ≡ slice_get t.types i) → AsStated t us
+each_stated t os us e p n f =
+    let l : t.types ≡ us = e ∙ (ap known_types p ∙ known_are us) in
+    record { count = sym (n ∙ ap length l); fit = fit_all t us (λ i. f i ∙ ap (λ ts. slice_get ts i) l) }
 
 stated_again : (sigs : Signatures) (gives : List PayloadType) (names : Names) (i a : ℕ) (k : Kind) (ds : List Attr) (os : List ValueName) (ts args : List PayloadType) → is_core k ≡ true → map (type_of names) os ≡ map Some (wanted sigs gives k ts)
     → AsStated (head_by names i a k ds os ts args) (wanted sigs gives k ts)
 stated_again sigs gives names i a (kind.Module symbol) ds os ts args c p = record { count = refl; fit = refl }
 stated_again sigs gives names i a (kind.Func symbol private results) ds os ts args c p = record { count = refl; fit = refl }
-stated_again sigs gives names i a kind.Return ds os ts args c p =
-    let t : Said = head_by names i a kind.Return ds os ts args in
-    let l = listed t (map (type_of names) os) gives refl p in
-    record { count = ap length (sym l); fit = fit_all t gives (λ j. ap (λ us. slice_get us j) l) }
-stated_again sigs gives names i a kind.Yield ds os ts args c p =
-    let t : Said = head_by names i a kind.Yield ds os ts args in
-    let l = listed t (map (type_of names) os) gives refl p in
-    record { count = ap length (sym l); fit = fit_all t gives (λ j. ap (λ us. slice_get us j) l) }
-stated_again sigs gives names i a (kind.Call callee) ds os ts args c p =
-    let t : Said = head_by names i a (kind.Call callee) ds os ts args in
-    let l = listed t (map (type_of names) os) (inputs_of (sigs callee)) refl p in
-    record { count = ap length (sym l); fit = fit_all t (inputs_of (sigs callee)) (λ j. ap (λ us. slice_get us j) l) }
+stated_again sigs gives names i a kind.Return ds os ts args c p = each_stated (head_by names i a kind.Return ds os ts args) (map (type_of names) os) gives refl p refl (λ j. refl)
+stated_again sigs gives names i a kind.Yield ds os ts args c p = each_stated (head_by names i a kind.Yield ds os ts args) (map (type_of names) os) gives refl p refl (λ j. refl)
+stated_again sigs gives names i a (kind.Call callee) ds os ts args c p = each_stated (head_by names i a (kind.Call callee) ds os ts args) (map (type_of names) os) (inputs_of (sigs callee)) refl p refl (λ j. refl)
 stated_again sigs gives names i a (kind.Constant width bits) ds os ts args c p = record { count = refl; fit = refl }
 stated_again sigs gives names i a (kind.Binary which width) ds os ts args c p = let s = width_itself width in record { count = refl; fit = rw s refl }
 stated_again sigs gives names i a (kind.Compare which width) ds os ts args c p = let s = width_itself width in record { count = refl; fit = rw s refl }
@@ -181,6 +175,6 @@ says_it sigs gives names i a k ds os types ts rs w e =
       arguments = arguments_again names i a k ds os types ts rs w.core w.regions;
       once = entries_differ ds w.attrs;
       symbol = symbol_is k;
-      count = eq-eqb (length os) (operands_by t.row (shape t)) (count_is (type_of names) os us p ∙ s.count);
+      count = eq-eqb (length os) (operands_number t) (count_is (type_of names) os us p ∙ s.count);
       fit = ap (all_fit t 0) p ∙ s.fit;
     }

@@ -1,9 +1,9 @@
 -- The printed form of a valid module spells it again, up to the names of operations.
 use Rattle.std.proofs.Common.{subst}
 use Rattle.xf_read.specs.Spells.{Spells}
+use Rattle.xf_read.specs.Meant.{said_meant}
 use Rattle.xf_print_laws.specs.SaidPrinted.{printed_said}
 use Rattle.xf_roundtrip.specs.PrintedLaws.{PrintedIsSpelt}
-use Rattle.xf_roundtrip.specs.SaidMeant.{said_meant}
 use Rattle.xf_roundtrip.proofs.Laws.{texts_mean}
 use Rattle.xf_roundtrip.proofs.Printed.{printed_says}
 use Rattle.xf_roundtrip.proofs.PrintedLayout.{printed_has_layout}

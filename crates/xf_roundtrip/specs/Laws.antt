@@ -6,26 +6,19 @@ use Rattle.xf_lex.specs.Layout.{SpacedToken, layout, AllStay}
 use Rattle.xf_grammar.specs.Layout.{terminals_plain}
 use Rattle.xf_ir.specs.declared.op.Module.{Module}
 use Rattle.xf_syntax.specs.declared.tree.File.{File}
-use Rattle.xf_syntax.specs.Laws.{IsText}
-use Rattle.xf_read.specs.Meant.{file_faults, meant}
+use Rattle.xf_read.specs.Meant.{file_faults, said_meant}
 use Rattle.xf_read.specs.Names.{no_faults}
 use Rattle.xf_read.specs.Spells.{Spells}
 use Rattle.xf_syntax.specs.Telling.{SaidNodes}
 use Rattle.xf_syntax.specs.Written.{file_said, IsWritten}
 use Rattle.xf_roundtrip.specs.Printable.{IsPrintable}
 use Rattle.xf_ir.specs.Renamed.{IsRenamed}
-use Rattle.xf_roundtrip.specs.SaidMeant.{said_meant}
 use Rattle.xf_print_laws.specs.SaidPrinted.{printed_said}
 use Rattle.xf_roundtrip.specs.SaidWell.{said_well}
 
--- the module that the tokens of a text mean is the one that they say
-abbrev pub TokensMeanWhatTheySay : Type 0
-TokensMeanWhatTheySay = (all : List Token) (file : File) → IsText all file
-    → meant all file ≡ said_meant (file_said all file)
-
--- and no check of names or types finds a fault exactly where what they say is right
+-- no check of names or types finds a fault exactly where what the tokens say is right
 abbrev pub TokensAreRightAsTheySay : Type 0
-TokensAreRightAsTheySay = (all : List Token) (file : File) → IsText all file
+TokensAreRightAsTheySay = (all : List Token) (file : File)
     → (file_faults all file ≡ no_faults) ↔ (said_well (file_said all file) ≡ true)
 
 -- a text that is laid out, of tokens that are written and say what is right, and blanks behind them, spells the module

@@ -1,18 +1,16 @@
 -- Whether names and types are right in what a text says: each use stands for a value, no name stands twice, and the
 -- types and numbers that are stated are those of the values.
-use Rattle.std.specs.Prelude.{ℕ, ◌+◌, ◌==◌, ◌&&◌, List, [], ◌∷◌, length, Option, Some, None, Bool, true, false, not}
+use Rattle.std.specs.Prelude.{ℕ, ◌+◌, ◌&&◌, List, [], ◌∷◌, Option, Some, None, Bool, true, false, not}
 use Rattle.std.specs.Prelude.{is_some, slice_get, if◌then◌else◌}
 use Rattle.xf_type.specs.declared.payload_type.PayloadType.{PayloadType}
-use Rattle.xf_format.specs.Parts.{UseSaid, DefineSaid, EntrySaid, Said}
+use Rattle.xf_format.specs.Parts.{DefineSaid, EntrySaid, Said}
 use Rattle.xf_ir.specs.Lists.{every}
 use Rattle.xf_read_base.specs.Attributes.{also}
-use Rattle.xf_read.specs.Names.{argument_named}
-use Rattle.xf_read.specs.Scopes.{Meanings, has_values, no_names, with_name}
-use Rattle.xf_read.specs.Types.{operands_by, stated_by, fits}
+use Rattle.xf_read.specs.Names.{argument_named, function_symbol, inside, behind, types_agree}
+use Rattle.xf_read.specs.Scopes.{Meanings, has_values, no_names, with_name, use_means}
+use Rattle.xf_read.specs.Types.{argument_types}
 use Rattle.xf_syntax.specs.Telling.{SaidNodes, no_nodes_said, node_said, SaidBodies, no_bodies_said, body_said}
 use Rattle.xf_syntax.specs.Telling.{operations, left_out, operations_inside}
-use Rattle.xf_roundtrip.specs.Saying.{use_means, use_type, shape, result_types, argument_types, function_named}
-use Rattle.xf_roundtrip.specs.Saying.{inside, behind}
 
 -- ---- names that stand once
 
@@ -42,25 +40,8 @@ arguments_new n j ts (name ∷ names) scope =
 abbrev pub names_once : ℕ → Said → Meanings → Bool
 names_once n t scope =
     entries_once (λ name. false) t.entries
-    && ((symbol_new scope (function_named t.row t.symbol) && defines_new scope t.defines)
+    && ((symbol_new scope (function_symbol t.row t.symbol) && defines_new scope t.defines)
     && arguments_new n 0 (argument_types t) t.args scope)
-
--- ---- types and numbers that are stated
-
--- the operands from operand i on have the types that are stated for them
-abbrev pub uses_fit : Meanings → Said → ℕ → List UseSaid → Bool
-uses_fit scope t i [] = true
-uses_fit scope t i (u ∷ us) = fits (stated_by t.row (shape t) i) (use_type scope u) && uses_fit scope t (i + 1) us
-
--- a name of k results, where there is one, is one of k results
-abbrev pub defines_fit : List DefineSaid → List PayloadType → Bool
-defines_fit [] ts = true
-defines_fit (d ∷ ds) ts = d.count == length ts
-
-abbrev pub types_agree : Said → Meanings → Bool
-types_agree t scope =
-    ((length t.uses == operands_by t.row (shape t)) && uses_fit scope t 0 t.uses)
-    && (defines_fit t.defines (result_types t) && (length t.args == length (argument_types t)))
 
 -- ---- all operations
 

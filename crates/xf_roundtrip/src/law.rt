@@ -1,12 +1,9 @@
 //! What holds of all texts.
-ghost use Rattle.xf_roundtrip.specs.Laws.{TokensMeanWhatTheySay, TokensAreRightAsTheySay};
-ghost use Rattle.xf_roundtrip.specs.Laws.{TextsMeanWhatTheySay, PrintedSaysTheModule};
+ghost use Rattle.xf_roundtrip.specs.Laws.{TokensAreRightAsTheySay, TextsMeanWhatTheySay, PrintedSaysTheModule};
 
-/// The tokens of a text mean the module that they say in bytes, and its names and types are right
-/// exactly where those that they say are.
-pub fn tokens_mean_what_they_say()
-    ensures means { TokensMeanWhatTheySay }
-    ensures right { TokensAreRightAsTheySay }
+/// The names and types of a text are right exactly where those are that its tokens say in bytes.
+pub fn tokens_are_right_as_they_say()
+    ensures { TokensAreRightAsTheySay }
 {}
 
 /// A text that is laid out, whose tokens the grammar writes and whose names and types are right,

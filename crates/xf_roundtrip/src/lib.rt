@@ -7,7 +7,7 @@ mod layout;
 mod validity;
 
 pub use law::{
-    printed_modules_say_themselves, texts_mean_what_they_say, tokens_mean_what_they_say,
+    printed_modules_say_themselves, texts_mean_what_they_say, tokens_are_right_as_they_say,
 };
 pub use layout::{printed_form_has_layout, printed_modules_are_spelt};
 pub use validity::printed_modules_are_valid_again;

@@ -2,4 +2,3 @@ pub mod Operands
 pub mod BlockLemmas
 pub mod Greatest
 pub mod Ascending
-pub mod Callees

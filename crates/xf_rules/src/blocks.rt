@@ -1,7 +1,9 @@
 //! Regions, the arguments of their blocks, and the ends of blocks.
 ghost use Rattle.std.specs.Prelude.{◌≡◌, ◌&&◌, ◌||◌, not, ◌∷◌, map};
-ghost use Rattle.xf_ir.specs.Kinds.{is_terminator, ends_for, is_endless, is_generic, is_arith, is_return, is_yield, is_linalg_yield};
-ghost use Rattle.xf_ir.specs.RuleBlocks.{block_args, element_type, args_fit, else_fits, blocks_fit, block_ends, blocks_end};
+ghost use Rattle.xf_ir.specs.Kinds.{is_terminator, ends_for, is_endless, is_generic, is_arith, is_return, is_yield};
+ghost use Rattle.xf_ir.specs.Kinds.{is_linalg_yield};
+ghost use Rattle.xf_ir.specs.RuleBlocks.{block_args, element_type, args_fit, else_fits, blocks_fit, block_ends};
+ghost use Rattle.xf_ir.specs.RuleBlocks.{blocks_end};
 ghost use Rattle.xf_type.specs.Equal.{same_types};
 ghost use Rattle.xf_ir.specs.Lists.{every};
 ghost use Rattle.xf_ir.specs.Types.{known, have_types};

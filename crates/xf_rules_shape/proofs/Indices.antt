@@ -1,5 +1,6 @@
 -- Operands that are indices, by their number.
-use Rattle.std.proofs.Common.{◌≡◌, ◌≢◌, ℕ, zero, suc, ◌+◌, ◌-◌, ◌<◌, ◌≤◌, ◌&&◌, List, [], ◌∷◌, length, replicate, Bool, true, false, refl, sym, ap, ◌∙◌, arith, eq-eqb}
+use Rattle.std.proofs.Common.{◌≡◌, ◌≢◌, ℕ, zero, suc, ◌+◌, ◌-◌, ◌<◌, ◌≤◌, ◌&&◌, List, [], ◌∷◌, length, replicate, Bool}
+use Rattle.std.proofs.Common.{true, false, refl, sym, ap, ◌∙◌, arith, eq-eqb}
 use Rattle.std.specs.Prelude.{Option, Some, ◌==◌}
 use Rattle.std.proofs.lemmas.List.{length-replicate}
 use Rattle.std.proofs.lemmas.Bool.Decides.{nat_tests}
@@ -39,33 +40,43 @@ counted (o ∷ os) (suc n) =
     ∙ swapped (is_index_type o) (length os == n) (every is_index_type os)
     ∙ ap (λ b. is_index_type o && b) (counted os n)
 
-pub indices_all : (os : List (Option (Bor PayloadType))) (n : ℕ) → length os ≡ n → every is_index_type (operand_types os) ≡ are_indices n (operand_types os)
-indices_all os n e = (let t : (length (operand_types os) == n) ≡ true = eq-eqb (length (operand_types os)) n (operands_length os ∙ e) in rw t at (counted (operand_types os) n))
+pub indices_all : (os : List (Option (Bor PayloadType))) (n : ℕ) → length os ≡ n
+    → every is_index_type (operand_types os) ≡ are_indices n (operand_types os)
+indices_all os n e = (let t : (length (operand_types os) == n) ≡ true =
+    eq-eqb (length (operand_types os)) n (operands_length os ∙ e) in rw t at (counted (operand_types os) n))
 
-pub other_count : (os : List (Option (Bor PayloadType))) (n : ℕ) → length os ≢ n → are_indices n (operand_types os) ≡ false
-other_count os n d = unequal_operands (operand_types os) (replicate n (Scalar Index)) (λ e. d (sym (operands_length os) ∙ e ∙ length-replicate n (Scalar Index)))
+pub other_count : (os : List (Option (Bor PayloadType))) (n : ℕ) → length os ≢ n
+    → are_indices n (operand_types os) ≡ false
+other_count os n d = unequal_operands (operand_types os) (replicate n (Scalar Index)) (λ e. d (sym (operands_length os)
+    ∙ e ∙ length-replicate n (Scalar Index)))
 
-pub slice_indices_all : (os : List (Option (Bor PayloadType))) (a b : ℕ) → a ≤ length os → length os - a ≡ b → every is_index_type (operand_types os) ≡ are_indices (a + b) (operand_types os)
-slice_indices_all os a b h e = indices_all os (a + b) (omega arith)
+pub sum_is : (os : List (Option (Bor PayloadType))) (a b : ℕ) → a ≤ length os → length os - a ≡ b
+    → every is_index_type (operand_types os) ≡ are_indices (a + b) (operand_types os)
+sum_is os a b h e = indices_all os (a + b) (omega arith)
 
-pub too_few : (os : List (Option (Bor PayloadType))) (a b : ℕ) → length os < a → are_indices (a + b) (operand_types os) ≡ false
+pub too_few : (os : List (Option (Bor PayloadType))) (a b : ℕ) → length os < a
+    → are_indices (a + b) (operand_types os) ≡ false
 too_few os a b h = other_count os (a + b) (omega arith)
 
-pub other_sum : (os : List (Option (Bor PayloadType))) (a b : ℕ) → a ≤ length os → length os - a ≢ b → are_indices (a + b) (operand_types os) ≡ false
-other_sum os a b h d = other_count os (a + b) (omega arith)
+pub sum_not : (os : List (Option (Bor PayloadType))) (a b : ℕ) → a ≤ length os → length os - a ≢ b
+    → are_indices (a + b) (operand_types os) ≡ false
+sum_not os a b h d = other_count os (a + b) (omega arith)
 
-pub not_alone : (os : List (Option (Bor PayloadType))) → 2 ≤ length os → is_empty (behind_first (operand_types os)) ≡ false
+pub not_alone : (os : List (Option (Bor PayloadType))) → 2 ≤ length os
+    → is_empty (behind_first (operand_types os)) ≡ false
 not_alone [] h = absurd (omega arith)
 not_alone (o ∷ []) h = absurd (omega arith)
 not_alone (o ∷ (p ∷ os)) h = refl
 
-pub one_alone : (os : List (Option (Bor PayloadType))) → length os ≡ 1 → is_empty (behind_first (operand_types os)) ≡ true
+pub one_alone : (os : List (Option (Bor PayloadType))) → length os ≡ 1
+    → is_empty (behind_first (operand_types os)) ≡ true
 one_alone [] h = refl
 one_alone (o ∷ []) h = refl
 one_alone (o ∷ (p ∷ os)) h = absurd (omega arith)
 
 -- a tensor has its own type
-pub target_itself : (o : Option PayloadType) (s : Shape) → has_type o (Scalar s.elem) ≡ have_types (o ∷ (Some (Tensor s) ∷ [])) (Scalar s.elem ∷ (Tensor s ∷ []))
+pub target_itself : (o : Option PayloadType) (s : Shape)
+    → has_type o (Scalar s.elem) ≡ have_types (o ∷ (Some (Tensor s) ∷ [])) (Scalar s.elem ∷ (Tensor s ∷ []))
 target_itself o s = rw (type_itself (Tensor s)) (sym (and_true (has_type o (Scalar s.elem))))
 
 pub other_rank : (a b : List Dim) → length a ≢ length b → same_items dims_cast a b ≡ false

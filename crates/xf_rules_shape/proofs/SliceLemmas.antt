@@ -9,4 +9,5 @@ pub unequal_sizes : (xs : List SliceIndex) (ds : List Dim) → length xs ≢ len
 unequal_sizes [] [] n = absurd (n refl)
 unequal_sizes [] (d ∷ ds) n = refl
 unequal_sizes (x ∷ xs) [] n = refl
-unequal_sizes (x ∷ xs) (d ∷ ds) n = unequal_behind (size_fits x d) (sizes_fit xs ds) (unequal_sizes xs ds (λ e. n (ap (λ k. suc k) e)))
+unequal_sizes (x ∷ xs) (d ∷ ds) n =
+    unequal_behind (size_fits x d) (sizes_fit xs ds) (unequal_sizes xs ds (λ e. n (ap (λ k. suc k) e)))

@@ -38,5 +38,6 @@ all_with out (op n k ds os ts rs rest) body s = all_with out rest body (with_dep
 
 -- the out argument and another value that does not depend on it, in either order
 abbrev pub joins_apart : ValueName → Names → List ValueName → Bool
-joins_apart out s (a ∷ (b ∷ [])) = (same_value a out && not (depends_on out s b)) || (same_value b out && not (depends_on out s a))
+joins_apart out s (a ∷ (b ∷ [])) =
+    (same_value a out && not (depends_on out s b)) || (same_value b out && not (depends_on out s a))
 joins_apart out s _ = false

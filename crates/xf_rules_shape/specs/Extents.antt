@@ -1,5 +1,6 @@
 -- Extents by dimensions, noted one after another.
-use Rattle.std.specs.Prelude.{ℕ, zero, suc, List, [], ◌∷◌, ◌++◌, Option, Some, None, Bool, true, ◌==◌, ◌&&◌, if◌then◌else◌}
+use Rattle.std.specs.Prelude.{ℕ, zero, suc, List, [], ◌∷◌, ◌++◌, Option, Some, None, Bool, true, ◌==◌, ◌&&◌}
+use Rattle.std.specs.Prelude.{if◌then◌else◌}
 use Rattle.xf_type.specs.declared.payload_type.PayloadType.{PayloadType}
 use Rattle.xf_type.specs.declared.payload_type.Dim.{Dim}
 use Rattle.xf_type.specs.declared.payload_type.Dim.TheVariants.{Fixed, Dynamic}
@@ -39,7 +40,8 @@ dims_at (o ∷ os) (suc n) = dims_at os n
 
 -- the extents of three operands, whose maps have these results
 abbrev pub extents_by_three : List ℕ → List ℕ → List ℕ → List (Option PayloadType) → List (ℕ × Dim)
-extents_by_three left right out os = by_dims left (dims_at os 0) ++ by_dims right (dims_at os 1) ++ by_dims out (dims_at os 2)
+extents_by_three left right out os =
+    by_dims left (dims_at os 0) ++ by_dims right (dims_at os 1) ++ by_dims out (dims_at os 2)
 
 -- a fixed extent, or 1
 abbrev pub extent_or_one : Dim → ℕ

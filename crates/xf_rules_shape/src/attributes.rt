@@ -6,8 +6,9 @@ use crate::dense::dense_fits;
 use xf_ir::Kind;
 use xf_rules::{conversion_fits, fits_bits, is_word, is_word_or_none};
 
-/// Whether the attributes that belong to the kind fit: symbols are words, numbers fit their widths, a dense constant has a fixed
-/// shape of at most 1,048,576 elements and the numbers of them, and a conversion leads between widths that it converts.
+/// Whether the attributes that belong to the kind fit: symbols are words, numbers fit their widths, a dense constant
+/// has a fixed shape of at most 1,048,576 elements and the numbers of them, and a conversion leads between widths that
+/// it converts.
 ///
 /// Takes time in the length of the attributes.
 pub fn kind_fits(kind: &Kind) -> bool

@@ -23,7 +23,8 @@ fn are_fixed(dims: &[Dim]) -> bool
     true
 }
 
-/// A number times a fixed extent; a dynamic one changes nothing. A product that 64 bits do not hold is the greatest of 64 bits.
+/// A number times a fixed extent; a dynamic one changes nothing. A product that 64 bits do not hold is the greatest of
+/// 64 bits.
 fn times_extent(count: u64, dim: Dim) -> u64
     ensures { result ≡ min (count * extent_or_one dim) (2 ^ 64 - 1) }
 {
@@ -33,8 +34,8 @@ fn times_extent(count: u64, dim: Dim) -> u64
     }
 }
 
-/// The number of elements of a tensor of these dimensions, a dynamic one counted as 1. A number that 64 bits do not hold is the
-/// greatest of 64 bits.
+/// The number of elements of a tensor of these dimensions, a dynamic one counted as 1. A number that 64 bits do not
+/// hold is the greatest of 64 bits.
 fn element_count(dims: &[Dim]) -> u64
     ensures { result ≡ min (element_count dims.now) (2 ^ 64 - 1) }
 {
@@ -67,8 +68,8 @@ fn are_all(numbers: &[u128], wanted: u128) -> bool
     true
 }
 
-/// Whether these are the numbers of so many elements: none for none, the one number of all, or one for each where they are not all
-/// equal.
+/// Whether these are the numbers of so many elements: none for none, the one number of all, or one for each where they
+/// are not all equal.
 fn numbers_of(count: u64, numbers: &[u128]) -> bool
     ensures { result ≡ numbers_of count numbers.now }
 {

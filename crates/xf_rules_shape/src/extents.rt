@@ -2,7 +2,8 @@
 ghost use Rattle.std.specs.Prelude.{◌≡◌, ◌++◌, IfOk, OnOk};
 ghost use Rattle.std.specs.BTreeMap.{get};
 ghost use Rattle.std.specs.Ordering.{nat_cmp};
-ghost use Rattle.xf_ir.specs.RuleLinalg.{maps_of, named_maps, by_dims, extents, dims_or_none, extents_agree, rank_or_none};
+ghost use Rattle.xf_ir.specs.RuleLinalg.{maps_of, named_maps, by_dims, extents, dims_or_none, extents_agree};
+ghost use Rattle.xf_ir.specs.RuleLinalg.{rank_or_none};
 ghost use Rattle.xf_ir.specs.Types.{last_type};
 ghost use Rattle.xf_rules_shape.specs.Extents.{dims_at, extents_by_three, fits_known, learned};
 ghost use Rattle.xf_rules.specs.OperandTypes.{operand_type, operand_types};
@@ -49,8 +50,8 @@ fn extents_of(
     Ok(pairs)
 }
 
-/// Notes a fixed extent of a dimension, and tells whether it is the one that was noted before, where there is one. Refuses for want
-/// of memory alone.
+/// Notes a fixed extent of a dimension, and tells whether it is the one that was noted before, where there is one.
+/// Refuses for want of memory alone.
 fn note(known: &mut BTreeMap<u32, u32>, dim: u32, extent: Dim) -> Result<bool, NoMemory>
     ensures fits { IfOk result (λ fit. fit ≡ fits_known (get nat_cmp known.old) (dim, extent)) }
     ensures ok { OnOk result (get nat_cmp known.new ≡ learned (get nat_cmp known.old) (dim, extent)) }
@@ -90,8 +91,8 @@ fn dims_at<'a>(types: &[Option<&'a PayloadType>], at: usize) -> &'a [Dim]
     }
 }
 
-/// Whether the fixed extents of each dimension agree, where the maps of three operands have these results. Refuses for want of
-/// memory alone.
+/// Whether the fixed extents of each dimension agree, where the maps of three operands have these results. Refuses for
+/// want of memory alone.
 fn three_agree(
     alloc: Global,
     left: &[u32],
@@ -99,7 +100,8 @@ fn three_agree(
     out: &[u32],
     types: &[Option<&PayloadType>],
 ) -> Result<bool, NoMemory>
-    ensures { IfOk result (λ fit. fit ≡ extents_agree (extents_by_three left.now right.now out.now (operand_types types.now))) }
+    ensures { IfOk result (λ fit. fit
+        ≡ extents_agree (extents_by_three left.now right.now out.now (operand_types types.now))) }
 {
     let mut pairs = Vec::new(alloc);
     add_extents(&mut pairs, left, dims_at(types, 0))?;
@@ -108,15 +110,16 @@ fn three_agree(
     agree(alloc, pairs.as_slice())
 }
 
-/// Whether the fixed extents of each dimension of an operation with a name agree. Those of a fill do, since its out alone has
-/// dimensions. Refuses for want of memory alone.
+/// Whether the fixed extents of each dimension of an operation with a name agree. Those of a fill do, since its out
+/// alone has dimensions. Refuses for want of memory alone.
 #[tactic(auto, using(crate::proofs::ExtentLemmas::three_maps, crate::proofs::ExtentLemmas::fill_agrees))]
 fn named_extents_agree(
     alloc: Global,
     kind: NamedKind,
     types: &[Option<&PayloadType>],
 ) -> Result<bool, NoMemory>
-    ensures { let os = operand_types types.now in IfOk result (λ fit. fit ≡ extents_agree (extents (named_maps kind (rank_or_none (last_type os))) os)) }
+    ensures { let os = operand_types types.now in
+        IfOk result (λ fit. fit ≡ extents_agree (extents (named_maps kind (rank_or_none (last_type os))) os)) }
 {
     match kind {
         NamedKind::Matmul => three_agree(alloc, &[0, 2], &[2, 1], &[0, 1], types),
@@ -139,8 +142,8 @@ fn generic_extents_agree(
     agree(alloc, pairs.as_slice())
 }
 
-/// Whether the fixed extents of each dimension of a structured operation agree: the extents that the operands have where their maps
-/// have the dimension. Any other operation passes.
+/// Whether the fixed extents of each dimension of a structured operation agree: the extents that the operands have
+/// where their maps have the dimension. Any other operation passes.
 ///
 /// Takes time in the number of extents and its logarithm. Refuses for want of memory alone.
 pub fn extents_agree(
@@ -148,7 +151,8 @@ pub fn extents_agree(
     kind: &Kind,
     types: &[Option<&PayloadType>],
 ) -> Result<bool, NoMemory>
-    ensures { let os = operand_types types.now in IfOk result (λ fit. fit ≡ extents_agree (extents (maps_of kind.now os) os)) }
+    ensures { let os = operand_types types.now in
+        IfOk result (λ fit. fit ≡ extents_agree (extents (maps_of kind.now os) os)) }
 {
     match kind {
         Kind::Named { kind } => named_extents_agree(alloc, *kind, types),

@@ -1,5 +1,5 @@
-//! The rules of a valid module as tests of one operation where it stands: those of tensor and linalg, and those that ask each
-//! kind for its own.
+//! The rules of a valid module as tests of one operation where it stands: those of tensor and linalg, and those that
+//! ask each kind for its own.
 #![tactic(auto)]
 
 mod attributes;

@@ -54,7 +54,8 @@ fn have_element(width: Width, types: &[Option<&PayloadType>]) -> bool
 
 /// Whether the elements of all operands have the width of the out's, which is a tensor.
 fn have_out_element(types: &[Option<&PayloadType>]) -> bool
-    ensures { result ≡ is_tensor_with (λ s. every (has_element s.elem) (operand_types types.now)) (last_type (operand_types types.now)) }
+    ensures { result ≡ is_tensor_with (λ s. every (has_element s.elem) (operand_types types.now))
+        (last_type (operand_types types.now)) }
 {
     match last_type(types) {
         Some(PayloadType::Tensor(shape)) => have_element(shape.elem, types),
@@ -81,7 +82,8 @@ fn fill_fits(kind: NamedKind, types: &[Option<&PayloadType>]) -> bool
     }
 }
 
-/// Whether there are as many operands as the kind takes, all of the out's element type, and the result has the out's type.
+/// Whether there are as many operands as the kind takes, all of the out's element type, and the result has the out's
+/// type.
 #[tactic(auto, using(xf_rules::proofs::Operands::operands_length))]
 pub fn named_row(kind: NamedKind, types: &[Option<&PayloadType>], results: &[PayloadType]) -> bool
     ensures { result ≡ named_row kind (operand_types types.now) results.now }

@@ -2,7 +2,9 @@
 ghost use Rattle.std.specs.Prelude.{◌≡◌, ◌||◌, not, length, nat_lt, IfOk, OnOk};
 ghost use Rattle.std.specs.FinSet as set;
 ghost use Rattle.xf_ir.specs.Lists.{every};
-ghost use Rattle.xf_ir.specs.RuleLinalg.{is_structured, maps_of, iterators_of, counted, numbers_once, is_projection, has_rank, have_ranks, are_covered, maps_fit, is_parallel, last_results, iterators_fit, rank_or_none};
+ghost use Rattle.xf_ir.specs.RuleLinalg.{is_structured, maps_of, iterators_of, counted, numbers_once, is_projection};
+ghost use Rattle.xf_ir.specs.RuleLinalg.{has_rank, have_ranks, are_covered, maps_fit, is_parallel, last_results};
+ghost use Rattle.xf_ir.specs.RuleLinalg.{iterators_fit, rank_or_none};
 ghost use Rattle.xf_ir.specs.Types.{last_type};
 ghost use Rattle.xf_rules_shape.specs.Dims.{with_dims, with_results, iterators_fit_set, named_ranks, are_ranks};
 ghost use Rattle.xf_rules.specs.OperandTypes.{operand_type, operand_types};
@@ -159,10 +161,11 @@ fn rank_or_none(ty: Option<&PayloadType>) -> usize
     }
 }
 
-/// Whether the operands of an operation with a name have the ranks of its maps, which are projected permutations and have all
-/// dimensions.
+/// Whether the operands of an operation with a name have the ranks of its maps, which are projected permutations and
+/// have all dimensions.
 fn named_maps_fit(kind: NamedKind, types: &[Option<&PayloadType>]) -> bool
-    ensures { result ≡ are_ranks (named_ranks kind (rank_or_none (last_type (operand_types types.now)))) (operand_types types.now) }
+    ensures { result
+        ≡ are_ranks (named_ranks kind (rank_or_none (last_type (operand_types types.now)))) (operand_types types.now) }
 {
     match kind {
         NamedKind::Matmul => are_ranks(&[2, 2, 2], types),
@@ -173,8 +176,8 @@ fn named_maps_fit(kind: NamedKind, types: &[Option<&PayloadType>]) -> bool
     }
 }
 
-/// Whether maps are projected permutations of so many dimensions, one for each operand, with as many results as its rank, and each
-/// dimension is in some map. Refuses for want of memory alone.
+/// Whether maps are projected permutations of so many dimensions, one for each operand, with as many results as its
+/// rank, and each dimension is in some map. Refuses for want of memory alone.
 fn generic_maps_fit(
     alloc: Global,
     maps: &[AffineMap],
@@ -189,8 +192,9 @@ fn generic_maps_fit(
     are_covered(alloc, maps, count)
 }
 
-/// Whether the maps of a structured operation are projected permutations over as many dimensions as iterators, one for each operand,
-/// with as many results as the operand's rank (0 for a scalar), and each dimension is in some map. Any other operation passes.
+/// Whether the maps of a structured operation are projected permutations over as many dimensions as iterators, one for
+/// each operand, with as many results as the operand's rank (0 for a scalar), and each dimension is in some map. Any
+/// other operation passes.
 ///
 /// Takes time in the number of dimensions and of the maps' results and its logarithm. Refuses for want of memory alone.
 #[tactic(auto, using(crate::proofs::NamedMaps::named_fit))]
@@ -199,7 +203,8 @@ pub fn maps_fit(
     kind: &Kind,
     types: &[Option<&PayloadType>],
 ) -> Result<bool, NoMemory>
-    ensures { let os = operand_types types.now in IfOk result (λ fit. fit ≡ (not (is_structured kind.now) || maps_fit (maps_of kind.now os) (length (iterators_of kind.now os)) os)) }
+    ensures { let os = operand_types types.now in IfOk result (λ fit. fit
+        ≡ (not (is_structured kind.now) || maps_fit (maps_of kind.now os) (length (iterators_of kind.now os)) os)) }
 {
     match kind {
         Kind::Named { kind } => Ok(named_maps_fit(*kind, types)),
@@ -257,8 +262,8 @@ fn generic_iterators_fit(
     Ok(iterators_fit_set(&out, iterators))
 }
 
-/// Whether each dimension of a structured operation is parallel exactly where the out's map has it, and else a reduction. Those of
-/// an operation with a name always are, and an operation that is not structured passes.
+/// Whether each dimension of a structured operation is parallel exactly where the out's map has it, and else a
+/// reduction. Those of an operation with a name always are, and an operation that is not structured passes.
 ///
 /// Takes time in the number of dimensions and its logarithm. Refuses for want of memory alone.
 #[tactic(auto, using(crate::proofs::NamedMaps::named_iterators_fit))]
@@ -267,7 +272,8 @@ pub fn iterators_fit(
     kind: &Kind,
     types: &[Option<&PayloadType>],
 ) -> Result<bool, NoMemory>
-    ensures { let os = operand_types types.now in IfOk result (λ fit. fit ≡ iterators_fit (last_results (maps_of kind.now os)) 0 (iterators_of kind.now os)) }
+    ensures { let os = operand_types types.now in
+        IfOk result (λ fit. fit ≡ iterators_fit (last_results (maps_of kind.now os)) 0 (iterators_of kind.now os)) }
 {
     match kind {
         Kind::Generic { maps, iterators } => {

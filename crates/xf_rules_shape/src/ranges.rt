@@ -86,12 +86,13 @@ fn args_in_range(regions: &[Block]) -> bool
     true
 }
 
-/// Whether the types of an operation's results, of its block arguments and, for a function, of what it returns have ranks of at
-/// most 8 and fixed dimensions below 2^31.
+/// Whether the types of an operation's results, of its block arguments and, for a function, of what it returns have
+/// ranks of at most 8 and fixed dimensions below 2^31.
 ///
 /// Takes time in the length of these types.
 pub fn types_in_range(kind: &Kind, results: &[PayloadType], regions: &[Block]) -> bool
-    ensures { result ≡ (every type_fits results.now && (every type_fits (returned_types kind.now) && every (every type_fits) (block_args (regions_of regions.now)))) }
+    ensures { result ≡ (every type_fits results.now && (every type_fits (returned_types kind.now)
+        && every (every type_fits) (block_args (regions_of regions.now)))) }
 {
     are_in_range(results) && (are_in_range(returned_types(kind)) && args_in_range(regions))
 }

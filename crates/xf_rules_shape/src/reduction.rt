@@ -3,13 +3,15 @@ ghost use Rattle.std.specs.Prelude.{◌≡◌, ◌+◌, ◌-◌, ◌^◌, ◌==�
 ghost use Rattle.std.specs.Option.{option_copied};
 ghost use Rattle.std.specs.FinSet as set;
 ghost use Rattle.xf_ir.specs.Lists.{some};
-ghost use Rattle.xf_ir.specs.RuleLinalg.{is_combiner, only_value, yielded, definer, combines, is_reduction, has_reduction, reduces};
+ghost use Rattle.xf_ir.specs.RuleLinalg.{is_combiner, only_value, yielded, definer, combines, is_reduction};
+ghost use Rattle.xf_ir.specs.RuleLinalg.{has_reduction, reduces};
 ghost use Rattle.xf_type.specs.declared.payload_type.Width.{Width};
 ghost use Rattle.xf_ir.specs.Uses.{same_value, use_count, tree_operands, ops_operands};
 ghost use Rattle.xf_ir.specs.Placed.{block_of};
 ghost use Rattle.xf_ir.specs.View.{ops_of, regions_of};
 ghost use Rattle.xf_ir.specs.Walk.{tree_find, ops_find, regions_find};
-ghost use Rattle.xf_rules_shape.specs.Dependents.{out_value, depends_on, with_dependent, with_dependents, all_with, joins_apart};
+ghost use Rattle.xf_rules_shape.specs.Dependents.{out_value, depends_on, with_dependent, with_dependents, all_with};
+ghost use Rattle.xf_rules_shape.specs.Dependents.{joins_apart};
 
 use std::alloc::Global;
 use xf_ir::{Block, IteratorKind, Kind, NameSet, Op, OpName, ValueName};
@@ -147,11 +149,12 @@ fn some_depends(out: OutArgument, dependent: &NameSet, values: &[ValueName]) -> 
     false
 }
 
-/// Adds an operation where it uses the out argument or a result of one that is there, and tells whether it is new. Refuses for want
-/// of memory alone.
+/// Adds an operation where it uses the out argument or a result of one that is there, and tells whether it is new.
+/// Refuses for want of memory alone.
 #[tactic(auto, using(crate::proofs::DependentLemmas::inserted_again))]
 fn add_dependent(out: OutArgument, op: &Op, dependent: &mut NameSet) -> Result<bool, NoMemory>
-    ensures dependents { OnOk result (dependent.new ≡ with_dependent (out_value out) op.now.operands op.now.name dependent.old) }
+    ensures dependents { OnOk result (dependent.new
+        ≡ with_dependent (out_value out) op.now.operands op.now.name dependent.old) }
     ensures none { IfOk result (λ is_new. is_new ≡ false → dependent.new ≡ dependent.old) }
 {
     if some_depends(out, dependent, op.operands.as_slice()) {
@@ -161,8 +164,8 @@ fn add_dependent(out: OutArgument, op: &Op, dependent: &mut NameSet) -> Result<b
     }
 }
 
-/// Adds the operations that use the out argument or a result of one that is there, and tells whether one is new. Refuses for want of
-/// memory alone.
+/// Adds the operations that use the out argument or a result of one that is there, and tells whether one is new.
+/// Refuses for want of memory alone.
 fn add_dependents(out: OutArgument, ops: &[Op], dependent: &mut NameSet) -> Result<bool, NoMemory>
     ensures dependents { OnOk result (dependent.new ≡ with_dependents (out_value out) (ops_of ops.now) dependent.old) }
     ensures none { IfOk result (λ grows. grows ≡ false → dependent.new ≡ dependent.old) }
@@ -202,8 +205,8 @@ fn joins_out(out: OutArgument, dependent: &NameSet, values: &[ValueName]) -> boo
     }
 }
 
-/// Whether an operation of a body joins the out argument and another value that does not depend on it. Refuses for want of memory
-/// alone.
+/// Whether an operation of a body joins the out argument and another value that does not depend on it. Refuses for want
+/// of memory alone.
 #[tactic(auto, using(crate::proofs::DependentLemmas::joins_by_set))]
 fn combines(
     alloc: Global,
@@ -262,8 +265,8 @@ fn is_used_once(out: OutArgument, ops: &[Op]) -> bool
     count == 1
 }
 
-/// Whether a body yields the combination of its out argument and a value that does not depend on it, and uses the argument nowhere
-/// else. Refuses for want of memory alone.
+/// Whether a body yields the combination of its out argument and a value that does not depend on it, and uses the
+/// argument nowhere else. Refuses for want of memory alone.
 fn is_reduction(alloc: Global, out: OutArgument, ops: &[Op]) -> Result<bool, NoMemory>
     ensures { IfOk result (λ fit. fit ≡ is_reduction (out_value out) (ops_of ops.now)) }
 {
@@ -295,11 +298,12 @@ fn body_of(regions: &[Block]) -> &[Op]
     }
 }
 
-/// Whether a `linalg.generic` with a reduction yields `c(out, e)`, in either order of operands: `c` is an operation that reductions
-/// join by, the out argument is used nowhere else, and `e` does not depend on it. Any other operation passes.
+/// Whether a `linalg.generic` with a reduction yields `c(out, e)`, in either order of operands: `c` is an operation
+/// that reductions join by, the out argument is used nowhere else, and `e` does not depend on it. Any other operation
+/// passes.
 ///
-/// Takes time in the size of the body, where each operation stands behind those whose results it uses; each operation that depends
-/// on a later one may cost a further pass over the body. Refuses for want of memory alone.
+/// Takes time in the size of the body, where each operation stands behind those whose results it uses; each operation
+/// that depends on a later one may cost a further pass over the body. Refuses for want of memory alone.
 pub fn reduces(alloc: Global, op: &Op) -> Result<bool, NoMemory>
     ensures { IfOk result (λ fit. fit ≡ reduces op.now.kind op.now) }
 {

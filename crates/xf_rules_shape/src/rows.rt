@@ -23,8 +23,8 @@ fn dense_row(shape: &Shape, types: &[Option<&PayloadType>], results: &[PayloadTy
     has_no_operands(types) && is_tensor_of(results, shape)
 }
 
-/// Whether operands and results have the numbers and types that belong to an operation of that kind. The terminator of the block
-/// in which it stands gives values of some types, and a call's callee, where there is one, has a signature.
+/// Whether operands and results have the numbers and types that belong to an operation of that kind. The terminator of
+/// the block in which it stands gives values of some types, and a call's callee, where there is one, has a signature.
 ///
 /// Takes time in the number of operands and results and the length of their types.
 pub fn types_fit(
@@ -34,7 +34,8 @@ pub fn types_fit(
     types: &[Option<&PayloadType>],
     results: &[PayloadType],
 ) -> bool
-    ensures { result ≡ row_of (λ symbol. callee_seen callee.entry) (gives_seen gives.entry) kind.now (operand_types types.now) results.now }
+    ensures { result ≡ row_of (λ symbol. callee_seen callee.entry) (gives_seen gives.entry) kind.now
+        (operand_types types.now) results.now }
 {
     match kind {
         Kind::Module { .. } | Kind::Func { .. } => is_bare(types, results),

@@ -86,8 +86,8 @@ fn slice_between(
     }
 }
 
-/// Whether a slice, taken or put in, keeps rank and element type, has offsets and sizes of at least 0, and the smaller of its types
-/// has a fixed dimension exactly where the size is a number, and equal to it. Any other operation passes.
+/// Whether a slice, taken or put in, keeps rank and element type, has offsets and sizes of at least 0, and the smaller
+/// of its types has a fixed dimension exactly where the size is a number, and equal to it. Any other operation passes.
 ///
 /// Takes time in the number of dimensions.
 pub fn slices_fit(kind: &Kind, types: &[Option<&PayloadType>], results: &[PayloadType]) -> bool

@@ -1,7 +1,8 @@
 //! Numbers and types of the operands and results of tensor operations.
 ghost use Rattle.std.specs.Prelude.{◌≡◌, ◌+◌, ◌&&◌, ◌∷◌, [], Some, true};
 ghost use Rattle.xf_ir.specs.Lists.{every, is_empty, behind_first};
-ghost use Rattle.xf_ir.specs.RuleTypes.{empty_row, dim_row, extract_row, insert_row, open_count, slice_indices, is_one_tensor, extract_slice_row, insert_slice_row, dims_cast, cast_row};
+ghost use Rattle.xf_ir.specs.RuleTypes.{empty_row, dim_row, extract_row, insert_row, open_count, slice_indices};
+ghost use Rattle.xf_ir.specs.RuleTypes.{is_one_tensor, extract_slice_row, insert_slice_row, dims_cast, cast_row};
 ghost use Rattle.xf_type.specs.Equal.{same_items, same_width};
 ghost use Rattle.xf_ir.specs.Types.{have_types, are_indices, dynamic_count, is_tensor_with};
 ghost use Rattle.xf_type.specs.declared.payload_type.PayloadType.TheVariants.{Scalar, Tensor};
@@ -59,7 +60,8 @@ fn open_count(indices: &[SliceIndex]) -> usize
 
 /// Whether the type of a result is a tensor, and the operands are one size for each of its dynamic dimensions.
 fn has_sizes(ty: &PayloadType, types: &[Option<&PayloadType>]) -> bool
-    ensures { result ≡ is_tensor_with (λ s. are_indices (dynamic_count s.dims) (operand_types types.now)) (Some ty.now) }
+    ensures { result
+        ≡ is_tensor_with (λ s. are_indices (dynamic_count s.dims) (operand_types types.now)) (Some ty.now) }
 {
     match ty {
         PayloadType::Scalar(_) => false,
@@ -110,13 +112,14 @@ pub fn extract_row(types: &[Option<&PayloadType>], results: &[PayloadType]) -> b
 /// Whether a value and a tensor of this shape, which has its own type, are an element and a tensor that it goes into.
 #[tactic(auto, using(crate::proofs::Indices::target_itself))]
 fn takes_element(value: Option<&PayloadType>, shape: &Shape) -> bool
-    ensures { result ≡ have_types (operand_type value.entry ∷ (Some (Tensor shape.now) ∷ [])) (Scalar shape.now.elem ∷ (Tensor shape.now ∷ [])) }
+    ensures { result ≡ have_types (operand_type value.entry ∷ (Some (Tensor shape.now) ∷ [])) (Scalar shape.now.elem
+        ∷ (Tensor shape.now ∷ [])) }
 {
     is_scalar_operand(value, shape.elem)
 }
 
-/// Whether the operands are an element, the tensor that it goes into and one index for each of its dimensions, and the result has
-/// the tensor's type.
+/// Whether the operands are an element, the tensor that it goes into and one index for each of its dimensions, and the
+/// result has the tensor's type.
 pub fn insert_row(types: &[Option<&PayloadType>], results: &[PayloadType]) -> bool
     ensures { result ≡ insert_row (operand_types types.now) results.now }
 {
@@ -131,7 +134,7 @@ pub fn insert_row(types: &[Option<&PayloadType>], results: &[PayloadType]) -> bo
 }
 
 /// Whether the operands are one index for each offset and each size that is an operand.
-#[tactic(auto, using(crate::proofs::Indices::slice_indices_all, crate::proofs::Indices::too_few, crate::proofs::Indices::other_sum))]
+#[tactic(auto, using(crate::proofs::Indices::sum_is, crate::proofs::Indices::too_few, crate::proofs::Indices::sum_not))]
 fn are_slice_indices(
     offsets: &[SliceIndex],
     sizes: &[SliceIndex],
@@ -144,7 +147,8 @@ fn are_slice_indices(
     types.len() >= open && types.len() - open == open_count(sizes) && are_all_indices(types)
 }
 
-/// Whether there are one offset and one size for each dimension of the larger type, and an index operand for each that is none.
+/// Whether there are one offset and one size for each dimension of the larger type, and an index operand for each that
+/// is none.
 fn slice_indices(
     offsets: &[SliceIndex],
     sizes: &[SliceIndex],
@@ -183,7 +187,8 @@ pub fn extract_slice_row(
     }
 }
 
-/// Whether the operands are the source, the target and the indices of a slice of it, and the result has the target's type.
+/// Whether the operands are the source, the target and the indices of a slice of it, and the result has the target's
+/// type.
 pub fn insert_slice_row(
     offsets: &[SliceIndex],
     sizes: &[SliceIndex],
@@ -232,10 +237,11 @@ fn all_cast(a: &[Dim], b: &[Dim]) -> bool
     true
 }
 
-/// Whether a type is that of a tensor to which a tensor of the shape may be cast: of the same rank and the same elements, and no
-/// dimension is fixed in both with different extents.
+/// Whether a type is that of a tensor to which a tensor of the shape may be cast: of the same rank and the same
+/// elements, and no dimension is fixed in both with different extents.
 fn may_cast(shape: &Shape, ty: &PayloadType) -> bool
-    ensures { result ≡ is_tensor_with (λ b. same_width shape.now.elem b.elem && same_items dims_cast shape.now.dims b.dims) (Some ty.now) }
+    ensures { result ≡ is_tensor_with (λ b. same_width shape.now.elem b.elem
+        && same_items dims_cast shape.now.dims b.dims) (Some ty.now) }
 {
     match ty {
         PayloadType::Scalar(_) => false,

@@ -9,5 +9,6 @@ keeping_is_reflexive m = record { functions = refl; returns = λ number f vs ws 
 pub keeping_composes : KeepingComposes
 keeping_composes a b c h k = record {
   functions = h.functions ∙ k.functions;
-  returns = λ number f vs ws e t p. k.returns number f vs ws (ap (λ fs. slice_get fs number) (sym h.functions) ∙ e) t (h.returns number f vs ws e t p);
+  returns = λ number f vs ws e t p. k.returns number f vs ws (ap (λ fs. slice_get fs number) (sym h.functions)
+      ∙ e) t (h.returns number f vs ws e t p);
 }

@@ -16,7 +16,8 @@ pub record Declared : Type 0 where
   pub signature : Signature
 
 abbrev pub declared_before : Kind → Regions → List Declared → List Declared
-declared_before (kind.Func symbol private types) rs more = record { symbol = symbol; signature = record { inputs = first_args rs; results = types } } ∷ more
+declared_before (kind.Func symbol private types) rs more =
+    record { symbol = symbol; signature = record { inputs = first_args rs; results = types } } ∷ more
 declared_before _ rs more = more
 
 abbrev pub declared_in : Ops → List Declared
@@ -27,9 +28,10 @@ declared_in (op n k ds os ts rs rest) = declared_before k rs (declared_in rest)
 abbrev pub declared : Module → List Declared
 declared m = declared_in (functions_of m)
 
--- both have the same functions with the same types, and where a function of the first returns a list for arguments that fit its
--- types, the second returns the same list, elements that are no number included
+-- both have the same functions with the same types, and where a function of the first returns a list for arguments that
+-- fit its types, the second returns the same list, elements that are no number included
 pub record KeepsMeaning (before after : Module) : Type 0 where
   pub functions : declared before ≡ declared after
-  pub returns : (number : ℕ) (f : Declared) (vs ws : List Value) → slice_get (declared before) number ≡ Some f → FitTypes vs f.signature.inputs
+  pub returns : (number : ℕ) (f : Declared) (vs ws : List Value) → slice_get (declared before) number ≡ Some f
+      → FitTypes vs f.signature.inputs
       → (meaning before f.symbol vs).answer ≡ gives ws → (meaning after f.symbol vs).answer ≡ gives ws

@@ -22,11 +22,13 @@ KeepingIsReflexive = (m : Module) → KeepsMeaning m m
 
 -- what keeps the meaning of a module that keeps that of another keeps that of the latter
 abbrev pub KeepingComposes : Type 0
-KeepingComposes = (first second third : Module) → KeepsMeaning first second → KeepsMeaning second third → KeepsMeaning first third
+KeepingComposes = (first second third : Module) → KeepsMeaning first second → KeepsMeaning second third
+    → KeepsMeaning first third
 
 -- an operation whose results are unused may be erased
 abbrev pub ErasingKeeps : Type 0
-ErasingKeeps = (m : Module) (target name : OpName) → IsValid m → MayErase m target name → KeepsMeaning m (edited m (Erase name))
+ErasingKeeps = (m : Module) (target name : OpName) → IsValid m → MayErase m target name
+    → KeepsMeaning m (edited m (Erase name))
 
 -- a valid module keeps its meaning under other names of operations
 abbrev pub RenamingKeeps : Type 0

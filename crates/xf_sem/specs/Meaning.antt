@@ -1,5 +1,7 @@
--- What a module means: what its functions return, and in how many units (MLIR language reference: operations, regions, values).
-use Rattle.std.specs.Prelude.{ℕ, zero, suc, ◌+◌, List, [], ◌∷◌, length, map, Option, Some, None, ◌&&◌, if◌then◌else◌, slice_get, unwrap_or}
+-- What a module means: what its functions return, and in how many units (MLIR language reference: operations, regions,
+-- values).
+use Rattle.std.specs.Prelude.{ℕ, zero, suc, ◌+◌, List, [], ◌∷◌, length, map, Option, Some, None, ◌&&◌, if◌then◌else◌}
+use Rattle.std.specs.Prelude.{slice_get, unwrap_or}
 use Rattle.xf_type.specs.declared.payload_type.PayloadType.{PayloadType}
 use Rattle.xf_type.specs.declared.payload_type.Width.{Width}
 use Rattle.xf_type.specs.declared.payload_type.Width.TheVariants.{I1}
@@ -94,8 +96,8 @@ Calls = OpName → List ℕ → Body
 
 -- ---- operations
 
--- what an operation does with the values of its operands: it gives its results, or is undefined, or it enters the block of one of
--- its regions or calls a function, and goes on with what that gives. A loop enters its block once a turn.
+-- what an operation does with the values of its operands: it gives its results, or is undefined, or it enters the block
+-- of one of its regions or calls a function, and goes on with what that gives. A loop enters its block once a turn.
 pub data Action : Type 0 where
   results : (values : List Value) → Action
   is_undefined : Action
@@ -114,11 +116,13 @@ on_two width f _ = is_undefined
 -- the condition has the width I1; what is not chosen is not looked at
 abbrev pub on_choice : Width → List Value → Action
 on_choice width (Scalar one c ∷ Scalar left a ∷ Scalar right b ∷ []) =
-    if same_width one I1 && (same_width left width && same_width right width) then results (Scalar width (selected c a b) ∷ []) else is_undefined
+    if same_width one I1 && (same_width left width && same_width right width)
+    then results (Scalar width (selected c a b) ∷ []) else is_undefined
 on_choice width _ = is_undefined
 
--- the table of the kinds, from the types of an operation's results and the values of its operands; a terminator gives its operands and
--- never comes here. The operations of scf, tensor and linalg have no rows yet, so what holds one is undefined where that is reached.
+-- the table of the kinds, from the types of an operation's results and the values of its operands; a terminator gives
+-- its operands and never comes here. The operations of scf, tensor and linalg have no rows yet, so what holds one is
+-- undefined where that is reached.
 abbrev pub acts : Kind → List PayloadType → List Value → Action
 acts (kind.Constant width bits) ts vs = results (Scalar width (Num bits) ∷ [])
 acts (kind.Binary which width) ts vs = on_two width (λ a b. Scalar width (binary which width a b)) vs
@@ -143,10 +147,11 @@ elements [] = 0
 elements (Scalar width elem ∷ vs) = elements vs
 elements (Tensor width shape elems ∷ vs) = length elems + elements vs
 
--- an operation's results, with a unit for each element of a tensor among them; it is undefined where they do not fit its types, as
--- those of a constant or a binary operation in a valid module always do
+-- an operation's results, with a unit for each element of a tensor among them; it is undefined where they do not fit
+-- its types, as those of a constant or a binary operation in a valid module always do
 abbrev pub does : Calls → OpName → Kind → List PayloadType → Bodies → List Value → Run (List Value)
-does c n k ts bodies vs = and_then (performed c n bodies (acts k ts vs)) (λ ws. where_fit n ts ws (charge (elements ws) (finish ws)))
+does c n k ts bodies vs =
+    and_then (performed c n bodies (acts k ts vs)) (λ ws. where_fit n ts ws (charge (elements ws) (finish ws)))
 
 -- an operation, for a unit, and then the rest of its block
 abbrev pub step : Calls → OpName → Kind → List PayloadType → Bodies → List Value → Body → Run (List Value)
@@ -159,13 +164,15 @@ abbrev mutual
   pub ops_run : Calls → OpName → Ops → Env → Run (List Value)
   ops_run c holder no_ops env = undefined holder
   ops_run c holder (op n k ds os ts rs rest) env =
-      step c n k ts (bodies_of c n 0 rs env) (map env os) (λ vs. ops_run c holder rest (extend (results_of n (length ts)) vs env))
+      step c n k ts (bodies_of c n 0 rs env) (map env os)
+      (λ vs. ops_run c holder rest (extend (results_of n (length ts)) vs env))
 
   -- a block takes arguments that fit its types; in a valid module all that it is given do
   pub bodies_of : Calls → OpName → ℕ → Regions → Env → Bodies
   bodies_of c n i no_regions env = no_body n
   bodies_of c n i (region args ops rest) env =
-      first_body (λ vs. where_fit n args vs (ops_run c n ops (extend (args_of n i (length args)) vs env))) (bodies_of c n (suc i) rest env)
+      first_body (λ vs. where_fit n args vs (ops_run c n ops (extend (args_of n i (length args)) vs env)))
+      (bodies_of c n (suc i) rest env)
 
 -- ---- functions
 
@@ -177,7 +184,8 @@ called _ f here later vs = later vs
 -- what the functions of a list return
 abbrev pub returned : Calls → Ops → Calls
 returned c no_ops caller f vs = undefined caller
-returned c (op n k ds os ts rs rest) caller f vs = called k f (bodies_of c n 0 rs nowhere 0) (returned c rest caller f) vs
+returned c (op n k ds os ts rs rest) caller f vs =
+    called k f (bodies_of c n 0 rs nowhere 0) (returned c rest caller f) vs
 
 -- with calls nested so deep
 abbrev pub calls_to : ℕ → Ops → Calls

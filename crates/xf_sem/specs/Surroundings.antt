@@ -1,4 +1,5 @@
--- The law of surroundings: an operation may be changed where the change leads, under every environment that an execution gives there.
+-- The law of surroundings: an operation may be changed where the change leads, under every environment that an
+-- execution gives there.
 use Rattle.std.specs.Prelude.{◌≡◌, ℕ, suc, List, [], ◌∷◌, length, map, Some, true, false, ◌==◌}
 use Rattle.xf_type.specs.declared.payload_type.PayloadType.{PayloadType}
 use Rattle.xf_ir.specs.declared.name.OpName.{OpName}
@@ -25,7 +26,8 @@ CallsLead c c' = (caller caller' : OpName) (f : List ℕ) (vs : List Value) → 
 
 -- ---- what surrounds an operation
 
--- the values that are visible, with their types, and the operations without regions that stand before, in its block or in an enclosing one
+-- the values that are visible, with their types, and the operations without regions that stand before, in its block or
+-- in an enclosing one
 pub record Context : Type 0 where
   pub types : Typed
   pub earlier : List Tree
@@ -47,7 +49,10 @@ with_earlier (region args ops rest) t ts = ts
 
 -- behind an operation
 abbrev pub behind : Context → Tree → Context
-behind s t = record { types = (done t.name (length t.results), t.results) ∷ s.types; earlier = with_earlier t.regions t s.earlier }
+behind s t = record {
+  types = (done t.name (length t.results), t.results) ∷ s.types;
+  earlier = with_earlier t.regions t s.earlier;
+}
 
 -- in the block of a region
 abbrev pub within : Context → OpName → ℕ → List PayloadType → Context
@@ -64,7 +69,8 @@ pub record HasRun (c : Calls) (e : Env) (t : Tree) : Type 0 where
   pub gave : (does c t.name t.kind t.results (no_body t.name) (map e t.operands)).answer ≡ gives values
   pub held : (v : ValueName) (i : ℕ) → results_of t.name (length t.results) v ≡ Some i → e v ≡ item values i
 
--- what each environment that an execution gives at a site meets: visible values fit their types, and the earlier operations have run
+-- what each environment that an execution gives at a site meets: visible values fit their types, and the earlier
+-- operations have run
 pub record IsGiven (c : Calls) (s : Context) (e : Env) : Type 0 where
   pub fits : (v : ValueName) (t : PayloadType) → type_at s.types v ≡ Some t → IsValue (e v) × FitsType (e v) t
   pub earlier : Each (HasRun c e) s.earlier
@@ -77,11 +83,13 @@ abbrev mutual
   OpsWhere name P s no_ops = Unit {0}
   OpsWhere name P s (op n k ds os ts rs rest) =
       ((n.0 == name.0) ≡ true → P s (op n k ds os ts rs rest))
-      × (RegionsWhere name P s n 0 rs × OpsWhere name P (behind s (record { name = n; kind = k; attrs = ds; operands = os; results = ts; regions = rs })) rest)
+      × (RegionsWhere name P s n 0 rs × OpsWhere name P
+      (behind s (record { name = n; kind = k; attrs = ds; operands = os; results = ts; regions = rs })) rest)
 
   pub RegionsWhere : OpName → (Context → Ops → Type 0) → Context → OpName → ℕ → Regions → Type 0
   RegionsWhere name P s n i no_regions = Unit {0}
-  RegionsWhere name P s n i (region args ops rest) = OpsWhere name P (within s n i args) ops × RegionsWhere name P s n (suc i) rest
+  RegionsWhere name P s n i (region args ops rest) =
+      OpsWhere name P (within s n i args) ops × RegionsWhere name P s n (suc i) rest
 
 abbrev pub FunctionsWhere : OpName → (Context → Ops → Type 0) → Ops → Type 0
 FunctionsWhere name P no_ops = Unit {0}
@@ -92,10 +100,12 @@ abbrev pub NoFunction : OpName → Ops → Type 0
 NoFunction name no_ops = Unit {0}
 NoFunction name (op n k ds os ts rs rest) = ((n.0 == name.0) ≡ false) × NoFunction name rest
 
--- at this site operations may become others, under every environment that an execution gives there, and whatever is called
+-- at this site operations may become others, under every environment that an execution gives there, and whatever is
+-- called
 pub record LeadsHere (change : Ops → Ops) (s : Context) (ops : Ops) : Type 0 where
   pub by : (c c' : Calls) (holder : OpName) (e : Env)
-      → OpsScoped (visible s) ops → OpsScoped (visible s) (change ops) → Each (IsVisible (visible s)) s.earlier → CallsLead c c' → IsGiven c s e
+      → OpsScoped (visible s) ops → OpsScoped (visible s) (change ops) → Each (IsVisible (visible s)) s.earlier
+      → CallsLead c c' → IsGiven c s e
       → Leads (ops_run c holder ops e) (ops_run c' holder (change ops) e)
 
 -- a module changed where the operation of this name begins the rest of its block
@@ -110,5 +120,6 @@ pub record MayChange (m : Module) (name : OpName) (change : Ops → Ops) : Type 
 
 -- a change that leads at its site, in any surrounding region, loop, branch or call, keeps the meaning of the module
 abbrev pub SurroundingsKeep : Type 0
-SurroundingsKeep = (m : Module) (name : OpName) (change : Ops → Ops) → MayChange m name change → FunctionsWhere name (LeadsHere change) (functions_of m)
+SurroundingsKeep = (m : Module) (name : OpName) (change : Ops → Ops) → MayChange m name change
+    → FunctionsWhere name (LeadsHere change) (functions_of m)
     → KeepsMeaning m (changed_at name change m)

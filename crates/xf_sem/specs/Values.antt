@@ -17,10 +17,12 @@ abbrev pub product : List ℕ → ℕ
 product [] = 1
 product (n ∷ ns) = n * product ns
 
--- numbers are below 2 ^ bits of the width, sizes below 2 ^ 31, and there are as many elements as the product of the sizes
+-- numbers are below 2 ^ bits of the width, sizes below 2 ^ 31, and there are as many elements as the product of the
+-- sizes
 abbrev pub IsValue : Value → Type 0
 IsValue (Scalar width elem) = FitsWidth width elem
-IsValue (Tensor width shape elems) = Each (λ size. size < 2 ^ 31) shape × ((length elems ≡ product shape) × Each (FitsWidth width) elems)
+IsValue (Tensor width shape elems) =
+    Each (λ size. size < 2 ^ 31) shape × ((length elems ≡ product shape) × Each (FitsWidth width) elems)
 
 -- a dynamic dimension takes any size
 abbrev pub FitsDim : ℕ → Dim → Type 0
@@ -59,7 +61,8 @@ fits_width width NoNumber = true
 
 abbrev pub is_value : Value → Bool
 is_value (Scalar width elem) = fits_width width elem
-is_value (Tensor width shape elems) = every (λ size. nat_lt size (2 ^ 31)) shape && ((length elems == product shape) && every (fits_width width) elems)
+is_value (Tensor width shape elems) =
+    every (λ size. nat_lt size (2 ^ 31)) shape && ((length elems == product shape) && every (fits_width width) elems)
 
 abbrev pub fits_dim : ℕ → Dim → Bool
 fits_dim size (Fixed extent) = size == extent
@@ -75,7 +78,8 @@ abbrev pub fits_type : Value → PayloadType → Bool
 fits_type (Scalar width elem) (type_of.Scalar wanted) = same_width width wanted
 fits_type (Scalar width elem) (type_of.Tensor wanted) = false
 fits_type (Tensor width shape elems) (type_of.Scalar wanted) = false
-fits_type (Tensor width shape elems) (type_of.Tensor wanted) = same_width width wanted.elem && fits_dims shape wanted.dims
+fits_type (Tensor width shape elems) (type_of.Tensor wanted) =
+    same_width width wanted.elem && fits_dims shape wanted.dims
 
 abbrev pub fit_types : List Value → List PayloadType → Bool
 fit_types [] [] = true

@@ -19,14 +19,14 @@ pub fn keeping_composes()
     ensures { KeepingComposes }
 {}
 
-/// An operation may be changed, with the rest of its block, in any surrounding region, loop, branch or call, where the change leads
-/// under every environment that an execution gives there.
+/// An operation may be changed, with the rest of its block, in any surrounding region, loop, branch or call, where the
+/// change leads under every environment that an execution gives there.
 pub fn surroundings_keep()
     ensures { SurroundingsKeep }
 {}
 
-/// An operation may be replaced by operations that are defined wherever it is, under every environment that an execution gives there,
-/// its used results by values that are visible there and hold the same.
+/// An operation may be replaced by operations that are defined wherever it is, under every environment that an
+/// execution gives there, its used results by values that are visible there and hold the same.
 pub fn replacing_keeps()
     ensures { ReplacingKeeps }
 {}
@@ -36,7 +36,8 @@ pub fn erasing_keeps()
     ensures { ErasingKeeps }
 {}
 
-/// A copy of a module under other names of operations and values, and with other discardable attributes, keeps its meaning.
+/// A copy of a module under other names of operations and values, and with other discardable attributes, keeps its
+/// meaning.
 pub fn copying_keeps()
     ensures { CopyingKeeps }
 {}

@@ -1,6 +1,12 @@
 use Rattle.std.specs.Prelude.{ℕ, List, [], codes}
 use Rattle.xf_span.specs.declared.code.Code.{Code}
-use Rattle.xf_span.specs.declared.code.Code.TheVariants.{Words, ReadFailed, WriteFailed, OutOfMemory, L1, L2, L3, L4, A1, A2, A3, A4, A5, A6, A7, A8, V1, V2, V3, V4, V5, V6, V7, V8, V9, V10, V11, V12, V13, V14, V15, V16, B1, B2, B3, B4, B5, B6, B7, B8, B9, B10, B11, B12, S1, S2, S3, S4, S5, S6, S7, S8, S9, S10, S11, S12, S13, S14, S15, S16, S17, S18, S19, S20, S21, S22, S23, F1, F2, F3, F4, F5, F6, F7, X1, X2, X3, X4, X5, U1, N1}
+use Rattle.xf_span.specs.declared.code.Code.TheVariants.{Words, ReadFailed, WriteFailed, OutOfMemory, L1, L2, L3, L4}
+use Rattle.xf_span.specs.declared.code.Code.TheVariants.{A1, A2, A3, A4, A5, A6, A7, A8, V1, V2, V3, V4, V5, V6, V7, V8}
+use Rattle.xf_span.specs.declared.code.Code.TheVariants.{V9, V10, V11, V12, V13, V14, V15, V16, B1, B2, B3, B4, B5, B6}
+use Rattle.xf_span.specs.declared.code.Code.TheVariants.{B7, B8, B9, B10, B11, B12, S1, S2, S3, S4, S5, S6, S7, S8, S9}
+use Rattle.xf_span.specs.declared.code.Code.TheVariants.{S10, S11, S12, S13, S14, S15, S16, S17, S18, S19, S20, S21}
+use Rattle.xf_span.specs.declared.code.Code.TheVariants.{S22, S23, F1, F2, F3, F4, F5, F6, F7, X1, X2, X3, X4, X5, U1}
+use Rattle.xf_span.specs.declared.code.Code.TheVariants.{N1}
 use Rattle.xf_span.specs.declared.table.LineForm.{LineForm}
 use Rattle.xf_span.specs.declared.table.LineForm.TheVariants as form
 

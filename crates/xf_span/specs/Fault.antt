@@ -17,4 +17,5 @@ numbered_fault code place number = record { code = code; place = Some place; num
 
 -- a fault at a place, with another code and place that its line tells of
 abbrev pub related_fault : Code → Place → Code → Place → Fault
-related_fault code place other other_place = record { code = code; place = Some place; number = 0; other = Some (other, other_place) }
+related_fault code place other other_place =
+    record { code = code; place = Some place; number = 0; other = Some (other, other_place) }

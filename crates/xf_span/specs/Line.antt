@@ -4,7 +4,9 @@ use Rattle.xf_span.specs.declared.code.Code.{Code}
 use Rattle.xf_span.specs.declared.fault.Fault.{Fault}
 use Rattle.xf_span.specs.declared.place.Place.{Place}
 use Rattle.xf_span.specs.declared.table.LineForm.{LineForm}
-use Rattle.xf_span.specs.declared.table.LineForm.TheVariants.{Usage, Read, Write, Memory, Unplaced, Placed, PlacedIfKnown, Unnamed, Numbered, LastFault, Consumed, MayBeConsumed}
+use Rattle.xf_span.specs.declared.table.LineForm.TheVariants.{Usage, Read, Write, Memory, Unplaced, Placed}
+use Rattle.xf_span.specs.declared.table.LineForm.TheVariants.{PlacedIfKnown, Unnamed, Numbered, LastFault, Consumed}
+use Rattle.xf_span.specs.declared.table.LineForm.TheVariants.{MayBeConsumed}
 
 -- LINE:COL
 abbrev pub place_text : Place → List ℕ
@@ -42,7 +44,8 @@ line_in Unnamed path f = head_text path f.place ++ code_text f.code
 line_in Numbered path f = head_text path f.place ++ named_text f.code ++ codes " " ++ decimal f.number
 line_in LastFault path f = head_text path f.place ++ named_text f.code ++ last_text f.other
 line_in Consumed path f = head_text path f.place ++ named_text f.code ++ with_place (codes ", consumed at ") f.other
-line_in MayBeConsumed path f = head_text path f.place ++ named_text f.code ++ with_place (codes ", may be consumed at ") f.other
+line_in MayBeConsumed path f =
+    head_text path f.place ++ named_text f.code ++ with_place (codes ", may be consumed at ") f.other
 
 -- the line of a fault
 abbrev pub line_of : List ℕ → Fault → List ℕ

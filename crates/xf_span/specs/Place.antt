@@ -8,7 +8,8 @@ counted n = min (n + 1) (2 ^ 32 - 1)
 
 -- the place behind a byte, which a line feed ends the line with
 abbrev pub next_place : Place → ℕ → Place
-next_place p b = if b == 10 then record { line = counted p.line; col = 1 } else record { line = p.line; col = counted p.col }
+next_place p b =
+    if b == 10 then record { line = counted p.line; col = 1 } else record { line = p.line; col = counted p.col }
 
 -- the place behind some bytes
 abbrev pub place_after : Place → List ℕ → Place

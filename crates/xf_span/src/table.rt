@@ -220,25 +220,6 @@ pub(crate) fn name_of(code: &Code) -> &str
         Code::X5 => "NoNumber",
         Code::U1 => "MayUse",
         Code::N1 => "NotBuilt",
-        Code::Words
-        | Code::ReadFailed
-        | Code::WriteFailed
-        | Code::OutOfMemory
-        | Code::V1
-        | Code::V2
-        | Code::V3
-        | Code::V4
-        | Code::V5
-        | Code::V6
-        | Code::V7
-        | Code::V8
-        | Code::V9
-        | Code::V10
-        | Code::V11
-        | Code::V12
-        | Code::V13
-        | Code::V14
-        | Code::V15
-        | Code::V16 => "",
+        _ => "",
     }
 }

@@ -5,7 +5,7 @@ use Rattle.xf_lex.specs.declared.token.Token.{Token}
 use Rattle.xf_grammar.specs.Grammar.{is_token}
 use Rattle.xf_grammar.specs.Tokens.{Terminal, the_end, terminal, terminal_at, says}
 use Rattle.xf_grammar.specs.Tree.{Nodes, Tree}
-use Rattle.xf_grammar.proofs.Basics.{bind_ok, either, same_answer}
+use Rattle.xf_grammar.proofs.Basics.{bind_ok, either, ok_is}
 use Rattle.xf_format.specs.declared.expected.Expected.{Expected}
 use Rattle.xf_format.specs.declared.expected.Expected.TheVariants as due
 use Rattle.xf_format.specs.declared.parts.Parts.{Parts}
@@ -33,16 +33,19 @@ end_seen : (x : Terminal) → is_token x ≡ false → x ≡ the_end
 end_seen the_end e = refl
 end_seen (terminal k bytes) e = absurd cc
 
-whole_read : (all : List Token) (d : Expected) (file : File) (at : ℕ) (x : File × ℕ) → whole all d file at ≡ Ok x → (terminal_at all at ≡ the_end) × ((file ≡ x.0) × (at ≡ x.1))
-whole_read all d file at x e = elim (either (is_token (terminal_at all at)) _ _ x e) [
+whole_read : (all : List Token) (d : Expected) (file : File) (at : ℕ) (x : File × ℕ) → whole all d file at ≡ Ok x
+    → (terminal_at all at ≡ the_end) × ((file ≡ x.0) × (at ≡ x.1))
+whole_read all d file at x e = elim (either (is_token (terminal_at all at)) _ _ _ e) [
   | inl w ↦ absurd (let v = w.1 in cc)
-  | inr w ↦ let s = same_answer (file, at) x (Ok (file, at)) refl w.1 in (end_seen (terminal_at all at) w.0, (ap (λ y. y.0) s, ap (λ y. y.1) s))
+  | inr w ↦ let s = ok_is w.1 in
+      (end_seen (terminal_at all at) w.0, (ap (λ y. y.0) s, ap (λ y. y.1) s))
 ]
 
-pub file_read : (f : ℕ) (all : List Token) (x : File × ℕ) → file_at f all ≡ Ok x → ModuleRead f all x ⊎ FunctionsRead f all x
-file_read f all x e = elim (either (says all 0 (codes "module")) _ _ x e) [
+pub file_read : (f : ℕ) (all : List Token) (x : File × ℕ) → file_at f all ≡ Ok x
+    → ModuleRead f all x ⊎ FunctionsRead f all x
+file_read f all x e = elim (either (says all 0 (codes "module")) _ _ _ e) [
   | inl w ↦
-      let n = bind_ok (payload_node_at f all level.File 0 0 0) (λ n. whole all due.Other (written_file n.0.0) n.1) x w.1 in
+      let n = bind_ok _ _ _ w.1 in
       let z = whole_read all due.Other (written_file n.0.0.0) n.0.1 x n.1.1 in
       inl (record {
         root = n.0.0.0;
@@ -53,7 +56,7 @@ file_read f all x e = elim (either (says all 0 (codes "module")) _ _ x e) [
         same = z.1.0;
       })
   | inr w ↦
-      let n = bind_ok (payload_nodes_at f all level.File 1 1 0) (λ n. whole all due.Function (unwritten_file n.0.0 n.1) n.1) x w.1 in
+      let n = bind_ok _ _ _ w.1 in
       let z = whole_read all due.Function (unwritten_file n.0.0.0 n.0.1) n.0.1 x n.1.1 in
       inr (record {
         nodes = n.0.0.0;

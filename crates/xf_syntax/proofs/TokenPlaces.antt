@@ -18,19 +18,25 @@ use Rattle.xf_syntax.specs.declared.tree.File.{File}
 use Rattle.xf_syntax.specs.File.{payload_node_at, payload_nodes_at, whole, written_file, unwritten_file, file_at}
 use Rattle.xf_syntax.specs.Laws.{NoTextThrough, AtNoText}
 
-whole_steady : (d : Expected) (file : File) (all : List Token) (at : ℕ) → BoundedLookahead all at (λ ts. whole ts d file at)
-whole_steady d file all at = ask is_token all at _ _ (stops all at at d (omega arith)) (done all at file at (omega arith))
+whole_steady : (d : Expected) (file : File) (all : List Token) (at : ℕ)
+    → BoundedLookahead all at (λ ts. whole ts d file at)
+whole_steady d file all at = ask is_token all at _ _ (stops all at at d (omega arith))
+    (done all at file at (omega arith))
 
 file_steady : (f : ℕ) (all : List Token) → BoundedLookahead all 0 (file_at f)
 unfolding payload_node_at
 file_steady f all =
     ask (is_word (codes "module")) all 0 _ _
-    (chain all 0 (λ ts. payload_node_at f ts level.File 0 0 0) (λ ts n. whole ts due.Other (written_file n.0.0) n.1) (node_steady_at_length format f all level.File 0 0 0)
+    (chain all 0 (λ ts. payload_node_at f ts level.File 0 0 0) (λ ts n. whole ts due.Other (written_file n.0.0) n.1)
+    (node_steady_at_length format f all level.File 0 0 0)
     (λ n. whole_steady due.Other (written_file n.0.0) all n.1))
-    (chain all 0 (λ ts. payload_nodes_at f ts level.File 1 1 0) (λ ts x. whole ts due.Function (unwritten_file x.0.0 x.1) x.1) (nodes_steady_at_length format f all level.File 1 1 0)
+    (chain all 0 (λ ts. payload_nodes_at f ts level.File 1 1 0)
+    (λ ts x. whole ts due.Function (unwritten_file x.0.0 x.1) x.1)
+    (nodes_steady_at_length format f all level.File 1 1 0)
     (λ x. whole_steady due.Function (unwritten_file x.0.0 x.1) all x.1))
 
-no_text : (all : List Token) (i : ℕ) (d : Expected) → ((f : ℕ) → length all < f → file_at f all ≡ Err (i, d)) → NoTextThrough i all
+no_text : (all : List Token) (i : ℕ) (d : Expected) → ((f : ℕ) → length all < f → file_at f all ≡ Err (i, d))
+    → NoTextThrough i all
 no_text all i d bad us a file spelt =
     let n : ℕ = suc (length all + length us) in
     let b = bad n (omega arith) in
@@ -38,7 +44,8 @@ no_text all i d bad us a file spelt =
     let e = (file_steady n all).same us a' in
     absurd (let g = spelt n (omega arith) in cc)
 
-pub at_no_text : (all : List Token) (o : Result File Stopped) → ((f : ℕ) → length all < f → Gives (λ file. (file, length all)) o (file_at f all)) → AtNoText o all
+pub at_no_text : (all : List Token) (o : Result File Stopped)
+    → ((f : ℕ) → length all < f → Gives (λ file. (file, length all)) o (file_at f all)) → AtNoText o all
 at_no_text all (Ok x) g = tt
 at_no_text all (Err fault.NoMemory) g = tt
 at_no_text all (Err (fault.At i d)) g = no_text all i d g

@@ -6,7 +6,8 @@ use Rattle.xf_format.specs.Format.{format}
 use Rattle.xf_format.specs.Parts.{Said, said}
 use Rattle.xf_format.specs.Rows.{is_yield}
 use Rattle.xf_grammar.specs.Tree as tree
-pub use Rattle.xf_grammar.specs.Tree.{no_nodes, node, no_bodies, body, no_nodes_said, node_said, no_bodies_said, body_said}
+pub use Rattle.xf_grammar.specs.Tree.{no_nodes, node, no_bodies, body, no_nodes_said, node_said, no_bodies_said}
+pub use Rattle.xf_grammar.specs.Tree.{body_said}
 
 abbrev pub Nodes : Type 0
 Nodes = tree.Nodes Parts

@@ -143,7 +143,7 @@ fn with_else(
         (payload_block_at f tokens.now row depth) (free parts.old) count.old at) }
     ensures within { IfOk result (λ x. (at ≤ x.1) × (x.1 ≤ length tokens.now)) }
 {
-    let mut bodies = Vec::new(alloc);
+    let mut bodies = Vec::with_capacity(alloc, 1)?;
     let (first, next) = body_at(alloc, tokens, row, parts, depth, count, at)?;
     bodies.push(first)?;
     if !says(tokens, next, b"else") {
@@ -176,7 +176,7 @@ fn bodies_at(
     match row_bodies(row) {
         Bodies::None => Ok((Vec::new(alloc), at)),
         Bodies::One => {
-            let mut bodies = Vec::new(alloc);
+            let mut bodies = Vec::with_capacity(alloc, 1)?;
             let (one, next) = body_at(alloc, tokens, row, parts, depth, count, at)?;
             bodies.push(one)?;
             Ok((bodies, next))
@@ -239,6 +239,7 @@ fn nodes_at(
         level = behind(level);
         at = next;
     }
+    nodes.shrink_to_fit();
     Ok((nodes, at))
 }
 
@@ -270,7 +271,7 @@ fn file(alloc: Global, tokens: &[Token]) -> Result<File, Stopped>
     count += 1;
     let (nodes, close) = nodes_at(alloc, tokens, Level::File, 1, &mut count, 0)?;
     ended(tokens, Expected::Function, close)?;
-    let mut bodies = Vec::new(alloc);
+    let mut bodies = Vec::with_capacity(alloc, 1)?;
     bodies.push(Body { nodes, close })?;
     let parts = Parts::new(alloc, Row::Module);
     Ok(File {

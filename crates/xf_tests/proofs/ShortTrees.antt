@@ -1,5 +1,6 @@
 -- What passes the test of short lists has short lists.
-use Rattle.std.proofs.Common.{◌≡◌, ℕ, ◌^◌, ◌<◌, Bool, true, List, [], ◌∷◌, length, Some, None, refl, ap, sym, ◌∙◌, arith}
+use Rattle.std.proofs.Common.{◌≡◌, ℕ, ◌^◌, ◌<◌, Bool, true, List, [], ◌∷◌, length, Some, None, refl, ap, sym, ◌∙◌}
+use Rattle.std.proofs.Common.{arith}
 use Rattle.std.specs.Prelude.{◌&&◌, nat_lt, IsTrue}
 use Rattle.std.proofs.lemmas.Bool.{and_parts, ltb-true}
 use Rattle.xf_type.specs.declared.attribute.AttrValue.{AttrValue}
@@ -8,7 +9,8 @@ use Rattle.xf_type.specs.declared.payload_type.PayloadType.{PayloadType}
 use Rattle.xf_ir.specs.declared.kind.Attr.{Attr}
 use Rattle.xf_ir.specs.declared.kind.Kind.{Kind}
 use Rattle.xf_ir.specs.declared.kind.Kind.TheVariants as kind
-use Rattle.xf_ir.specs.Bounds.{HasShortText, IsShortAttr, HasShortSymbol, regions_length, blocks_of, HasShortLists, OpsShort, RegionsShort, TreeIsShort}
+use Rattle.xf_ir.specs.Bounds.{HasShortText, IsShortAttr, HasShortSymbol, regions_length, blocks_of, HasShortLists}
+use Rattle.xf_ir.specs.Bounds.{OpsShort, RegionsShort, TreeIsShort}
 use Rattle.xf_ir.specs.Kinds.{returned_types}
 use Rattle.xf_ir.specs.Lists.{Each, every}
 use Rattle.xf_ir.specs.RuleBlocks.{block_args}
@@ -17,14 +19,16 @@ use Rattle.xf_ir.specs.Tree.{Ops, no_ops, op, Regions, no_regions, region, Tree,
 use Rattle.xf_ir.specs.View.{ops_of, regions_of}
 use Rattle.xf_ir.proofs.Found.{tree}
 use Rattle.xf_ir.proofs.ShortLists.{long_regions, long_ops}
-use Rattle.xf_tests.specs.Short.{is_few, is_short_text, is_short_attr, has_short_symbol, is_short_block, are_short_blocks, has_short_lists, are_short, hold_short}
+use Rattle.xf_tests.specs.Short.{is_few, is_short_text, is_short_attr, has_short_symbol, is_short_block}
+use Rattle.xf_tests.specs.Short.{are_short_blocks, has_short_lists, are_short, hold_short}
 
 -- ---- lists as the code has them
 
 pub as_many_ops : (ts : List Tree) → nat_lt (length ts) 4294967296 ≡ nat_lt (ops_length (ops_of ts)) (2 ^ 32)
 as_many_ops ts = ap (λ n. nat_lt n 4294967296) (sym (long_ops ts))
 
-pub as_many_regions : (bs : List Body) → nat_lt (length bs) 4294967296 ≡ nat_lt (regions_length (regions_of bs)) (2 ^ 32)
+pub as_many_regions : (bs : List Body)
+    → nat_lt (length bs) 4294967296 ≡ nat_lt (regions_length (regions_of bs)) (2 ^ 32)
 as_many_regions bs = ap (λ n. nat_lt n 4294967296) (sym (long_regions bs))
 
 -- ---- the lists of an operation
@@ -51,7 +55,9 @@ symbol_is_short (kind.Func symbol private results) e = few (length symbol) e
 symbol_is_short (kind.Call callee) e = few (length callee) e
 symbol_is_short k e = tt
 
-blocks_are_short : (rs : Regions) → are_short_blocks rs ≡ true → Each (λ (ts : List PayloadType). length ts < 2 ^ 32) (block_args rs) × Each (λ ops. ops_length ops < 2 ^ 32) (blocks_of rs)
+blocks_are_short : (rs : Regions)
+    → are_short_blocks rs ≡ true → Each (λ (ts : List PayloadType). length ts < 2 ^ 32) (block_args rs)
+    × Each (λ ops. ops_length ops < 2 ^ 32) (blocks_of rs)
 blocks_are_short no_regions e = (tt, tt)
 blocks_are_short (region args ops rest) e =
     let p = and_parts (is_short_block args ops) (are_short_blocks rest) e in
@@ -97,7 +103,8 @@ mutual
       let p = and_parts (are_short ops) (hold_short rest) e in
       (ops_are_short ops p.0, regions_are_short rest p.1)
 
-pub tree_is_short : (b c : Bool) (t : Tree) → b ≡ has_short_lists t → c ≡ hold_short t.regions → IsTrue (b && c) → TreeIsShort t
+pub tree_is_short : (b c : Bool) (t : Tree) → b ≡ has_short_lists t → c ≡ hold_short t.regions → IsTrue (b && c)
+    → TreeIsShort t
 tree_is_short b c t d e h =
     let both : (b && c) ≡ true = true_is (b && c) h in
     let p = and_parts b c both in

@@ -55,7 +55,8 @@ abbrev mutual
   pub are_short : Ops → Bool
   are_short no_ops = true
   are_short (op n k ds os ts rs rest) =
-      has_short_lists (record { name = n; kind = k; attrs = ds; operands = os; results = ts; regions = rs }) && (hold_short rs && are_short rest)
+      has_short_lists (record { name = n; kind = k; attrs = ds; operands = os; results = ts; regions = rs })
+      && (hold_short rs && are_short rest)
 
   pub hold_short : Regions → Bool
   hold_short no_regions = true

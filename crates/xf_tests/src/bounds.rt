@@ -5,7 +5,9 @@ ghost use Rattle.xf_ir.specs.Count.{tree_count};
 ghost use Rattle.xf_ir.specs.Kinds.{returned_types};
 ghost use Rattle.xf_ir.specs.Lists.{every};
 ghost use Rattle.xf_ir.specs.View.{regions_of};
-ghost use Rattle.xf_tests.specs.Short.{is_few, is_short_text, is_short_attr, has_short_symbol, is_short_block, are_short_blocks, has_short_attrs, has_few_values, has_short_regions, has_short_kind, has_short_lists, hold_short};
+ghost use Rattle.xf_tests.specs.Short.{is_few, is_short_text, is_short_attr, has_short_symbol, is_short_block};
+ghost use Rattle.xf_tests.specs.Short.{are_short_blocks, has_short_attrs, has_few_values, has_short_regions};
+ghost use Rattle.xf_tests.specs.Short.{has_short_kind, has_short_lists, hold_short};
 
 use xf_ir::{Attr, Block, Kind, Op, count};
 use xf_type::AttrValue;

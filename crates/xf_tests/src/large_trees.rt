@@ -1,5 +1,5 @@
-//! Trees of a million operations, of 32 nested regions and of a million numbers: built, copied, counted, searched, edited
-//! and dropped.
+//! Trees of a million operations, of 32 nested regions and of a million numbers: built, copied, counted, searched,
+//! edited and dropped.
 ghost use Rattle.std.specs.Prelude.{◌≡◌};
 
 use crate::bounds::count_few;

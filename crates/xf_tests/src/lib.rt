@@ -1,5 +1,5 @@
-//! Tests of what no call of the program shows: edits, copies and large trees, operations that no text spells yet, lines of
-//! codes that no command gives yet, and files and streams of the system. There is nothing here but tests, so that no
+//! Tests of what no call of the program shows: edits, copies and large trees, operations that no text spells yet, lines
+//! of codes that no command gives yet, and files and streams of the system. There is nothing here but tests, so that no
 //! other crate is proved again for them.
 #![tactic(auto)]
 
@@ -7,6 +7,8 @@
 mod bounds;
 #[cfg(test)]
 mod copies;
+#[cfg(test)]
+mod dense;
 #[cfg(test)]
 mod devices;
 #[cfg(test)]
@@ -21,6 +23,8 @@ mod large_trees;
 mod lines;
 #[cfg(test)]
 mod outline;
+#[cfg(test)]
+mod shapes;
 #[cfg(test)]
 mod structured;
 #[cfg(test)]

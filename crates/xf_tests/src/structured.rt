@@ -213,9 +213,11 @@ fn printed(alloc: Global, op: Structured, extents: &[&[u32]]) -> Result<MemSink,
     Ok(sink)
 }
 
-const ROW_SUMS_PRINTED: &str = r#"module {
+const ROW_SUMS_PRINTED: &str = concat!(
+    r#"module {
   func.func @f(%arg0: tensor<4x8xi32>, %arg1: tensor<4xi32>) -> tensor<4xi32> {
-    %0 = linalg.generic {indexing_maps = [affine_map<(d0, d1) -> (d0, d1)>, affine_map<(d0, d1) -> (d0)>], iterator_types = ["parallel", "reduction"]} ins(%arg0 : tensor<4x8xi32>) outs(%arg1 : tensor<4xi32>) {
+    %0 = linalg.generic {indexing_maps = [affine_map<(d0, d1) -> (d0, d1)>, affine_map<(d0, d1) -> (d0)>],"#,
+    r#" iterator_types = ["parallel", "reduction"]} ins(%arg0 : tensor<4x8xi32>) outs(%arg1 : tensor<4xi32>) {
     ^bb0(%arg2: i32, %arg3: i32):
       %1 = arith.addi %arg2, %arg3 : i32
       linalg.yield %1 : i32
@@ -223,7 +225,8 @@ const ROW_SUMS_PRINTED: &str = r#"module {
     func.return %0 : tensor<4xi32>
   }
 }
-"#;
+"#
+);
 
 #[test]
 fn operations_on_tensors_are_printed(rt: HostRuntime) -> Result<(), Fail> {

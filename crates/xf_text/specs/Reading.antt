@@ -66,7 +66,8 @@ sequence_front ts = do
       (word (codes "module") ∷ word (codes "attributes")
       ∷ mark 123 ∷ word (codes "transform.with_named_sequence") ∷ mark 125 ∷ mark 123 ∷ []) ts
   params ← behind_all
-      (word (codes "transform.named_sequence") ∷ token kind.Symbol (codes "@__transform_main") ∷ mark 40 ∷ []) module_body
+      (word (codes "transform.named_sequence")
+      ∷ token kind.Symbol (codes "@__transform_main") ∷ mark 40 ∷ []) module_body
   argument ← bytes_front kind.Value params
   after ← behind_all (colon ∷ any_op ∷ mark 41 ∷ mark 123 ∷ []) argument.1
   Some (argument.0, after)

@@ -10,7 +10,7 @@ use xf_lex::{Token, TokenKind};
 /// The tokens that are left to read. After a `None` it stands at some later token.
 #[derive(Drop)]
 pub struct Cursor<'a> {
-    rest: &'a [Token],
+    rest: &'a [Token<'a>],
 }
 
 impl<'a> Model for Cursor<'a> {
@@ -24,7 +24,7 @@ impl<'a> Model for Cursor<'a> {
 
 impl<'a> Cursor<'a> {
     /// At the first of these tokens.
-    pub fn new(tokens: &'a [Token]) -> Cursor<'a>
+    pub fn new(tokens: &'a [Token<'a>]) -> Cursor<'a>
         ensures { result ≡ map plain tokens.now }
     {
         Cursor { rest: tokens }

@@ -2,7 +2,8 @@
 ghost use Rattle.std.specs.Prelude.{◌≡◌, map, true, false, IfOk};
 ghost use Rattle.xf_lex.specs.Layout.{plain};
 ghost use Rattle.xf_text.specs.Script.{any_op, IsScript};
-ghost use Rattle.xf_text.specs.Reading.{Gives, behind, sequence_front, step_front, yield_front, script_front, script_read};
+ghost use Rattle.xf_text.specs.Reading.{Gives, behind, sequence_front, step_front, yield_front, script_front};
+ghost use Rattle.xf_text.specs.Reading.{script_read};
 
 use crate::cursor::Cursor;
 use std::alloc::{AllocError, Global};
@@ -81,7 +82,7 @@ fn script<'a>(cursor: &mut Cursor<'a>) -> Option<&'a [u8]>
 
 /// The name of a script's argument.
 #[tactic(auto, unfolding(crate::specs::Reading::script_read))]
-fn argument<'a>(tokens: &'a [Token]) -> Option<&'a [u8]>
+fn argument<'a>(tokens: &'a [Token<'a>]) -> Option<&'a [u8]>
     ensures { Gives (λ name. name.now) result (script_read (map plain tokens.now)) }
 {
     let mut cursor = Cursor::new(tokens);

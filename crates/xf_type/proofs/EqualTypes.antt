@@ -27,7 +27,8 @@ pub dim_itself : (d : Dim) → same_dim d d ≡ true
 dim_itself (Fixed a) = (Decides-eqb a a).1 refl
 dim_itself Dynamic = refl
 
-pub items_itself : {A : Type 0} (same : A → A → Bool) → ((x : A) → same x x ≡ true) → (xs : List A) → same_items same xs xs ≡ true
+pub items_itself : {A : Type 0} (same : A → A → Bool) → ((x : A) → same x x ≡ true) → (xs : List A)
+    → same_items same xs xs ≡ true
 items_itself same itself [] = refl
 items_itself same itself (x ∷ xs) = rw (itself x) (items_itself same itself xs)
 
@@ -37,9 +38,6 @@ shape_itself s = rw (width_itself s.elem) (items_itself same_dim dim_itself s.di
 pub type_itself : (t : PayloadType) → same_type t t ≡ true
 type_itself (Scalar w) = width_itself w
 type_itself (Tensor s) = shape_itself s
-
-pub types_itself : (ts : List PayloadType) → same_types ts ts ≡ true
-types_itself ts = items_itself same_type type_itself ts
 
 -- ---- values for which a test is true are equal
 
@@ -106,7 +104,8 @@ pub unequal_behind : (a b : Bool) → b ≡ false → (a && b) ≡ false
 unequal_behind true b h = h
 unequal_behind false b h = refl
 
-pub unequal_items : {A : Type 0} (same : A → A → Bool) (xs ys : List A) → length xs ≢ length ys → same_items same xs ys ≡ false
+pub unequal_items : {A : Type 0} (same : A → A → Bool) (xs ys : List A) → length xs ≢ length ys
+    → same_items same xs ys ≡ false
 unequal_items same [] [] n = absurd (n refl)
 unequal_items same [] (y ∷ ys) n = refl
 unequal_items same (x ∷ xs) [] n = refl

@@ -1,5 +1,6 @@
 -- The laws of the table of the integers, operation by operation.
-use Rattle.std.proofs.Common.{◌≡◌, ℕ, ◌+◌, ◌-◌, ◌*◌, ◌%◌, ◌^◌, ◌<◌, min, max, refl, ap, sym, ◌∙◌, arith, ℤ, pos, negsuc, bit_and, bit_or, bit_xor}
+use Rattle.std.proofs.Common.{◌≡◌, ℕ, ◌+◌, ◌-◌, ◌*◌, ◌%◌, ◌^◌, ◌<◌, min, max, refl, ap, sym, ◌∙◌, arith, ℤ, pos, negsuc}
+use Rattle.std.proofs.Common.{bit_and, bit_or, bit_xor}
 use Rattle.std.proofs.Math.Nat.{add_comm, mul_comm, add_assoc, mul_assoc, mod-add-mod, add-mod-mod}
 use Rattle.std.proofs.lemmas.Nat.{and_comm, or_comm, xor_comm, and_assoc, mul-mod_first, mul-mod_second, or_lt, xor_lt}
 use Rattle.std.proofs.lemmas.Nat.Bits.{same_from_bits, bit_at_or}
@@ -15,7 +16,9 @@ use Rattle.xf_type.specs.declared.kind.Combiner.{Combiner}
 use Rattle.xf_type.specs.declared.kind.Combiner.TheVariants.{Addi, Muli, Andi, Ori, Xori, Minsi, Maxsi, Minui, Maxui}
 use Rattle.xf_type.specs.declared.payload_type.Width.TheVariants.{I1, I8, I16, I32, I64, Index}
 use Rattle.xf_type.specs.declared.kind.ConvKind.TheVariants.{Extsi, Extui, Trunci, IndexCast, IndexCastui}
-use Rattle.xf_type.specs.Laws.{WrappedFits, SignedValueFits, WrappedReturns, SignedValueReturns, BinaryFits, ComparedFits, ConvertedFits, SelectedFits, CombinedFits, CombinedCommutes, CombinedAssociates, Returns, ExtensionReturns, IndexCastReturns}
+use Rattle.xf_type.specs.Laws.{WrappedFits, SignedValueFits, WrappedReturns, SignedValueReturns, BinaryFits}
+use Rattle.xf_type.specs.Laws.{ComparedFits, ConvertedFits, SelectedFits, CombinedFits, CombinedCommutes}
+use Rattle.xf_type.specs.Laws.{CombinedAssociates, Returns, ExtensionReturns, IndexCastReturns}
 use Rattle.xf_type.specs.Integers.{bits_of, wrapped, signed_value, FitsWidth, binary_of, kind_of, combined}
 
 -- ---- the two readings of a number
@@ -44,7 +47,8 @@ wrapped-signed_value w n h = grind (arith, ints, common_steps, two_halves w)
 
 -- ---- results fit
 
-pub number_fits : (k : BinKind) (w : Width) (a b : ℕ) → a < 2 ^ bits_of w → b < 2 ^ bits_of w → FitsWidth w (binary_of k w a b)
+pub number_fits : (k : BinKind) (w : Width) (a b : ℕ) → a < 2 ^ bits_of w → b < 2 ^ bits_of w
+    → FitsWidth w (binary_of k w a b)
 number_fits bin.Addi w a b p q = wrapped_below w (pos (a + b))
 number_fits bin.Subi w a b p q = wrapped_below w _
 number_fits bin.Muli w a b p q = wrapped_below w (pos (a * b))
@@ -140,16 +144,23 @@ or_assoc : (a b c : ℕ) → bit_or (bit_or a b) c ≡ bit_or a (bit_or b c)
 or_assoc a b c = same_from_bits _ _ (λ i. grind (arith, bit_at_or))
 
 -- the least and the greatest of two signed values are signed values of the width
-signed_value-min : (w : Width) (a b : ℕ) → a < 2 ^ bits_of w → b < 2 ^ bits_of w → signed_value w (wrapped w (int_min (signed_value w a) (signed_value w b))) ≡ int_min (signed_value w a) (signed_value w b)
+signed_value-min : (w : Width) (a b : ℕ)
+    → a < 2 ^ bits_of w → b < 2 ^ bits_of w → signed_value w (wrapped w (int_min (signed_value w a) (signed_value w b)))
+    ≡ int_min (signed_value w a) (signed_value w b)
 signed_value-min w a b p q = grind (arith, ints, common_steps)
 
-signed_value-max : (w : Width) (a b : ℕ) → a < 2 ^ bits_of w → b < 2 ^ bits_of w → signed_value w (wrapped w (int_max (signed_value w a) (signed_value w b))) ≡ int_max (signed_value w a) (signed_value w b)
+signed_value-max : (w : Width) (a b : ℕ)
+    → a < 2 ^ bits_of w → b < 2 ^ bits_of w → signed_value w (wrapped w (int_max (signed_value w a) (signed_value w b)))
+    ≡ int_max (signed_value w a) (signed_value w b)
 signed_value-max w a b p q = grind (arith, ints, common_steps)
 
-value_assoc : (c : Combiner) (w : Width) (a b d : ℕ) → a < 2 ^ bits_of w → b < 2 ^ bits_of w → d < 2 ^ bits_of w → value c w (value c w a b) d ≡ value c w a (value c w b d)
+value_assoc : (c : Combiner) (w : Width) (a b d : ℕ) → a < 2 ^ bits_of w → b < 2 ^ bits_of w → d < 2 ^ bits_of w
+    → value c w (value c w a b) d ≡ value c w a (value c w b d)
 unfolding value
-value_assoc Addi w a b d p q r = mod-add-mod (a + b) _ d ∙ ap (λ n. n % 2 ^ bits_of w) (add_assoc a b d) ∙ sym (add-mod-mod a (b + d) _)
-value_assoc Muli w a b d p q r = mul-mod_first (a * b) d _ ∙ ap (λ n. n % 2 ^ bits_of w) (mul_assoc a b d) ∙ sym (mul-mod_second a (b * d) _)
+value_assoc Addi w a b d p q r =
+    mod-add-mod (a + b) _ d ∙ ap (λ n. n % 2 ^ bits_of w) (add_assoc a b d) ∙ sym (add-mod-mod a (b + d) _)
+value_assoc Muli w a b d p q r =
+    mul-mod_first (a * b) d _ ∙ ap (λ n. n % 2 ^ bits_of w) (mul_assoc a b d) ∙ sym (mul-mod_second a (b * d) _)
 value_assoc Andi w a b d p q r = and_assoc d a b
 value_assoc Ori w a b d p q r = or_assoc a b d
 value_assoc Xori w a b d p q r = xor_assoc a b d

@@ -2,7 +2,8 @@
 ghost use Rattle.std.specs.Prelude.{◌≡◌, ◌-◌, ◌%◌, ◌^◌, ◌<◌};
 ghost use Rattle.std.specs.Int.{int_min, int_max};
 ghost use Rattle.xf_type.specs.declared.payload_type.Width.{Width};
-ghost use Rattle.xf_type.specs.Integers.{FitsWidth, bits_of, wrapped, signed_value, binary_of, holds, converted_of, binary, compared, converted, selected, combined};
+ghost use Rattle.xf_type.specs.Integers.{FitsWidth, bits_of, wrapped, signed_value, binary_of, holds, converted_of};
+ghost use Rattle.xf_type.specs.Integers.{binary, compared, converted, selected, combined};
 
 use crate::kind::{BinKind, CmpKind, Combiner, ConvKind};
 use crate::payload_type::{Elem, Width};

@@ -1,5 +1,7 @@
 //! What holds of the arithmetic of integers. A function here does nothing: what it promises is the law.
-ghost use Rattle.xf_type.specs.Laws.{WrappedFits, SignedValueFits, WrappedReturns, SignedValueReturns, BinaryFits, ComparedFits, ConvertedFits, SelectedFits, CombinedFits, CombinedCommutes, CombinedAssociates, ExtensionReturns, IndexCastReturns};
+ghost use Rattle.xf_type.specs.Laws.{WrappedFits, SignedValueFits, WrappedReturns, SignedValueReturns, BinaryFits};
+ghost use Rattle.xf_type.specs.Laws.{ComparedFits, ConvertedFits, SelectedFits, CombinedFits, CombinedCommutes};
+ghost use Rattle.xf_type.specs.Laws.{CombinedAssociates, ExtensionReturns, IndexCastReturns};
 
 /// A number of a width and its signed value stand for each other.
 pub fn readings_return()

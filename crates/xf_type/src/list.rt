@@ -1,5 +1,6 @@
 //! A list of any items.
-ghost use Rattle.std.specs.Prelude.{◌≡◌, ◌<◌, ◌≤◌, [], ◌∷◌, ◌++◌, ◌↔◌, length, slice_get, slice_set, insert, remove, IsTrue, IfOk, OnOk, OnErr, MatchOption};
+ghost use Rattle.std.specs.Prelude.{◌≡◌, ◌<◌, ◌≤◌, [], ◌∷◌, ◌++◌, ◌↔◌, length, slice_get, slice_set, insert, remove};
+ghost use Rattle.std.specs.Prelude.{IsTrue, IfOk, OnOk, OnErr, MatchOption};
 ghost use Rattle.std.specs.Option.{option_copied};
 
 use crate::NoMemory;
@@ -106,10 +107,15 @@ impl<T: Copy> ListOf<T> {
 
 impl<T: Drop> ListOf<T> {
     /// Puts an item at the end. Without memory the list stays, and the item is dropped.
+    ///
+    /// A list of one item takes memory for one, since most lists of an operation have no more.
     pub fn push(&mut self, item: T) -> Result<(), NoMemory>
         ensures ok { OnOk result (self.new ≡ self.old ++ item ∷ []) }
         ensures err { OnErr result (self.new ≡ self.old) }
     {
+        if self.items.is_empty() {
+            self.items.reserve_exact(1)?;
+        }
         self.items.push(item)?;
         Ok(())
     }

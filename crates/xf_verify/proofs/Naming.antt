@@ -25,7 +25,8 @@ kept s k q h = inserted s k q ∙ or_right (eqb q k) (set.contains s q) h
 pub own_inserted : (s : Names) (k : ℕ) → set.contains (set.insert s k) k ≡ true
 own_inserted s k = inserted s k k ∙ ap (λ b. b || set.contains s k) (eq-eqb k k refl)
 
-pub kept_behind : (s : Names) (ps : List Placed) (q : ℕ) → set.contains s q ≡ true → set.contains (names_behind s ps) q ≡ true
+pub kept_behind : (s : Names) (ps : List Placed) (q : ℕ) → set.contains s q ≡ true
+    → set.contains (names_behind s ps) q ≡ true
 kept_behind s [] q h = h
 kept_behind s (p ∷ ps) q h = kept_behind (set.insert s p.tree.name.0) ps q (kept s p.tree.name.0 q h)
 
@@ -34,7 +35,8 @@ names_both s [] qs = refl
 names_both s (p ∷ ps) qs = names_both (set.insert s p.tree.name.0) ps qs
 
 -- a name that is new names no operation whose values are visible
-pub new_undefined : (ds : Definitions) (names : Names) (n : ℕ) → Named ds names → set.contains names n ≡ false → ds n ≡ None
+pub new_undefined : (ds : Definitions) (names : Names) (n : ℕ) → Named ds names
+    → set.contains names n ≡ false → ds n ≡ None
 new_undefined ds names n h e = is_none_from (ds n) (λ s. sym e ∙ h n s)
 
 pub named_kept : (ds : Definitions) (names : Names) (k : ℕ) → Named ds names → Named ds (set.insert names k)
@@ -43,11 +45,13 @@ named_kept ds names k h = λ q s. kept names k q (h q s)
 pub none_named : (names : Names) → Named no_definitions names
 none_named names = λ q s. absurd (cc)
 
-entered_at : (b : Bool) (ds : Definitions) (names : Names) (n q : ℕ) (d : Option Definition) → Named ds names → set.contains names n ≡ true → eqb q n ≡ b → is_some (if b then d else ds q) ≡ true → set.contains names q ≡ true
+entered_at : (b : Bool) (ds : Definitions) (names : Names) (n q : ℕ) (d : Option Definition) → Named ds names
+    → set.contains names n ≡ true → eqb q n ≡ b → is_some (if b then d else ds q) ≡ true → set.contains names q ≡ true
 entered_at true ds names n q d h e p s = ap (set.contains names) (eqb-true q n p) ∙ e
 entered_at false ds names n q d h e p s = h q s
 
-pub entered_named : (ds : Definitions) (names : Names) (n : ℕ) (d : Option Definition) → Named ds names → set.contains names n ≡ true → Named (with_definition n d ds) names
+pub entered_named : (ds : Definitions) (names : Names) (n : ℕ) (d : Option Definition) → Named ds names
+    → set.contains names n ≡ true → Named (with_definition n d ds) names
 entered_named ds names n d h e = λ q s. entered_at (eqb q n) ds names n q d h e refl s
 
 without_at : (b : Bool) (x : Option Definition) → is_some (if b then None else x) ≡ true → is_some x ≡ true

@@ -1,5 +1,6 @@
 -- Symbols that are different.
-use Rattle.std.proofs.Common.{◌≡◌, ℕ, List, [], ◌∷◌, ◌++◌, Bool, true, false, eqb, ◌+◌, ◌<◌, get_or, drop, length, refl, sym, ap, ◌∙◌}
+use Rattle.std.proofs.Common.{◌≡◌, ℕ, List, [], ◌∷◌, ◌++◌, Bool, true, false, eqb, ◌+◌, ◌<◌, get_or, drop, length, refl}
+use Rattle.std.proofs.Common.{sym, ap, ◌∙◌}
 use Rattle.std.specs.Prelude.{not, ◌&&◌, ◌||◌}
 use Rattle.std.specs.Str.{bytes_eq}
 use Rattle.xf_ir.specs.Lists.{same_bytes, is_text_among, texts_once}
@@ -25,28 +26,29 @@ bytes_is (x ∷ s) (y ∷ t) = ap (λ b. eqb x y && b) (bytes_is s t)
 pub same_symbols : (f g : Symbols) → ((s : List ℕ) → f s ≡ g s) → f ≡ g
 same_symbols f g h = λ i s. h s i
 
-pub new_both : (seen : Symbols) (ss ts : List (List ℕ)) → new_symbols seen (ss ++ ts) ≡ (new_symbols seen ss && new_symbols (with_symbols ss seen) ts)
+pub new_both : (seen : Symbols) (ss ts : List (List ℕ))
+    → new_symbols seen (ss ++ ts) ≡ (new_symbols seen ss && new_symbols (with_symbols ss seen) ts)
 new_both seen [] ts = refl
-new_both seen (s ∷ ss) ts = at_first (not (seen s)) (new_symbols (with_symbol s seen) ss) (new_symbols (with_symbols ss (with_symbol s seen)) ts) _ (new_both (with_symbol s seen) ss ts)
+new_both seen (s ∷ ss) ts = at_first (not (seen s)) (new_symbols (with_symbol s seen) ss)
+    (new_symbols (with_symbols ss (with_symbol s seen)) ts) _ (new_both (with_symbol s seen) ss ts)
   where
     at_first : (b d e c : Bool) → c ≡ (d && e) → (b && c) ≡ ((b && d) && e)
     at_first true d e c h = h
     at_first false d e c h = refl
-
-pub with_both : (ss ts : List (List ℕ)) (seen : Symbols) → with_symbols (ss ++ ts) seen ≡ with_symbols ts (with_symbols ss seen)
-with_both [] ts seen = refl
-with_both (s ∷ ss) ts seen = with_both ss ts (with_symbol s seen)
 
 -- whether none of the symbols is there
 abbrev none_there : Symbols → List (List ℕ) → Bool
 none_there seen [] = true
 none_there seen (s ∷ ss) = not (seen s) && none_there seen ss
 
-none_with : (s : List ℕ) (seen : Symbols) (ss : List (List ℕ)) → none_there (with_symbol s seen) ss ≡ (none_there seen ss && not (is_text_among s ss))
+none_with : (s : List ℕ) (seen : Symbols) (ss : List (List ℕ))
+    → none_there (with_symbol s seen) ss ≡ (none_there seen ss && not (is_text_among s ss))
 none_with s seen [] = refl
-none_with s seen (t ∷ ss) = regroup (same_bytes t s) (bytes_eq s t) (bytes_same s t) (seen t) (none_there seen ss) (is_text_among s ss) _ (none_with s seen ss)
+none_with s seen (t ∷ ss) = regroup (same_bytes t s) (bytes_eq s t) (bytes_same s t) (seen t) (none_there seen ss)
+    (is_text_among s ss) _ (none_with s seen ss)
   where
-    regroup : (a b : Bool) → b ≡ a → (c d e x : Bool) → x ≡ (d && not e) → (not (b || c) && x) ≡ ((not c && d) && not (a || e))
+    regroup : (a b : Bool) → b ≡ a → (c d e x : Bool) → x ≡ (d && not e)
+        → (not (b || c) && x) ≡ ((not c && d) && not (a || e))
     regroup true true p true d e x h = refl
     regroup true true p false true e x h = refl
     regroup true true p false false e x h = refl
@@ -57,7 +59,9 @@ none_with s seen (t ∷ ss) = regroup (same_bytes t s) (bytes_eq s t) (bytes_sam
 
 apart_is : (seen : Symbols) (ss : List (List ℕ)) → new_symbols seen ss ≡ (none_there seen ss && texts_once ss)
 apart_is seen [] = refl
-apart_is seen (s ∷ ss) = regroup (not (seen s)) (none_there seen ss) (is_text_among s ss) (texts_once ss) _ (apart_is (with_symbol s seen) ss ∙ ap (λ b. b && texts_once ss) (none_with s seen ss))
+apart_is seen (s ∷ ss) =
+    regroup (not (seen s)) (none_there seen ss) (is_text_among s ss) (texts_once ss) _ (apart_is (with_symbol s seen) ss
+    ∙ ap (λ b. b && texts_once ss) (none_with s seen ss))
   where
     regroup : (b c d e x : Bool) → x ≡ ((c && not d) && e) → (b && x) ≡ ((b && c) && (not d && e))
     regroup true true d e x h = h
@@ -72,8 +76,10 @@ new_once ss = apart_is no_symbols ss ∙ ap (λ b. b && texts_once ss) (all_new 
     all_new (s ∷ ss) = all_new ss
 
 -- the symbols of one block, and of the others
-pub blocks_on : (bs : List Body) (i : ℕ) (b : Body) → b ≡ get_or bs i b → i < length bs → (seen : Symbols) (os : Ops) → os ≡ b.ops →
-    new_symbols seen (symbols_in (regions_of (drop i bs))) ≡ (new_symbols seen (symbols_of os) && new_symbols (with_symbols (symbols_of os) seen) (symbols_in (regions_of (drop (i + 1) bs))))
+pub blocks_on : (bs : List Body) (i : ℕ) (b : Body) → b ≡ get_or bs i b → i < length bs → (seen : Symbols) (os : Ops)
+    → os ≡ b.ops →
+    new_symbols seen (symbols_in (regions_of (drop i bs))) ≡ (new_symbols seen (symbols_of os)
+    && new_symbols (with_symbols (symbols_of os) seen) (symbols_in (regions_of (drop (i + 1) bs))))
 blocks_on bs i b is lt seen os e =
     at_drop_more (λ xs. new_symbols seen (symbols_in (regions_of xs))) bs i b lt
     ∙ ap (λ x. new_symbols seen (symbols_in (regions_of (x ∷ drop (i + 1) bs)))) (sym is)

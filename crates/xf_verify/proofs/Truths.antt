@@ -6,7 +6,10 @@ use Rattle.std.proofs.lemmas.Bool.{cases_Bool, eqb-true, eq-eqb}
 pub eqb_sym : (a b : ℕ) → eqb a b ≡ eqb b a
 eqb_sym a b = elim (cases_Bool (eqb a b)) [
   | inl t ↦ (let e = eqb-true a b t in let o = eq-eqb b a (sym e) in cc)
-  | inr f ↦ elim (cases_Bool (eqb b a)) [ inl t ↦ (let e = eqb-true b a t in let o = eq-eqb a b (sym e) in cc) | inr g ↦ cc ]
+  | inr f ↦ elim (cases_Bool (eqb b a)) [
+    | inl t ↦ (let e = eqb-true b a t in let o = eq-eqb a b (sym e) in cc)
+    | inr g ↦ cc
+  ]
 ]
 
 pub is_none_from : {A : Type 0} (o : Option A) → (is_some o ≡ true → false ≡ true) → o ≡ None

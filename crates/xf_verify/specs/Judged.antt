@@ -1,6 +1,7 @@
--- What the walk over the operations judges: each where it stands, by the types of the values that are visible there and by the set
--- of the names before it.
-use Rattle.std.specs.Prelude.{◌≡◌, ℕ, ◌+◌, List, [], ◌∷◌, ◌++◌, length, map, Option, Some, None, Bool, true, not, ◌&&◌, nat_lt, is_some}
+-- What the walk over the operations judges: each where it stands, by the types of the values that are visible there and
+-- by the set of the names before it.
+use Rattle.std.specs.Prelude.{◌≡◌, ℕ, ◌+◌, List, [], ◌∷◌, ◌++◌, length, map, Option, Some, None, Bool, true, not, ◌&&◌}
+use Rattle.std.specs.Prelude.{nat_lt, is_some}
 use Rattle.std.specs.Ordering.{nat_cmp}
 use Rattle.std.specs.FinSet as set
 use Rattle.xf_type.specs.declared.payload_type.PayloadType.{PayloadType}
@@ -48,20 +49,25 @@ abbrev mutual
   ops_stand h see no_ops = []
   ops_stand h see (op n k ds os ts rs rest) =
       stands h see (record { name = n; kind = k; attrs = ds; operands = os; results = ts; regions = rs }) rest
-      ∷ (regions_stand (holder_of k (map see os) ts) see n 0 rs ++ ops_stand h (sees_with (results_of n (length ts)) ts see) rest)
+      ∷ (regions_stand (holder_of k (map see os) ts) see n 0 rs
+      ++ ops_stand h (sees_with (results_of n (length ts)) ts see) rest)
 
   pub regions_stand : Holder → Sees → OpName → ℕ → Regions → List Placed
   regions_stand h see n i no_regions = []
-  regions_stand h see n i (region args ops rest) = ops_stand h (sees_with (args_of n i (length args)) args see) ops ++ regions_stand h see n (i + 1) rest
+  regions_stand h see n i (region args ops rest) =
+      ops_stand h (sees_with (args_of n i (length args)) args see) ops ++ regions_stand h see n (i + 1) rest
 
 -- an operation, and what it holds
 abbrev pub tree_stands : Holder → Sees → Tree → Ops → List Placed
-tree_stands h see t after = stands h see t after ∷ regions_stand (holder_of t.kind (map see t.operands) t.results) see t.name 0 t.regions
+tree_stands h see t after =
+    stands h see t after ∷ regions_stand (holder_of t.kind (map see t.operands) t.results) see t.name 0 t.regions
 
 -- functions, each of which sees its own values alone
 abbrev pub functions_stand : Holder → Sees → Ops → List Placed
 functions_stand h see no_ops = []
-functions_stand h see (op n k ds os ts rs rest) = tree_stands h see (record { name = n; kind = k; attrs = ds; operands = os; results = ts; regions = rs }) rest ++ functions_stand h see rest
+functions_stand h see (op n k ds os ts rs rest) =
+    tree_stands h see (record { name = n; kind = k; attrs = ds; operands = os; results = ts; regions = rs }) rest
+    ++ functions_stand h see rest
 
 abbrev pub blocks_stand : Holder → Sees → Regions → List Placed
 blocks_stand h see no_regions = []
@@ -118,7 +124,8 @@ rules_behind f names p = (rule.Names, is_new f names p.tree.name) ∷ ((rule.Fun
 
 abbrev pub first_behind : Facts → Names → List Placed → Option Violation
 first_behind f names [] = None
-first_behind f names (p ∷ ps) = broken_or (first_false (rules_behind f names p)) p.tree.name (first_behind f (set.insert names p.tree.name.0) ps)
+first_behind f names (p ∷ ps) =
+    broken_or (first_false (rules_behind f names p)) p.tree.name (first_behind f (set.insert names p.tree.name.0) ps)
 
 -- the names before what stands behind these operations
 abbrev pub names_behind : Names → List Placed → Names
@@ -131,7 +138,12 @@ abbrev pub holder_seen : HolderSeen → Holder
 holder_seen h = record { kind = h.kind.now; gives = gives_seen h.gives }
 
 abbrev pub stand_seen : Stand → Placed
-stand_seen s = record { holder = holder_seen s.holder; types = operand_types s.types.now; tree = s.op.now; after = ops_of s.after.now }
+stand_seen s = record {
+  holder = holder_seen s.holder;
+  types = operand_types s.types.now;
+  tree = s.op.now;
+  after = ops_of s.after.now;
+}
 
 -- each operation whose values are visible was named
 pub record IsNamed (w : Walk) : Type 0 where

@@ -4,7 +4,8 @@ ghost use Rattle.std.specs.Option.{option_copied};
 ghost use Rattle.xf_ir.specs.Calls.{signatures, callee_before, callee_ends, regions_callees, chains_end};
 ghost use Rattle.xf_ir.specs.Lists.{every};
 ghost use Rattle.xf_ir.specs.Placed.{functions_of};
-ghost use Rattle.xf_verify.specs.Chains.{no_numbers, numbers_in, with_number, number_from, pick, numbers_called, tree_calls, ends_at, ends_after, signatures_in, ends_in};
+ghost use Rattle.xf_verify.specs.Chains.{no_numbers, numbers_in, with_number, number_from, pick, numbers_called};
+ghost use Rattle.xf_verify.specs.Chains.{tree_calls, ends_at, ends_after, signatures_in, ends_in};
 ghost use Rattle.xf_rules.specs.Given.{callee_of, callee_seen};
 
 use crate::functions::functions_of;
@@ -64,7 +65,8 @@ fn add_call(
     kind: &Kind,
     callees: &mut CalleeList,
 ) -> Result<(), NoMemory>
-    ensures { OnOk result (callees.new ≡ callees.old ++ numbers_called (numbers_in numbers.now) (callee_before kind.now [])) }
+    ensures { OnOk result (callees.new
+        ≡ callees.old ++ numbers_called (numbers_in numbers.now) (callee_before kind.now [])) }
 {
     if let Kind::Call { callee } = kind {
         if let Some(number) = numbers.get(callee.as_slice()) {
@@ -80,7 +82,8 @@ fn add_calls(
     op: &Op,
     callees: &mut CalleeList,
 ) -> Result<(), NoMemory>
-    ensures { OnOk result (callees.new ≡ callees.old ++ numbers_called (numbers_in numbers.now) (regions_callees op.now.regions)) }
+    ensures { OnOk result (callees.new
+        ≡ callees.old ++ numbers_called (numbers_in numbers.now) (regions_callees op.now.regions)) }
 {
     for block in &op.regions {
         for inner in &block.ops {

@@ -78,7 +78,8 @@ fn hold_functions(blocks: &[Block]) -> bool
 /// Adds the symbol of a function, and tells whether it was not there before.
 fn add_symbol<'a>(symbols: &mut BTreeSet<&'a [u8]>, kind: &'a Kind) -> Result<bool, NoMemory>
     ensures new { IfOk result (λ new. new ≡ new_symbols (symbols_seen symbols.old) (symbols_before kind.now [])) }
-    ensures symbols { OnOk result (symbols_seen symbols.new ≡ with_symbols (symbols_before kind.now []) (symbols_seen symbols.old)) }
+    ensures symbols { OnOk result (symbols_seen symbols.new
+        ≡ with_symbols (symbols_before kind.now []) (symbols_seen symbols.old)) }
 {
     match kind {
         Kind::Func { symbol, .. } => Ok(symbols.insert(symbol.as_slice())?),
@@ -89,7 +90,8 @@ fn add_symbol<'a>(symbols: &mut BTreeSet<&'a [u8]>, kind: &'a Kind) -> Result<bo
 /// Adds the symbols of functions, and tells whether none of them was there before.
 fn add_symbols<'a>(symbols: &mut BTreeSet<&'a [u8]>, ops: &'a [Op]) -> Result<bool, NoMemory>
     ensures new { IfOk result (λ new. new ≡ new_symbols (symbols_seen symbols.old) (symbols_of (ops_of ops.now))) }
-    ensures symbols { IfOk result (λ new. new ≡ true → symbols_seen symbols.new ≡ with_symbols (symbols_of (ops_of ops.now)) (symbols_seen symbols.old)) }
+    ensures symbols { IfOk result (λ new. new ≡ true
+        → symbols_seen symbols.new ≡ with_symbols (symbols_of (ops_of ops.now)) (symbols_seen symbols.old)) }
 {
     for op in ops {
         if !add_symbol(symbols, &op.kind)? {

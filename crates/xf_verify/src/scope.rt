@@ -1,7 +1,8 @@
 //! The values that are visible where an operation stands, with their types.
 ghost use Rattle.std.specs.Prelude.{◌≡◌, ◌++◌, ◌∷◌, [], Some, None, map, IfOk, OnOk};
 ghost use Rattle.std.specs.Option.{option_copied};
-ghost use Rattle.xf_verify.specs.Visible.{definitions_in, no_definitions, with_definition, without, result_type, argument_type, types_in};
+ghost use Rattle.xf_verify.specs.Visible.{definitions_in, no_definitions, with_definition, without, result_type};
+ghost use Rattle.xf_verify.specs.Visible.{argument_type, types_in};
 ghost use Rattle.xf_rules.specs.OperandTypes.{operand_types};
 
 use std::alloc::Global;
@@ -39,7 +40,8 @@ impl<'a> VisibleValues<'a> {
     ///
     /// Refuses for want of memory alone.
     pub fn enter(&mut self, name: OpName, definition: Definition<'a>) -> Result<(), NoMemory>
-        ensures { OnOk result (definitions_in self.new ≡ with_definition name.0 (Some definition.entry) (definitions_in self.old)) }
+        ensures { OnOk result (definitions_in self.new
+            ≡ with_definition name.0 (Some definition.entry) (definitions_in self.old)) }
     {
         self.definitions.insert(name.0, definition)?;
         Ok(())

@@ -3,7 +3,8 @@ ghost use Rattle.std.specs.Prelude.{◌≡◌, ◌<◌, ◌+◌, length, drop, �
 ghost use Rattle.std.specs.FinSet as set;
 ghost use Rattle.xf_ir.specs.Placed.{holder_of};
 ghost use Rattle.xf_ir.specs.View.{ops_of, regions_of};
-ghost use Rattle.xf_verify.specs.Judged.{Answers, IsNamed, Judged, first_behind, stands, tree_stands, ops_stand, regions_stand, functions_stand, blocks_stand, holder_seen, stand_seen};
+ghost use Rattle.xf_verify.specs.Judged.{Answers, IsNamed, Judged, first_behind, stands, tree_stands, ops_stand};
+ghost use Rattle.xf_verify.specs.Judged.{regions_stand, functions_stand, blocks_stand, holder_seen, stand_seen};
 ghost use Rattle.xf_verify.specs.Visible.{definitions_in, types_in};
 
 use crate::facts::Facts;
@@ -67,8 +68,10 @@ pub fn enter<'a>(
     op: &'a Op,
     after: &'a [Op],
 ) -> Result<Holder<'a>, VerifyFault>
-    ensures judged { Answers result (first_behind facts.now walk.old.names (stands (holder_seen holder.entry) (types_in walk.old.scope) op.now (ops_of after.now) ∷ [])) }
-    ensures holder { IfOk result (λ inner. holder_seen inner ≡ holder_of op.now.kind (map (types_in walk.old.scope) op.now.operands) op.now.results) }
+    ensures judged { Answers result (first_behind facts.now walk.old.names
+        (stands (holder_seen holder.entry) (types_in walk.old.scope) op.now (ops_of after.now) ∷ [])) }
+    ensures holder { IfOk result (λ inner. holder_seen inner
+        ≡ holder_of op.now.kind (map (types_in walk.old.scope) op.now.operands) op.now.results) }
     ensures names { OnOk result (walk.new.names ≡ set.insert walk.old.names op.now.name.0) }
     ensures scope { OnOk result (definitions_in walk.new.scope ≡ definitions_in walk.old.scope) }
     ensures new { OnOk result (set.contains walk.old.names op.now.name.0 ≡ false) }
@@ -95,8 +98,10 @@ fn operation<'a>(
     after: &'a [Op],
 ) -> Result<(), VerifyFault>
     requires { IsNamed walk.old }
-    ensures judged { Answers result (first_behind facts.now walk.old.names (tree_stands (holder_seen holder.entry) (types_in walk.old.scope) op.now (ops_of after.now))) }
-    ensures moved { OnOk result (Judged walk.old walk.new (tree_stands (holder_seen holder.entry) (types_in walk.old.scope) op.now (ops_of after.now))) }
+    ensures judged { Answers result (first_behind facts.now walk.old.names
+        (tree_stands (holder_seen holder.entry) (types_in walk.old.scope) op.now (ops_of after.now))) }
+    ensures moved { OnOk result (Judged walk.old walk.new
+        (tree_stands (holder_seen holder.entry) (types_in walk.old.scope) op.now (ops_of after.now))) }
     ensures new { OnOk result (set.contains walk.old.names op.now.name.0 ≡ false) }
 {
     let inner = enter(alloc, facts, walk, holder, op, after)?;
@@ -113,8 +118,10 @@ fn operations<'a>(
     ops: &'a [Op],
 ) -> Result<(), VerifyFault>
     requires { IsNamed walk.old }
-    ensures judged { Answers result (first_behind facts.now walk.old.names (ops_stand (holder_seen holder.entry) (types_in walk.old.scope) (ops_of ops.now))) }
-    ensures moved { OnOk result (Judged walk.old walk.new (ops_stand (holder_seen holder.entry) (types_in walk.old.scope) (ops_of ops.now))) }
+    ensures judged { Answers result (first_behind facts.now walk.old.names
+        (ops_stand (holder_seen holder.entry) (types_in walk.old.scope) (ops_of ops.now))) }
+    ensures moved { OnOk result
+        (Judged walk.old walk.new (ops_stand (holder_seen holder.entry) (types_in walk.old.scope) (ops_of ops.now))) }
 {
     for (number, op) in ops.iter().enumerate() {
         operation(alloc, facts, walk, holder, op, behind(ops, number))?;
@@ -137,8 +144,10 @@ fn regions<'a>(
     requires named { IsNamed walk.old }
     requires here { set.contains walk.old.names op.now.name.0 ≡ true }
     requires new { definitions_in walk.old.scope op.now.name.0 ≡ None }
-    ensures judged { Answers result (first_behind facts.now walk.old.names (regions_stand (holder_seen holder.entry) (types_in walk.old.scope) op.now.name 0 op.now.regions)) }
-    ensures moved { OnOk result (Judged walk.old walk.new (regions_stand (holder_seen holder.entry) (types_in walk.old.scope) op.now.name 0 op.now.regions)) }
+    ensures judged { Answers result (first_behind facts.now walk.old.names
+        (regions_stand (holder_seen holder.entry) (types_in walk.old.scope) op.now.name 0 op.now.regions)) }
+    ensures moved { OnOk result (Judged walk.old walk.new
+        (regions_stand (holder_seen holder.entry) (types_in walk.old.scope) op.now.name 0 op.now.regions)) }
 {
     for (number, block) in op.regions.iter().enumerate() {
         let arguments = Definition::Arguments(number, block.args.as_slice());
@@ -158,8 +167,10 @@ fn functions<'a>(
     ops: &'a [Op],
 ) -> Result<(), VerifyFault>
     requires { IsNamed walk.old }
-    ensures judged { Answers result (first_behind facts.now walk.old.names (functions_stand (holder_seen holder.entry) (types_in walk.old.scope) (ops_of ops.now))) }
-    ensures moved { OnOk result (Judged walk.old walk.new (functions_stand (holder_seen holder.entry) (types_in walk.old.scope) (ops_of ops.now))) }
+    ensures judged { Answers result (first_behind facts.now walk.old.names
+        (functions_stand (holder_seen holder.entry) (types_in walk.old.scope) (ops_of ops.now))) }
+    ensures moved { OnOk result (Judged walk.old walk.new
+        (functions_stand (holder_seen holder.entry) (types_in walk.old.scope) (ops_of ops.now))) }
 {
     for (number, op) in ops.iter().enumerate() {
         operation(alloc, facts, walk, holder, op, behind(ops, number))?;
@@ -176,7 +187,8 @@ pub fn blocks<'a>(
     root: &'a Op,
 ) -> Result<(), VerifyFault>
     requires { IsNamed walk.old }
-    ensures { Answers result (first_behind facts.now walk.old.names (blocks_stand (holder_seen holder.entry) (types_in walk.old.scope) root.now.regions)) }
+    ensures { Answers result (first_behind facts.now walk.old.names
+        (blocks_stand (holder_seen holder.entry) (types_in walk.old.scope) root.now.regions)) }
 {
     for block in &root.regions {
         functions(alloc, facts, walk, holder, &block.ops)?;

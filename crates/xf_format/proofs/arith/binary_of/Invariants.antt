@@ -7,4 +7,5 @@ use Rattle.xf_format.proofs.arith.binary_of.Given as goal
 
 -- the word is none of those before
 abbrev pub invariant-loop-kind : goal.invariant-loop-kind
-invariant-loop-kind l = lookup (map (λ k. (binary_spelling k, row.Binary k)) (drop l.kind-index l.all)) l.word ≡ lookup binaries l.word
+invariant-loop-kind l = lookup (map (λ k. (binary_spelling k, row.Binary k)) (drop l.kind-index l.all)) l.word ≡ lookup
+    binaries l.word

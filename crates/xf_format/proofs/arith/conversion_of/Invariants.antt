@@ -7,4 +7,5 @@ use Rattle.xf_format.proofs.arith.conversion_of.Given as goal
 
 -- the word is none of those before
 abbrev pub invariant-loop-kind : goal.invariant-loop-kind
-invariant-loop-kind l = lookup (map (λ k. (conversion_spelling k, row.Convert k)) (drop l.kind-index l.all)) l.word ≡ lookup conversions l.word
+invariant-loop-kind l = lookup (map (λ k. (conversion_spelling k, row.Convert k)) (drop l.kind-index l.all))
+    l.word ≡ lookup conversions l.word

@@ -8,7 +8,8 @@ returns-in-Some c = found_here singles (binaries ++ conversions) c.args.word.now
 
 pub returns-in-Some-binary_of : goal.returns-in-Some-binary_of
 returns-in-Some-binary_of c =
-    found_there singles (binaries ++ conversions) c.args.word.now _ c.in_default.ensures (found_here binaries conversions c.args.word.now _ c.in-Some-binary_of.ensures)
+    found_there singles (binaries ++ conversions) c.args.word.now _ c.in_default.ensures
+    (found_here binaries conversions c.args.word.now _ c.in-Some-binary_of.ensures)
 
 pub returns : goal.returns
 returns c =

@@ -12,13 +12,15 @@ use Rattle.xf_format.proofs.Leaving.{slots_keep_row}
 use Rattle.xf_format.proofs.heads.head_at.Goals as goal
 
 -- the word of an operation, and what the slots of its row read behind it
-word_and_slots : (all : List Token) (l : Level) (at m n : ℕ) (p q : Parts) → by (head_rule l) all (no_parts row.Module) at ≡ Ok (free p, m) → by (slots_rule (slots p.row)) all p m ≡ Ok (free q, n)
-    → payload_head_at all l at ≡ Ok ((q.row, free q), n)
+word_and_slots : (all : List Token) (l : Level) (at m n : ℕ) (p q : Parts)
+    → by (head_rule l) all (no_parts row.Module) at ≡ Ok (free p, m)
+    → by (slots_rule (slots p.row)) all p m ≡ Ok (free q, n) → payload_head_at all l at ≡ Ok ((q.row, free q), n)
 word_and_slots all l at m n p q e f =
     let s = slots_keep_row all (slots p.row) (length all) (free p) (free q) m n f in
     rw (e, f, s) refl
 
 pub returns-clause-gives : goal.returns-clause-gives
 returns-clause-gives c =
-    word_and_slots c.args.tokens.now c.args.level c.args.at c.in_ok-next.next c.in_ok-next-2.next c.begin_at.new.parts c.slots_at.new.parts
-    (rw (sym c.new-parts.ensures) c.in_ok-next.ensures.gives) (rw (sym c.row_slots-slots.ensures) c.in_ok-next-2.ensures.gives)
+    word_and_slots c.args.tokens.now c.args.level c.args.at c.in_ok-next.next c.in_ok-next-2.next c.begin_at.new.parts
+    c.slots_at.new.parts (rw (sym c.new-parts.ensures) c.in_ok-next.ensures.gives)
+    (rw (sym c.row_slots-slots.ensures) c.in_ok-next-2.ensures.gives)

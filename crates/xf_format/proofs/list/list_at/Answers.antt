@@ -15,8 +15,11 @@ list-init c = record {
 pub list-preserved : goal.list-preserved
 list-preserved c =
     let e = sym c.looks.ensures.value ∙ c.list-test.true in
-    let t = list_turn c.list.invariant.rest.0 c.args.tokens.now (read language (length c.args.tokens.now) (item_rule c.args.item) c.args.tokens.now) (free c.list.parts) (free c.item_at-in-list.new.parts) c.list.at c.in_ok-at-2.at
-    c.list.invariant.rest.1 (c.looks.ensures.within c.list-test.true) e c.in_ok-at-2.ensures.gives c.in_ok-at-2.ensures.within.0 in
+    let t = list_turn c.list.invariant.rest.0 c.args.tokens.now
+    (read language (length c.args.tokens.now) (item_rule c.args.item) c.args.tokens.now) (free c.list.parts)
+    (free c.item_at-in-list.new.parts) c.list.at c.in_ok-at-2.at
+    c.list.invariant.rest.1 (c.looks.ensures.within c.list-test.true) e c.in_ok-at-2.ensures.gives
+    c.in_ok-at-2.ensures.within.0 in
     record {
       rest = (t.0, t.1.0, t.1.1 ∙ c.list.invariant.rest.2);
       begin = omega (arith, c.list.invariant.begin, c.in_ok-at-2.ensures.within.0);

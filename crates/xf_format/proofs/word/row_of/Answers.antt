@@ -9,20 +9,23 @@ use Rattle.xf_format.proofs.word.row_of.Goals as goal
 
 pub returns-in-Some-row_of-2 : goal.returns-in-Some-row_of-2
 returns-in-Some-row_of-2 c =
-    found_there builtin.words (func.words ++ (arith.words ++ (scf.words ++ linalg.words))) c.args.word.now _ c.in_default.ensures
+    found_there builtin.words (func.words ++ (arith.words ++ (scf.words ++ linalg.words))) c.args.word.now _
+    c.in_default.ensures
     (found_there func.words (arith.words ++ (scf.words ++ linalg.words)) c.args.word.now _ c.in_default-row_of.ensures
     (found_here arith.words (scf.words ++ linalg.words) c.args.word.now _ c.in-Some-row_of-2.ensures))
 
 pub returns-in-Some-row_of-3 : goal.returns-in-Some-row_of-3
 returns-in-Some-row_of-3 c =
-    found_there builtin.words (func.words ++ (arith.words ++ (scf.words ++ linalg.words))) c.args.word.now _ c.in_default.ensures
+    found_there builtin.words (func.words ++ (arith.words ++ (scf.words ++ linalg.words))) c.args.word.now _
+    c.in_default.ensures
     (found_there func.words (arith.words ++ (scf.words ++ linalg.words)) c.args.word.now _ c.in_default-row_of.ensures
     (found_there arith.words (scf.words ++ linalg.words) c.args.word.now _ c.in_default-row_of-2.ensures
     (found_here scf.words linalg.words c.args.word.now _ c.in-Some-row_of-3.ensures)))
 
 pub returns : goal.returns
 returns c =
-    found_there builtin.words (func.words ++ (arith.words ++ (scf.words ++ linalg.words))) c.args.word.now _ c.in_default.ensures
+    found_there builtin.words (func.words ++ (arith.words ++ (scf.words ++ linalg.words))) c.args.word.now _
+    c.in_default.ensures
     (found_there func.words (arith.words ++ (scf.words ++ linalg.words)) c.args.word.now _ c.in_default-row_of.ensures
     (found_there arith.words (scf.words ++ linalg.words) c.args.word.now _ c.in_default-row_of-2.ensures
     (found_there scf.words linalg.words c.args.word.now _ c.in_default-row_of-3.ensures c.row_of-5.ensures)))

@@ -10,7 +10,8 @@ pub block_with_attr-returns : goal.block_with_attr-returns
 block_with_attr-returns t c =
     let g = attr_set c.args.key.now c.args.value.now in
     let f = tree_attributed c.args.name g in
-    let e : c.loop-op.ops.items ≡ map f c.block.inside.ops.items = c.loop-op.invariant ∙ ap (map f) (take_all _ _ (omega arith) ∙ c.deref-op-items.ensures.value) in
+    let e : c.loop-op.ops.items ≡ map f c.block.inside.ops.items = c.loop-op.invariant
+    ∙ ap (map f) (take_all _ _ (omega arith) ∙ c.deref-op-items.ensures.value) in
     let d = c.in_ok-duplicate.ensures in
     rw (← c.block.view_is, e, ops_of-attributed, d) refl
 
@@ -18,7 +19,8 @@ pub with_attr-returns : goal.with_attr-returns
 with_attr-returns t c =
     let g = attr_set c.args.key.now c.args.value.now in
     let f = body_attributed c.args.name g in
-    let e : c.loop-block.regions.items ≡ map f c.op.inside.regions.items = c.loop-block.invariant ∙ ap (map f) (take_all _ _ (omega arith) ∙ c.deref-block-items.ensures.value) in
+    let e : c.loop-block.regions.items ≡ map f c.op.inside.regions.items = c.loop-block.invariant
+    ∙ ap (map f) (take_all _ _ (omega arith) ∙ c.deref-block-items.ensures.value) in
     let a = c.in_ok-duplicate.ensures in
     let b = c.in_ok-duplicate-2.ensures in
     let d = rw (← c.op.view_is) at c.in_ok-changed_attrs.ensures in

@@ -8,5 +8,7 @@ pub returns : goal.returns
 returns c =
     let d = c.args.attr in
     let ds = c.args.attrs.now in
-    let e : c.names_before-at.result ≡ names_before d.name ds = rw (c.as_slice.ensures, c.as_slice-2.ensures) at c.names_before-at.ensures in
-    subst (λ xs. OnOk c.insert.result (c.insert.new.self ≡ xs)) (ap (λ i. insert ds i d) e ∙ insert_placed d ds) c.insert.ensures.ok
+    let e : c.names_before-at.result ≡ names_before d.name ds =
+    rw (c.as_slice.ensures, c.as_slice-2.ensures) at c.names_before-at.ensures in
+    subst (λ xs. OnOk c.insert.result (c.insert.new.self ≡ xs)) (ap (λ i. insert ds i d) e
+    ∙ insert_placed d ds) c.insert.ensures.ok

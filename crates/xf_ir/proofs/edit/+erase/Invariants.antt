@@ -15,7 +15,8 @@ abbrev pub decreases-erase_in_regions : goal.decreases-erase_in_regions
 decreases-erase_in_regions l = 2 * regions_size (regions_of l.regions.now.items)
 
 abbrev pub invariant-erase_in_regions-loop-i : goal.invariant-erase_in_regions-loop-i
-invariant-erase_in_regions-loop-i l = l.regions.items ≡ map (body_erased l.name) (take l.i l.initial.regions.items) ++ drop l.i l.initial.regions.items
+invariant-erase_in_regions-loop-i l =
+    l.regions.items ≡ map (body_erased l.name) (take l.i l.initial.regions.items) ++ drop l.i l.initial.regions.items
 
 abbrev pub invariant-erase_in_block-loop-i : goal.invariant-erase_in_block-loop-i
 invariant-erase_in_block-loop-i l = record {

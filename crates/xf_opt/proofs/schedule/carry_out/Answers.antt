@@ -13,16 +13,19 @@ pub returns-in-Ok-print-clause-text : goal.returns-in-Ok-print-clause-text
 returns-in-Ok-print-clause-text g c = λ s p.
     wrote_all (run s p) _ c.erase_dead.new.journal _ _
     (whole_is c.args.payload.now s p c.erase_dead.new.journal c.in-Ok.module c.erase_dead.new.m _ _ c.in-Ok.ensures.ok
-    c.in-Ok-erase_dead.ensures.runs c.in-Ok-erase_dead.ensures.few c.in-Ok-erase_dead.ensures.keeps c.in-Ok-erase_dead.ensures.form c.in-Ok-print.ensures.text)
+    c.in-Ok-erase_dead.ensures.runs c.in-Ok-erase_dead.ensures.few c.in-Ok-erase_dead.ensures.keeps
+    c.in-Ok-erase_dead.ensures.form c.in-Ok-print.ensures.text)
 
 pub returns-in-Err-Failed-clause-text : goal.returns-in-Err-Failed-clause-text
 returns-in-Err-Failed-clause-text g c = λ s p.
     wrote_prefix (run s p) _ c.erase_dead.new.journal _ _
     (prefix_is c.args.payload.now s p c.erase_dead.new.journal c.in-Ok.module c.erase_dead.new.m _ _ c.in-Ok.ensures.ok
-    c.in-Ok-erase_dead.ensures.runs c.in-Ok-erase_dead.ensures.few c.in-Ok-erase_dead.ensures.keeps c.in-Ok-erase_dead.ensures.form c.in-Err-Failed.ensures.text)
+    c.in-Ok-erase_dead.ensures.runs c.in-Ok-erase_dead.ensures.few c.in-Ok-erase_dead.ensures.keeps
+    c.in-Ok-erase_dead.ensures.form c.in-Err-Failed.ensures.text)
 
 pub returns-clause-text : goal.returns-clause-text
 returns-clause-text g c = λ s p.
     wrote_some (run s p) _ c.erase_dead.new.journal _ _
     (prefix_is c.args.payload.now s p c.erase_dead.new.journal c.in-Ok.module c.erase_dead.new.m _ _ c.in-Ok.ensures.ok
-    c.in-Ok-erase_dead.ensures.runs c.in-Ok-erase_dead.ensures.few c.in-Ok-erase_dead.ensures.keeps c.in-Ok-erase_dead.ensures.form c.in-Err-NoMemory-print.ensures.text)
+    c.in-Ok-erase_dead.ensures.runs c.in-Ok-erase_dead.ensures.few c.in-Ok-erase_dead.ensures.keeps
+    c.in-Ok-erase_dead.ensures.form c.in-Err-NoMemory-print.ensures.text)

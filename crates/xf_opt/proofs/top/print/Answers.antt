@@ -15,12 +15,16 @@ returns-clause-reads g c = none_failed _ _ _ c.print_payload.result c.print_payl
 
 pub returns-clause-payload : goal.returns-clause-payload
 returns-clause-payload g c =
-    payload_told _ c.in-Ok.bytes.items (end_of c.print_payload.result) (fault_in c.print_payload.result) _ _ (print c.args.payload.now) c.in-Ok.ensures.bytes
-    (subst (λ (b : List ℕ). JudgesPayload (end_of c.print_payload.result) (fault_in c.print_payload.result) (g.S.Sink.written c.args.out.now) (g.S.Sink.written c.print_payload.new.out) (print c.args.payload.now) b)
+    payload_told _ c.in-Ok.bytes.items (end_of c.print_payload.result) (fault_in c.print_payload.result) _ _
+    (print c.args.payload.now) c.in-Ok.ensures.bytes
+    (subst (λ (b : List ℕ). JudgesPayload (end_of c.print_payload.result) (fault_in c.print_payload.result)
+    (g.S.Sink.written c.args.out.now) (g.S.Sink.written c.print_payload.new.out) (print c.args.payload.now) b)
     c.as_slice.ensures.value (c.print_payload.ensures.payload c.args.payload.now))
 
 pub returns-clause-text : goal.returns-clause-text
 returns-clause-text g c =
-    text_told _ c.in-Ok.bytes.items (end_of c.print_payload.result) [] _ _ (print c.args.payload.now) c.in-Ok.ensures.bytes
-    (subst (λ (b : List ℕ). Writes (end_of c.print_payload.result) [] (g.S.Sink.written c.args.out.now) (g.S.Sink.written c.print_payload.new.out) (print c.args.payload.now) b)
+    text_told _ c.in-Ok.bytes.items (end_of c.print_payload.result) [] _ _
+    (print c.args.payload.now) c.in-Ok.ensures.bytes
+    (subst (λ (b : List ℕ). Writes (end_of c.print_payload.result) [] (g.S.Sink.written c.args.out.now)
+    (g.S.Sink.written c.print_payload.new.out) (print c.args.payload.now) b)
     c.as_slice.ensures.value (c.print_payload.ensures.text c.args.payload.now))

@@ -10,7 +10,8 @@ use Rattle.xf_opt.proofs.top.run.Goals as goal
 pub returns-in-Err-Failed-read_file-clause-reads : goal.returns-in-Err-Failed-read_file-clause-reads
 returns-in-Err-Failed-read_file-clause-reads g c = λ at_reads.
     rises_later _ (g.F.Files.faults c.read_file.new.files c.args.payload.now) _
-    (count_kept (g.F.Files.faults c.args.files.now) (g.F.Files.faults c.read_file.new.files) c.args.script.now c.args.payload.now c.in-Ok.ensures.grows c.in-Ok.ensures.others)
+    (count_kept (g.F.Files.faults c.args.files.now) (g.F.Files.faults c.read_file.new.files)
+    c.args.script.now c.args.payload.now c.in-Ok.ensures.grows c.in-Ok.ensures.others)
     (c.in-Err-Failed-read_file.ensures.cause (ap Err c.in-Err-Failed-read_file.field-0-is))
 
 pub returns-in-Err-NoMemory-read_file-clause-payload : goal.returns-in-Err-NoMemory-read_file-clause-payload
@@ -29,19 +30,26 @@ returns-clause-reads g c = none_failed _ _ _ c.carry_out.result c.carry_out.ensu
 pub returns-clause-script : goal.returns-clause-script
 returns-clause-script g c =
     script_told _ c.in-Ok.bytes.items (end_of c.carry_out.result) _ _ c.in-Ok.ensures.bytes
-    (subst (λ (b : List ℕ). JudgesScript (end_of c.carry_out.result) (g.S.Sink.written c.args.out.now) (g.S.Sink.written c.carry_out.new.out) b)
+    (subst (λ (b : List ℕ). JudgesScript (end_of c.carry_out.result) (g.S.Sink.written c.args.out.now)
+    (g.S.Sink.written c.carry_out.new.out) b)
     c.as_slice.ensures.value c.carry_out.ensures.script)
 
 pub returns-clause-payload : goal.returns-clause-payload
 returns-clause-payload g c =
-    payload_told _ c.in-Ok-read_file.bytes.items (end_of c.carry_out.result) (fault_in c.carry_out.result) _ _ (run c.args.script.now c.args.payload.now)
-    (subst (λ (o : Option (List ℕ)). IsRead o c.in-Ok-read_file.bytes.items) (c.in-Ok.ensures.told c.args.payload.now) c.in-Ok-read_file.ensures.bytes)
-    (subst (λ (b : List ℕ). JudgesPayload (end_of c.carry_out.result) (fault_in c.carry_out.result) (g.S.Sink.written c.args.out.now) (g.S.Sink.written c.carry_out.new.out) (run c.args.script.now c.args.payload.now) b)
+    payload_told _ c.in-Ok-read_file.bytes.items (end_of c.carry_out.result) (fault_in c.carry_out.result) _ _
+    (run c.args.script.now c.args.payload.now)
+    (subst (λ (o : Option (List ℕ)). IsRead o c.in-Ok-read_file.bytes.items)
+    (c.in-Ok.ensures.told c.args.payload.now) c.in-Ok-read_file.ensures.bytes)
+    (subst (λ (b : List ℕ). JudgesPayload (end_of c.carry_out.result) (fault_in c.carry_out.result) (g.S.Sink.written
+    c.args.out.now) (g.S.Sink.written c.carry_out.new.out) (run c.args.script.now c.args.payload.now) b)
     c.as_slice-2.ensures.value (c.carry_out.ensures.payload c.args.script.now c.args.payload.now))
 
 pub returns-clause-text : goal.returns-clause-text
 returns-clause-text g c =
-    text_told _ c.in-Ok-read_file.bytes.items (end_of c.carry_out.result) c.carry_out.new.journal _ _ (run c.args.script.now c.args.payload.now)
-    (subst (λ (o : Option (List ℕ)). IsRead o c.in-Ok-read_file.bytes.items) (c.in-Ok.ensures.told c.args.payload.now) c.in-Ok-read_file.ensures.bytes)
-    (subst (λ (b : List ℕ). Writes (end_of c.carry_out.result) c.carry_out.new.journal (g.S.Sink.written c.args.out.now) (g.S.Sink.written c.carry_out.new.out) (run c.args.script.now c.args.payload.now) b)
+    text_told _ c.in-Ok-read_file.bytes.items (end_of c.carry_out.result) c.carry_out.new.journal _ _
+    (run c.args.script.now c.args.payload.now)
+    (subst (λ (o : Option (List ℕ)). IsRead o c.in-Ok-read_file.bytes.items)
+    (c.in-Ok.ensures.told c.args.payload.now) c.in-Ok-read_file.ensures.bytes)
+    (subst (λ (b : List ℕ). Writes (end_of c.carry_out.result) c.carry_out.new.journal (g.S.Sink.written c.args.out.now)
+    (g.S.Sink.written c.carry_out.new.out) (run c.args.script.now c.args.payload.now) b)
     c.as_slice-2.ensures.value (c.carry_out.ensures.text c.args.script.now c.args.payload.now))

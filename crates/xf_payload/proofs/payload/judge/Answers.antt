@@ -13,5 +13,6 @@ returns-in-Err-Rule-clause-fault c =
     let places = c.args.read.now.places in
     let first = rw c.in-Err-Rule.field-0-is at c.in-Err-Rule.ensures.first in
     let told = verdict_told m places c.in-Err-Rule.rule c.in-Err-Rule.op first in
-    let is = c.rule_fault.ensures ∙ ap (λ (r : Rule). rule_fault places (let x : Violation = record { rule = r; op = c.in-Err-Rule.op } in x)) c.numbered-rule.ensures in
+    let is = c.rule_fault.ensures ∙ ap (λ (r : Rule). rule_fault places
+    (let x : Violation = record { rule = r; op = c.in-Err-Rule.op } in x)) c.numbered-rule.ensures in
     subst (λ (f : Fault). IsJudged m places (text_fault.At f)) (sym is) told

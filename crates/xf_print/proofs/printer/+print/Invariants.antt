@@ -25,13 +25,16 @@ decreases-print_inner g l = 5 * body_size l.block.now + 1
 
 abbrev pub invariant-print_ops-loop-op : goal.invariant-print_ops-loop-op
 invariant-print_ops-loop-op g l = record {
-  going : Going (g.S.Sink.written l.fn.sink) (fed (ops_text (names_of l.names) l.margin (ops_of l.ops))) (fed (ops_text (names_of l.names) l.margin (ops_of (drop l.op-index l.ops)))) (g.S.Sink.written l.sink);
+  going : Going (g.S.Sink.written l.fn.sink) (fed (ops_text (names_of l.names) l.margin (ops_of l.ops)))
+      (fed (ops_text (names_of l.names) l.margin (ops_of (drop l.op-index l.ops)))) (g.S.Sink.written l.sink);
   grows : g.S.Sink.faults l.fn.sink ≤ g.S.Sink.faults l.sink;
 }
 
 abbrev pub invariant-print_rest-loop-block : goal.invariant-print_rest-loop-block
 invariant-print_rest-loop-block g l = record {
-  going : Going (g.S.Sink.written l.fn.sink) ((l.fn.line.items ++ rest_text (names_of l.names) l.margin l.op true l.op.regions) ++ 10 ∷ [])
-      ((l.line.items ++ rest_text (names_of l.names) l.margin l.op l.first (regions_of (drop l.block-index l.blocks))) ++ 10 ∷ []) (g.S.Sink.written l.sink);
+  going : Going (g.S.Sink.written l.fn.sink)
+      ((l.fn.line.items ++ rest_text (names_of l.names) l.margin l.op true l.op.regions) ++ 10 ∷ [])
+      ((l.line.items ++ rest_text (names_of l.names) l.margin l.op l.first
+      (regions_of (drop l.block-index l.blocks))) ++ 10 ∷ []) (g.S.Sink.written l.sink);
   grows : g.S.Sink.faults l.fn.sink ≤ g.S.Sink.faults l.sink;
 }

@@ -5,4 +5,5 @@ use Rattle.xf_print.proofs.slot.write_slots.Goals as goal
 
 pub loop-slot-preserved : goal.loop-slot-preserved
 loop-slot-preserved c =
-    slots_go (names_of c.args.names.now) c.args.first c.args.op.now c.args.slots.now c.loop-slot.slot-index _ _ _ _ (drop_more _ _ _ c.loop-slot-test.true) c.loop-slot.invariant c.in_ok-write_slot.ensures
+    slots_go (names_of c.args.names.now) c.args.first c.args.op.now c.args.slots.now c.loop-slot.slot-index _ _ _ _
+    (drop_more _ _ _ c.loop-slot-test.true) c.loop-slot.invariant c.in_ok-write_slot.ensures

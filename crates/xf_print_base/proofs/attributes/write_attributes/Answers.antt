@@ -1,9 +1,8 @@
-use Rattle.std.proofs.Common.{ap, append_assoc, append-nil, arith, sym, ◌∙◌, ◌++◌}
-use Rattle.xf_print_base.proofs.Texts.{no_attributes, attributes_text}
+use Rattle.std.proofs.Common.{append_assoc}
+use Rattle.xf_print_base.proofs.Texts.{attributes_text}
 use Rattle.xf_print_base.proofs.attributes.write_attributes.Goals as goal
 
-pub returns-in-empty : goal.returns-in-empty
-returns-in-empty c = sym (ap (λ x. c.args.line.now.items ++ x) (no_attributes c.args.attrs.now (omega arith)) ∙ append-nil c.args.line.now.items)
-
-pub returns-in_ok-push-in-len1-up : goal.returns-in_ok-push-in-len1-up
-returns-in_ok-push-in-len1-up c = rw (c.in_ok-push-in-len1-up.ensures.items, c.in_ok-write_entries-in-len1-up.ensures, c.in_ok-extend_from_slice-in-len1-up.ensures.items, attributes_text _ c.in-len1-up.len_at_least) (simp append_assoc)
+pub returns-in_ok-write_dictionary-in-len1-up : goal.returns-in_ok-write_dictionary-in-len1-up
+returns-in_ok-write_dictionary-in-len1-up c =
+    rw (attributes_text _ c.in-len1-up.len_at_least, c.in_ok-write_dictionary-in-len1-up.ensures)
+    (rw c.in_ok-extend_from_slice-in-len1-up.ensures.items (simp append_assoc))

@@ -5,5 +5,7 @@ use Rattle.xf_print_base.proofs.values.write_params.Goals as goal
 pub loop-of-init : goal.loop-of-init
 loop-of-init c = record {
   number = omega arith;
-  text = params_begin c.args.first _ c.args.types.now _ _ _ (item_at _ 0 _ c.in-len1-up.len_at_least c.of-item.is) c.from-number.ensures c.in_ok-write_param.ensures;
+  text =
+      params_begin c.args.first _ c.args.types.now _ _ _ (item_at _ 0 _ c.in-len1-up.len_at_least c.of-item.is)
+      c.from-number.ensures c.in_ok-write_param.ensures;
 }

@@ -6,4 +6,6 @@ use Rattle.xf_print_base.proofs.values.write_use_types.Goals as goal
 
 pub loop-value-preserved : goal.loop-value-preserved
 loop-value-preserved c =
-    list_goes _ _ _ c.loop-value.value-index _ _ _ _ _ _ (drop_more _ _ _ c.loop-value-test.true) c.loop-value.invariant c.in_ok-push.ensures.items c.in_ok-write_type_of-2.ensures (type_begun c.args.gap (type_of (names_of c.args.names.now) _))
+    list_goes _ _ _ c.loop-value.value-index _ _ _ _ _ _ (drop_more _ _ _ c.loop-value-test.true) c.loop-value.invariant
+    c.in_ok-push.ensures.items c.in_ok-write_type_of-2.ensures
+    (type_begun c.args.gap (type_of (names_of c.args.names.now) _))

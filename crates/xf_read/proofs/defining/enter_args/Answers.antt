@@ -1,7 +1,8 @@
-use Rattle.std.proofs.Common.{◌≡◌, ap, ◌∙◌}
+use Rattle.std.proofs.Common.{◌≡◌, map, ap, ◌∙◌}
 use Rattle.std.specs.Prelude.{slice_get}
 use Rattle.xf_format.specs.declared.parts.Ref.{Ref}
-use Rattle.xf_read.specs.Names.{earlier, argument_named, with_args, args_twice}
+use Rattle.xf_format.specs.Parts.{arg_said}
+use Rattle.xf_read.specs.Names.{earlier, argument_named, with_arguments, args_twice}
 use Rattle.xf_read.specs.Visible.{names_in}
 use Rattle.xf_read.proofs.Arguments.{args_more, args_twice_more}
 use Rattle.xf_read.proofs.Scoping.{grows_on}
@@ -19,6 +20,6 @@ loop-at-preserved c =
       twice = args_twice_more c.args.tokens.now c.args.number c.loop-at.at c.args.types.now c.args.args.now no_ref c.text.result.now c.in_ok-named.named old new c.loop-at-test.true c.text.ensures named c.in_ok-seen.ensures.names
           c.loop-at.twice c.earlier-twice.result (args_twice c.args.tokens.now c.args.number 0 c.args.types.now c.args.args.now (names_in c.args.scope.now)) c.in_ok-seen.seen c.in_ok-seen.ensures.seen (c.earlier-twice.ensures ∙ ap (earlier c.loop-at.twice) c.token_if.ensures) c.loop-at.invariant.twice;
       names = args_more c.args.tokens.now c.args.number c.loop-at.at c.args.types.now c.args.args.now no_ref c.text.result.now c.in_ok-named.named old new c.loop-at-test.true c.text.ensures named c.in_ok-seen.ensures.names
-          (with_args c.args.tokens.now c.args.number 0 c.args.types.now c.args.args.now (names_in c.args.scope.now)) c.loop-at.invariant.names;
+          (with_arguments c.args.number 0 c.args.types.now (map (arg_said c.args.tokens.now) c.args.args.now) (names_in c.args.scope.now)) c.loop-at.invariant.names;
       grows = grows_on c.args.scope.now c.loop-at.scope c.enter.new.self c.loop-at.invariant.grows c.in_ok-seen.ensures.grows;
     }

@@ -1,6 +1,7 @@
 use Rattle.std.proofs.Common.{◌≡◌, refl, ap, ◌∙◌}
 use Rattle.xf_read.specs.Names.{with_faults, twice_fault, args_twice}
-use Rattle.xf_read.specs.Types.{args_by}
+use Rattle.xf_format.specs.Parts.{said}
+use Rattle.xf_read.specs.Types.{argument_types}
 use Rattle.xf_read.specs.Visible.{names_in}
 use Rattle.xf_read.proofs.Earlier.{faults_regrouped}
 use Rattle.xf_read.proofs.Heads.{head_faults_are}
@@ -14,8 +15,8 @@ returns-clause-moved c = λ first is.
     let s = names_in c.args.walk.now.scope in
     let h = c.args.head.now in
     let t = c.in_ok-twice.twice in
-    let e : t ≡ args_twice all n 0 (args_by p.row p) p.args s =
-    c.in_ok-twice.ensures.twice ∙ ap (λ ts. args_twice all n 0 ts c.as_slice-args.result.now s) is.args ∙ ap (λ rs. args_twice all n 0 (args_by p.row p) rs s) c.as_slice-args.ensures in
+    let e : t ≡ args_twice all n 0 (argument_types (said all p)) p.args s =
+    c.in_ok-twice.ensures.twice ∙ ap (λ ts. args_twice all n 0 ts c.as_slice-args.result.now s) is.args ∙ ap (λ rs. args_twice all n 0 (argument_types (said all p)) rs s) c.as_slice-args.ensures in
     record {
       next = refl;
       places_are = c.in_ok-push.ensures.ok;

@@ -5,4 +5,5 @@ use Rattle.xf_rules_shape.proofs.dense.are_all.Given as goal
 
 -- what is left passes where the whole does
 abbrev pub invariant-loop-number : goal.invariant-loop-number
-invariant-loop-number l = every (λ n. n == l.wanted) (drop l.number-index l.numbers) ≡ every (λ n. n == l.wanted) l.numbers
+invariant-loop-number l =
+    every (λ n. n == l.wanted) (drop l.number-index l.numbers) ≡ every (λ n. n == l.wanted) l.numbers

@@ -6,4 +6,5 @@ use Rattle.xf_rules_shape.proofs.dense.are_fixed.Given as goal
 
 -- what is left passes where the whole does
 abbrev pub invariant-loop-dim : goal.invariant-loop-dim
-invariant-loop-dim l = every (λ d. not (is_dynamic d)) (drop l.dim-index l.dims) ≡ every (λ d. not (is_dynamic d)) l.dims
+invariant-loop-dim l =
+    every (λ d. not (is_dynamic d)) (drop l.dim-index l.dims) ≡ every (λ d. not (is_dynamic d)) l.dims

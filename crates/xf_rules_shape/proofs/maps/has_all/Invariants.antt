@@ -5,4 +5,5 @@ use Rattle.std.specs.FinSet as set
 use Rattle.xf_rules_shape.proofs.maps.has_all.Given as goal
 
 abbrev pub invariant-loop-number : goal.invariant-loop-number
-invariant-loop-number l = every (set.contains l.dims) (counted l.number (l.count - l.number)) ≡ every (set.contains l.dims) (counted 0 l.count)
+invariant-loop-number l = every (set.contains l.dims) (counted l.number (l.count - l.number))
+    ≡ every (set.contains l.dims) (counted 0 l.count)

@@ -6,4 +6,5 @@ use Rattle.xf_ir.specs.View.{regions_of}
 use Rattle.xf_rules_shape.proofs.ranges.args_in_range.Given as goal
 
 abbrev pub invariant-loop-block : goal.invariant-loop-block
-invariant-loop-block l = every (every type_fits) (block_args (regions_of (drop l.block-index l.regions))) ≡ every (every type_fits) (block_args (regions_of l.regions))
+invariant-loop-block l = every (every type_fits) (block_args (regions_of (drop l.block-index l.regions)))
+    ≡ every (every type_fits) (block_args (regions_of l.regions))

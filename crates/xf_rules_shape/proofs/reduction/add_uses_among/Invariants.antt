@@ -6,4 +6,6 @@ use Rattle.xf_rules_shape.proofs.reduction.add_uses_among.Given as goal
 
 -- what is counted and what is left are the whole
 abbrev pub invariant-loop-value : goal.invariant-loop-value
-invariant-loop-value l = (l.count ≤ 2 ^ 64 - 1) × (min (l.count + use_count (out_value l.out) (drop l.value-index l.values)) (2 ^ 64 - 1) ≡ min (l.before + use_count (out_value l.out) l.values) (2 ^ 64 - 1))
+invariant-loop-value l =
+    (l.count ≤ 2 ^ 64 - 1) × (min (l.count + use_count (out_value l.out) (drop l.value-index l.values)) (2 ^ 64 - 1)
+    ≡ min (l.before + use_count (out_value l.out) l.values) (2 ^ 64 - 1))

@@ -7,4 +7,6 @@ use Rattle.xf_rules_shape.proofs.reduction.is_used_once.Given as goal
 
 -- what is counted and what is left are the whole
 abbrev pub invariant-loop-op : goal.invariant-loop-op
-invariant-loop-op l = (l.count ≤ 2 ^ 64 - 1) × (min (l.count + use_count (out_value l.out) (ops_operands (ops_of (drop l.op-index l.ops)))) (2 ^ 64 - 1) ≡ min (use_count (out_value l.out) (ops_operands (ops_of l.ops))) (2 ^ 64 - 1))
+invariant-loop-op l = (l.count ≤ 2 ^ 64 - 1)
+    × (min (l.count + use_count (out_value l.out) (ops_operands (ops_of (drop l.op-index l.ops)))) (2 ^ 64 - 1)
+    ≡ min (use_count (out_value l.out) (ops_operands (ops_of l.ops))) (2 ^ 64 - 1))

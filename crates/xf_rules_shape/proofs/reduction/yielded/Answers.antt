@@ -6,4 +6,5 @@ use Rattle.xf_rules_shape.proofs.reduction.yielded.Goals as goal
 
 pub returns-in-len1-up : goal.returns-in-len1-up
 returns-in-len1-up c =
-    c.only_value.ensures ∙ ap only_value (c.as_slice.ensures ∙ ap (λ (t : Tree). t.operands) c.last.view_is) ∙ yielded_last c.args.ops.now c.last-item.result c.in-len1-up.len_at_least c.last-item.is
+    c.only_value.ensures ∙ ap only_value (c.as_slice.ensures ∙ ap (λ (t : Tree). t.operands) c.last.view_is)
+    ∙ yielded_last c.args.ops.now c.last-item.result c.in-len1-up.len_at_least c.last-item.is

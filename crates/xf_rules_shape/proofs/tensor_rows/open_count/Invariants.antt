@@ -4,4 +4,7 @@ use Rattle.xf_rules_shape.proofs.tensor_rows.open_count.Given as goal
 
 -- what is counted and what is left are the whole
 abbrev pub invariant-loop-index : goal.invariant-loop-index
-invariant-loop-index l = record { within : l.count ≤ l.index-index; whole : l.count + open_count (drop l.index-index l.indices) ≡ open_count l.indices }
+invariant-loop-index l = record {
+  within : l.count ≤ l.index-index;
+  whole : l.count + open_count (drop l.index-index l.indices) ≡ open_count l.indices;
+}

@@ -21,7 +21,8 @@ decreases-nodes_at l = 5 * (32 - l.depth) + 4
 
 abbrev pub invariant-nodes_at-ops : goal.invariant-nodes_at-ops
 invariant-nodes_at-ops l = record {
-  going : Going l.tokens l.depth (nodes_of l.nodes.items) l.initial.level l.initial.count l.initial.at l.level l.count l.at;
+  going : Going l.tokens l.depth (nodes_of l.nodes.items) l.initial.level l.initial.count l.initial.at l.level l.count
+      l.at;
   begin : l.initial.at ≤ l.at;
   within : l.at ≤ length l.tokens;
 }

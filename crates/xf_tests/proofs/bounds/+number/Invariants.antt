@@ -8,7 +8,8 @@ decreases-number l = tree_size l.op.now
 
 -- what is counted and what is left are the whole
 abbrev pub invariant-loop-inner : goal.invariant-loop-inner
-invariant-loop-inner l = l.sum + ops_count (ops_of (drop l.inner-index l.inner-items)) + regions_count (regions_of (drop (l.block-index + 1) l.block-items)) ≡ tree_count l.op
+invariant-loop-inner l = l.sum + ops_count (ops_of (drop l.inner-index l.inner-items))
+    + regions_count (regions_of (drop (l.block-index + 1) l.block-items)) ≡ tree_count l.op
 
 abbrev pub invariant-loop-block : goal.invariant-loop-block
 invariant-loop-block l = l.sum + regions_count (regions_of (drop l.block-index l.block-items)) ≡ tree_count l.op

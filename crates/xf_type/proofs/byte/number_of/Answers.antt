@@ -9,6 +9,7 @@ loop-b-preserved c =
     let d = digit_value (get_or c.args.digits.now c.loop-b.b-index 0) in
     let e : c.min-value.result ≡ min (c.loop-b.value * 10 + d) (2 ^ 64) = grind arith in
     record {
-      value = rw e (digit_turn c.args.digits.now c.loop-b.b-index c.loop-b.value (2 ^ 64) _ c.loop-b-test.true c.loop-b.invariant.value);
+      value = rw e (digit_turn c.args.digits.now c.loop-b.b-index c.loop-b.value
+          (2 ^ 64) _ c.loop-b-test.true c.loop-b.invariant.value);
       small = omega arith;
     }

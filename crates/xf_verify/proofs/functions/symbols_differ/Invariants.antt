@@ -6,4 +6,5 @@ use Rattle.xf_verify.proofs.functions.symbols_differ.Given as goal
 
 -- what is left decides
 abbrev pub invariant-loop-block : goal.invariant-loop-block
-invariant-loop-block l = new_symbols (symbols_seen l.symbols) (symbols_in (regions_of (drop l.block-index l.blocks))) ≡ new_symbols no_symbols (symbols_in (regions_of l.blocks))
+invariant-loop-block l = new_symbols (symbols_seen l.symbols) (symbols_in (regions_of (drop l.block-index l.blocks)))
+    ≡ new_symbols no_symbols (symbols_in (regions_of l.blocks))

@@ -13,7 +13,8 @@ pub returns-in-Some-broken_types : goal.returns-in-Some-broken_types
 returns-in-Some-broken_types c =
     let p = stand_seen c.args.stand.now in
     let f = c.args.facts.now in
-    stop_in c.in-Some-broken_types.rule (type_rules f p) (linalg_rules p ++ range_rules p) c.in-Some-broken_types.ensures
+    stop_in c.in-Some-broken_types.rule (type_rules f p) (linalg_rules p
+    ++ range_rules p) c.in-Some-broken_types.ensures
     ∙ sym (pass_on (shape_rules p) (type_rules f p ++ (linalg_rules p ++ range_rules p)) (sym c.in_default.ensures))
 
 pub returns-in-Some-2 : goal.returns-in-Some-2

@@ -10,14 +10,20 @@ use Rattle.xf_verify.proofs.local.ends_its_blocks.Goals as goal
 -- nothing stands behind the last
 last_is : (ts : List Tree) → eqb (length ts) 0 ≡ is_end (ops_of ts)
 last_is [] = refl
-last_is (t ∷ ts) = elim (cases_Bool (eqb (length (t ∷ ts)) 0)) [ inl e ↦ absurd (let z = eqb-true (length (t ∷ ts)) 0 e in omega arith) | inr f ↦ f ]
+last_is (t ∷ ts) = elim (cases_Bool (eqb (length (t ∷ ts)) 0)) [
+  | inl e ↦
+      absurd (let z = eqb-true (length (t ∷ ts)) 0 e in omega arith)
+  | inr f ↦ f
+]
 
 pub returns-then-blocks_end : goal.returns-then-blocks_end
 returns-then-blocks_end c =
     let holder = c.args.stand.now.holder.kind.now in
     let op = c.args.stand.now.op.now in
     let after = c.args.stand.now.after.now in
-    let blocks : true ≡ blocks_end op.kind op.regions = sym c.if-blocks_end.true ∙ c.blocks_end.ensures ∙ ap (λ bs. blocks_end c.op.inside.kind (regions_of bs)) c.deref.ensures.value ∙ ap (λ (t : Tree). blocks_end t.kind t.regions) c.op.view_is in
+    let blocks : true ≡ blocks_end op.kind op.regions = sym c.if-blocks_end.true
+    ∙ c.blocks_end.ensures ∙ ap (λ bs. blocks_end c.op.inside.kind (regions_of bs)) c.deref.ensures.value
+    ∙ ap (λ (t : Tree). blocks_end t.kind t.regions) c.op.view_is in
     let last = c.is_empty.ensures ∙ last_is after in
     c.stands_at_end.ensures
     ∙ ap (λ (t : Tree). not (is_terminator t.kind) || (c.is_empty.result && ends_for holder t.kind)) c.op.view_is

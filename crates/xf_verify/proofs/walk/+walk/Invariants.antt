@@ -17,16 +17,24 @@ decreases-regions l = 2 * tree_size l.op.now
 -- what is left from here gives what all gives
 abbrev pub invariant-operations-loop-number : goal.invariant-operations-loop-number
 invariant-operations-loop-number l = record {
-  judged : first_behind l.facts l.walk.names (ops_stand (holder_seen l.holder) (types_in l.walk.scope) (ops_of (drop l.number l.ops))) ≡ first_behind l.facts l.fn.walk.names (ops_stand (holder_seen l.holder) (types_in l.fn.walk.scope) (ops_of l.ops));
-  names : names_behind l.walk.names (ops_stand (holder_seen l.holder) (types_in l.walk.scope) (ops_of (drop l.number l.ops))) ≡ names_behind l.fn.walk.names (ops_stand (holder_seen l.holder) (types_in l.fn.walk.scope) (ops_of l.ops));
+  judged : first_behind l.facts l.walk.names (ops_stand (holder_seen l.holder)
+      (types_in l.walk.scope) (ops_of (drop l.number l.ops))) ≡ first_behind l.facts l.fn.walk.names
+      (ops_stand (holder_seen l.holder) (types_in l.fn.walk.scope) (ops_of l.ops));
+  names : names_behind l.walk.names
+      (ops_stand (holder_seen l.holder) (types_in l.walk.scope) (ops_of (drop l.number l.ops)))
+      ≡ names_behind l.fn.walk.names (ops_stand (holder_seen l.holder) (types_in l.fn.walk.scope) (ops_of l.ops));
   scope : without (take l.number l.ops) (definitions_in l.walk.scope) ≡ definitions_in l.fn.walk.scope;
   named : IsNamed l.walk;
 }
 
 abbrev pub invariant-regions-loop-number : goal.invariant-regions-loop-number
 invariant-regions-loop-number l = record {
-  judged : first_behind l.facts l.walk.names (regions_stand (holder_seen l.holder) (types_in l.walk.scope) l.op.name l.number (regions_of (drop l.number l.block-items))) ≡ first_behind l.facts l.fn.walk.names (regions_stand (holder_seen l.holder) (types_in l.fn.walk.scope) l.op.name 0 l.op.regions);
-  names : names_behind l.walk.names (regions_stand (holder_seen l.holder) (types_in l.walk.scope) l.op.name l.number (regions_of (drop l.number l.block-items))) ≡ names_behind l.fn.walk.names (regions_stand (holder_seen l.holder) (types_in l.fn.walk.scope) l.op.name 0 l.op.regions);
+  judged : first_behind l.facts l.walk.names (regions_stand (holder_seen l.holder) (types_in l.walk.scope)
+      l.op.name l.number (regions_of (drop l.number l.block-items))) ≡ first_behind l.facts l.fn.walk.names
+      (regions_stand (holder_seen l.holder) (types_in l.fn.walk.scope) l.op.name 0 l.op.regions);
+  names : names_behind l.walk.names (regions_stand (holder_seen l.holder) (types_in l.walk.scope) l.op.name l.number
+      (regions_of (drop l.number l.block-items))) ≡ names_behind l.fn.walk.names
+      (regions_stand (holder_seen l.holder) (types_in l.fn.walk.scope) l.op.name 0 l.op.regions);
   scope : definitions_in l.walk.scope ≡ definitions_in l.fn.walk.scope;
   named : IsNamed l.walk;
   here : set.contains l.walk.names l.op.name.0 ≡ true;

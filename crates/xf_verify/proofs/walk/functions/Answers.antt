@@ -12,8 +12,12 @@ returns-in_err-operation-clause-judged c =
     let w = c.loop-number.walk in
     let see = types_in w.scope in
     let h = holder_seen c.args.holder in
-    let judged = subst (λ us. Answers {A = Unit {0}} (Err c.in_err-operation.field-0.0) (first_behind c.args.facts.now w.names (tree_stands h see c.index-ops-number.result (ops_of us)))) c.behind.ensures c.in_err-operation.ensures.judged in
-    let a = functions_stop c.args.facts.now h c.args.ops.now c.loop-number.number c.index-ops-number.result c.index-ops-number.is c.loop-number-test.true (Unit {0}) (Unit {0}) see w.names c.in_err-operation.field-0.0 _ c.loop-number.invariant.judged judged in
+    let judged = subst (λ us. Answers {A = Unit {0}} (Err c.in_err-operation.field-0.0)
+    (first_behind c.args.facts.now w.names (tree_stands h see c.index-ops-number.result (ops_of us))))
+    c.behind.ensures c.in_err-operation.ensures.judged in
+    let a = functions_stop c.args.facts.now h c.args.ops.now c.loop-number.number c.index-ops-number.result
+    c.index-ops-number.is c.loop-number-test.true (Unit {0})
+    (Unit {0}) see w.names c.in_err-operation.field-0.0 _ c.loop-number.invariant.judged judged in
     rw (p.1, p.2) a
 
 pub loop-number-preserved : goal.loop-number-preserved
@@ -29,12 +33,16 @@ loop-number-preserved c =
     let e = c.in_ok-operation.ensures in
     let inv = c.loop-number.invariant in
     let rest = ops_of (drop (i + 1) ts) in
-    let judged : first_behind f w.names (tree_stands h see x rest) ≡ None = ap (λ us. first_behind f w.names (tree_stands h see x (ops_of us))) (sym c.behind.ensures) ∙ e.judged in
-    let names : u.names ≡ names_behind w.names (tree_stands h see x rest) = e.moved.names ∙ ap (λ us. names_behind w.names (tree_stands h see x (ops_of us))) c.behind.ensures in
+    let judged : first_behind f w.names (tree_stands h see x rest) ≡ None =
+    ap (λ us. first_behind f w.names (tree_stands h see x (ops_of us))) (sym c.behind.ensures) ∙ e.judged in
+    let names : u.names ≡ names_behind w.names (tree_stands h see x rest) = e.moved.names
+    ∙ ap (λ us. names_behind w.names (tree_stands h see x (ops_of us))) c.behind.ensures in
     let again : types_in u.scope ≡ see = ap type_among e.moved.scope in
     record {
-      judged = functions_judged f h ts i x c.index-ops-number.is c.loop-number-test.true see (types_in u.scope) w.names u.names _ judged names again inv.judged;
-      names = functions_named f h ts i x c.index-ops-number.is c.loop-number-test.true see (types_in u.scope) w.names u.names _ names again inv.names;
+      judged = functions_judged f h ts i x c.index-ops-number.is c.loop-number-test.true see
+          (types_in u.scope) w.names u.names _ judged names again inv.judged;
+      names = functions_named f h ts i x c.index-ops-number.is c.loop-number-test.true see
+          (types_in u.scope) w.names u.names _ names again inv.names;
       scope = e.moved.scope ∙ inv.scope;
       named = e.moved.named;
     }

@@ -4,4 +4,5 @@ use Rattle.xf_ir.proofs.NumberSets.{contains_keys}
 use Rattle.xf_ir.proofs.name_set.NameSet.contains.Goals as goal
 
 pub returns : goal.returns
-returns c = c.contains.ensures ∙ sym (contains_keys c.self.inside.numbers c.args.name.0) ∙ ap (λ s. set.contains s c.args.name.0) c.self.view_is
+returns c = c.contains.ensures ∙ sym (contains_keys c.self.inside.numbers c.args.name.0)
+    ∙ ap (λ s. set.contains s c.args.name.0) c.self.view_is

@@ -7,10 +7,13 @@ use Rattle.xf_verify.proofs.scope.VisibleValues.leave_all.Goals as goal
 
 pub loop-op-preserved : goal.loop-op-preserved
 loop-op-preserved c =
-    leave_on c.args.ops.now c.loop-op.op-index c.op-item.result c.op-item.is c.loop-op-test.true (definitions_in c.loop-op.self) (definitions_in c.leave.new.self) (without c.args.ops.now (definitions_in c.args.self.now))
-    (c.leave.ensures ∙ ap (λ (t : Tree). with_definition t.name.0 None (definitions_in c.loop-op.self)) c.op.view_is) c.loop-op.invariant
+    leave_on c.args.ops.now c.loop-op.op-index c.op-item.result c.op-item.is c.loop-op-test.true (definitions_in
+    c.loop-op.self) (definitions_in c.leave.new.self) (without c.args.ops.now (definitions_in c.args.self.now))
+    (c.leave.ensures ∙ ap (λ (t : Tree). with_definition t.name.0 None (definitions_in c.loop-op.self)) c.op.view_is)
+    c.loop-op.invariant
 
 pub returns : goal.returns
 returns c =
     let le : length c.args.ops.now ≤ c.loop-op.op-index = omega (arith, c.loop-op-test.false) in
-    sym (at_drop_all (λ ts. without ts (definitions_in c.loop-op.self)) c.args.ops.now c.loop-op.op-index le) ∙ c.loop-op.invariant
+    sym (at_drop_all (λ ts. without ts (definitions_in c.loop-op.self)) c.args.ops.now c.loop-op.op-index le)
+    ∙ c.loop-op.invariant

@@ -1,0 +1,6 @@
+mod Examples
+pub mod Lawful
+pub mod PrintedNests
+pub mod Reaching
+mod Turns
+mod Within

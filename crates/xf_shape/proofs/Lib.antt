@@ -1,0 +1,3 @@
+pub mod Again
+pub mod Dimensions
+pub mod Passing

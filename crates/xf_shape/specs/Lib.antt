@@ -1,0 +1,5 @@
+pub mod Laws
+pub mod Shapes
+pub mod TypeWords
+pub mod Widths
+pub mod Written
