@@ -8,8 +8,6 @@ mod bounds;
 #[cfg(test)]
 mod copies;
 #[cfg(test)]
-mod dense;
-#[cfg(test)]
 mod devices;
 #[cfg(test)]
 mod edits;
@@ -23,8 +21,6 @@ mod large_trees;
 mod lines;
 #[cfg(test)]
 mod outline;
-#[cfg(test)]
-mod shapes;
 #[cfg(test)]
 mod structured;
 #[cfg(test)]
