@@ -119,7 +119,8 @@ fn form_fits(body: &Body, dims: &[Dim]) -> bool
 
 /// Whether a body stands for the elements of a tensor of this type. Nested lists have its extents, where
 /// `?` is any; one literal stands for all elements where no dimension is 0; and nothing stands where one
-/// is 0 or `?`. Only a tensor of `i1` has `true` and `false` for elements.
+/// is 0 or `?`. Only a tensor of `i1` has `true` and `false` for elements. It takes time in the number of
+/// literals and dimensions.
 pub fn fits_shape(body: &Body, shape: &Shape) -> bool
     ensures { result ≡ fits_shape body.now shape.now }
 {

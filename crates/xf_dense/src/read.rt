@@ -327,7 +327,8 @@ fn ends(tokens: &[Token], stage: Stage, at: usize) -> bool
 
 /// The body of a dense constant that begins with the token `at`, and the number of the token behind it,
 /// which is its `>`. It refuses with the first token that fits no body, which is the end where all before
-/// fit, and with what was due there.
+/// fit, and with what was due there; or for want of memory. It takes time and memory in the number of tokens,
+/// and no more calls inside one another where lists are deep.
 pub fn body_at(alloc: Global, tokens: &[Token], at: usize) -> Result<(Body, usize), Stopped>
     ensures gives { Gives (λ x. (free x.0, x.1)) result (body_at tokens.now at) }
     ensures within { IfOk result (λ x. (at ≤ x.1) × (x.1 < length tokens.now)) }
