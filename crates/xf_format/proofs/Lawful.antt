@@ -15,8 +15,8 @@ use Rattle.xf_format.specs.declared.parts.Use.{Use}
 use Rattle.xf_format.specs.declared.row.Level.{Level}
 use Rattle.xf_format.specs.declared.row.Level.TheVariants as level
 use Rattle.xf_format.specs.Actions.{Action, begins, defines, argument_is, operand, symbol_is, private_is, predicate_is}
-use Rattle.xf_format.specs.Actions.{literal_is, truth_is, width_is, width_left_out, result_is, unit_entry, truth_entry}
-use Rattle.xf_format.specs.Actions.{text_entry, integer_entry, typed_entry, tensor_type, unread_rest, of_first}
+use Rattle.xf_format.specs.Actions.{literal_is, truth_is, type_is, width_left_out, result_is, unit_entry, truth_entry}
+use Rattle.xf_format.specs.Actions.{text_entry, integer_entry, typed_entry, unread_rest, of_first}
 use Rattle.xf_format.specs.Actions.{of_one_or_two, of_two, of_three, Reading, Saying, count_in, one_or, parts_by}
 use Rattle.xf_format.specs.Actions.{said_by, add, tell, room, space, IsHeld, Says}
 use Rattle.xf_format.specs.Parts.{ref, use_of, with_entry, with_define, with_arg, with_use, text_of, text_at, number}
@@ -116,7 +116,7 @@ module _ (all : List Token) where
   acted (literal_is negative) hs p s =
       first_says (said all) _ _ p (λ x q. ap (λ y. says_literal (number negative (text_of y)) (said all p)) q) hs s
   acted (truth_is b) hs p s = refl
-  acted width_is hs p s = first_says (said all) _ _ p (λ x q. refl) hs s
+  acted type_is hs p s = first_says (said all) _ _ p (λ x q. refl) hs s
   acted (width_left_out w) hs p s = refl
   acted result_is hs p s = first_says (said all) _ _ p (λ x q. refl) hs s
   acted unit_entry hs p s =
@@ -137,7 +137,6 @@ module _ (all : List Token) where
       three_says (said all) _ _ p (λ x y z q r. entry_says x.0 (value.Integer negative y.0 (width_meant z.1)) p
       ∙ (ap (λ c. says_entry (text_of c) (number_value negative (text_at all y.0) (width_meant z.1)) (said all p)) q
       ∙ ap (λ c. says_entry (text_of x.1) (number_value negative (text_of c) (width_meant z.1)) (said all p)) r)) hs s
-  acted tensor_type hs p s = refl
   acted unread_rest hs p s = refl
 
   added : (k : Action) (h : Reading) (t : Saying) → Says all h t → Says all (add k h) (tell k t)
@@ -184,7 +183,7 @@ module _ (all : List Token) where
   roomy argument_is h t s = args_room h t s
   roomy operand h t s = uses_room h t s
   roomy (truth_is b) h t s = types_room h t s
-  roomy width_is h t s = types_room h t s
+  roomy type_is h t s = types_room h t s
   roomy (width_left_out w) h t s = types_room h t s
   roomy result_is h t s = results_room h t s
   roomy unit_entry h t s = entries_room h t s

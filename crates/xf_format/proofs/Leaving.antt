@@ -20,6 +20,7 @@ use Rattle.xf_format.specs.Rules.{block_name_rule, number_rule, literal_rule, en
 use Rattle.xf_format.specs.Rules.{entry_value_rule, entry_rule, param_rule, pair_rule, until_rule, dictionary_rule}
 use Rattle.xf_format.specs.Rules.{attributes_rule, result_types_rule, call_results_rule, function_results_rule}
 use Rattle.xf_format.specs.Rules.{listed_results_rule, if_results_rule, operands_rule, iter_args_rule, loop_width_rule}
+use Rattle.xf_format.specs.Rules.{tensor_rule, result_tensor_rule, typed_rule, ins_rule, outs_rule}
 use Rattle.xf_format.specs.Rules.{slot_rule, slots_rule}
 use Rattle.xf_format.specs.Tests.{State, unread_text}
 use Rattle.xf_format.proofs.Lawful.{no_end}
@@ -48,7 +49,7 @@ unfolding kind_rule word_rule symbol_rule module_name_rule function_name_rule ar
     type_rule result_rule predicate_rule block_name_rule number_rule literal_rule entry_width_rule entry_number_rule
     entry_value_rule entry_rule param_rule pair_rule until_rule dictionary_rule attributes_rule result_types_rule
     call_results_rule function_results_rule listed_results_rule if_results_rule operands_rule iter_args_rule
-    loop_width_rule
+    loop_width_rule tensor_rule result_tensor_rule typed_rule ins_rule outs_rule
 slot_leaves_row (slot.Mark gap b) = refl
 slot_leaves_row s = refl
 

@@ -8,4 +8,5 @@ mod Lookups
 pub mod OfKind
 pub mod Short
 mod Turns
+mod Types
 pub mod Within

@@ -26,8 +26,8 @@ use Rattle.xf_format.specs.declared.row.Level.{Level}
 use Rattle.xf_format.specs.declared.row.Row.{Row}
 use Rattle.xf_format.specs.declared.row.Row.TheVariants as row
 use Rattle.xf_format.specs.Actions.{Action, begins, defines, argument_is, operand, symbol_is, private_is, predicate_is}
-use Rattle.xf_format.specs.Actions.{literal_is, truth_is, width_is, width_left_out, result_is, unit_entry, truth_entry}
-use Rattle.xf_format.specs.Actions.{text_entry, integer_entry, typed_entry, tensor_type, unread_rest, of_first}
+use Rattle.xf_format.specs.Actions.{literal_is, truth_is, type_is, width_left_out, result_is, unit_entry, truth_entry}
+use Rattle.xf_format.specs.Actions.{text_entry, integer_entry, typed_entry, unread_rest, of_first}
 use Rattle.xf_format.specs.Actions.{of_one_or_two, of_two, of_three, Reading, parts_by}
 use Rattle.xf_format.specs.Format.{format}
 use Rattle.xf_format.specs.Parts.{no_parts, with_symbol, with_literal, with_entry, with_define, with_arg, with_use}
@@ -38,6 +38,7 @@ use Rattle.xf_format.specs.Rules.{block_name_rule, number_rule, literal_rule, en
 use Rattle.xf_format.specs.Rules.{entry_value_rule, entry_rule, param_rule, pair_rule, until_rule, dictionary_rule}
 use Rattle.xf_format.specs.Rules.{attributes_rule, result_types_rule, call_results_rule, function_results_rule}
 use Rattle.xf_format.specs.Rules.{listed_results_rule, if_results_rule, operands_rule, iter_args_rule, loop_width_rule}
+use Rattle.xf_format.specs.Rules.{tensor_rule, result_tensor_rule, typed_rule, ins_rule, outs_rule}
 use Rattle.xf_format.specs.Rules.{slot_rule, slots_rule, row_rule, defines_rule, head_rule}
 use Rattle.xf_format.specs.Tests.{Test, of_kind, short_symbol, short_word, short_text, integer_for, a_result, is_symbol}
 use Rattle.xf_format.specs.Tests.{is_name, is_string, State, unread_text}
@@ -120,10 +121,9 @@ behind_tests begins ts = true
 behind_tests private_is ts = true
 behind_tests predicate_is ts = true
 behind_tests (truth_is b) ts = true
-behind_tests width_is ts = true
+behind_tests type_is ts = true
 behind_tests (width_left_out w) ts = true
 behind_tests result_is ts = true
-behind_tests tensor_type ts = true
 behind_tests unread_rest ts = true
 behind_tests k ts = false
 
@@ -137,7 +137,7 @@ unfolding kind_rule word_rule symbol_rule module_name_rule function_name_rule ar
     type_rule result_rule predicate_rule block_name_rule number_rule literal_rule entry_width_rule entry_number_rule
     entry_value_rule entry_rule param_rule pair_rule until_rule dictionary_rule attributes_rule result_types_rule
     call_results_rule function_results_rule listed_results_rule if_results_rule operands_rule iter_args_rule
-    loop_width_rule
+    loop_width_rule tensor_rule result_tensor_rule typed_rule ins_rule outs_rule
 slot_guarded (slot.Mark gap b) = refl
 slot_guarded s = refl
 
@@ -253,12 +253,11 @@ module _ (all : List Token) where
   kinds_added predicate_is ts hs p o w i =
       plain_added p _ (λ y. parts_in i.symbol i.literal i.entries i.defines i.args i.uses) hs i
   kinds_added (truth_is b) ts hs p o w i = parts_in i.symbol tt i.entries i.defines i.args i.uses
-  kinds_added width_is ts hs p o w i =
+  kinds_added type_is ts hs p o w i =
       plain_added p _ (λ y. parts_in i.symbol i.literal i.entries i.defines i.args i.uses) hs i
   kinds_added (width_left_out v) ts hs p o w i = parts_in i.symbol i.literal i.entries i.defines i.args i.uses
   kinds_added result_is ts hs p o w i =
       plain_added p _ (λ y. parts_in i.symbol i.literal i.entries i.defines i.args i.uses) hs i
-  kinds_added tensor_type ts hs p o w i = i
   kinds_added unread_rest ts hs p o w i = i
   kinds_added k ts hs p o w i = absurd cc
 

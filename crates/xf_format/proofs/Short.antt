@@ -5,8 +5,8 @@ use Rattle.std.proofs.lemmas.Bool.{ltb-true}
 use Rattle.std.proofs.lemmas.List.{length_push}
 use Rattle.xf_lex.specs.declared.token.Token.{Token}
 use Rattle.xf_type.specs.Limits.{most_entries}
+use Rattle.xf_type.specs.declared.payload_type.PayloadType.{PayloadType}
 use Rattle.xf_type.specs.declared.payload_type.PayloadType.TheVariants.{Scalar}
-use Rattle.xf_type.specs.declared.payload_type.Width.{Width}
 use Rattle.xf_type.specs.declared.payload_type.Width.TheVariants as width
 use Rattle.xf_grammar.specs.Tokens.{Terminal}
 use Rattle.xf_grammar.proofs.Kept.{Keeps, confined_all}
@@ -17,9 +17,9 @@ use Rattle.xf_format.specs.declared.parts.Parts.{Parts}
 use Rattle.xf_format.specs.declared.parts.Ref.{Ref}
 use Rattle.xf_format.specs.declared.parts.Use.{Use}
 use Rattle.xf_format.specs.declared.row.Row.{Row}
-use Rattle.xf_format.specs.Actions.{Action, argument_is, operand, truth_is, width_is, width_left_out, result_is}
+use Rattle.xf_format.specs.Actions.{Action, argument_is, operand, truth_is, type_is, width_left_out, result_is}
 use Rattle.xf_format.specs.Actions.{unit_entry, truth_entry, text_entry, integer_entry, typed_entry, parts_by, room}
-use Rattle.xf_format.specs.Parts.{no_parts, with_literal, with_entry, with_arg, with_use, with_width, with_result}
+use Rattle.xf_format.specs.Parts.{no_parts, with_literal, with_entry, with_arg, with_use, with_type, with_result}
 use Rattle.xf_format.specs.Rules.{language}
 use Rattle.xf_format.specs.Short.{HasShortParts}
 use Rattle.xf_format.proofs.Holding.{Any, all_any, of_first_has, of_one_or_two_has, of_two_has, of_three_has}
@@ -42,13 +42,13 @@ uses_more : (u : Use) (p : Parts) → nat_lt (length p.uses) most_entries ≡ tr
     → HasShortParts (with_use u p)
 uses_more u p e s = short_by s.entries s.args (one_more p.uses u e) s.types s.results
 
-types_more : (w : Width) (p : Parts) → nat_lt (length p.types) most_entries ≡ true → HasShortParts p
-    → HasShortParts (with_width w p)
-types_more w p e s = short_by s.entries s.args s.uses (one_more p.types (Scalar w) e) s.results
+types_more : (t : PayloadType) (p : Parts) → nat_lt (length p.types) most_entries ≡ true → HasShortParts p
+    → HasShortParts (with_type t p)
+types_more t p e s = short_by s.entries s.args s.uses (one_more p.types t e) s.results
 
-results_more : (w : Width) (p : Parts) → nat_lt (length p.results) most_entries ≡ true → HasShortParts p
-    → HasShortParts (with_result w p)
-results_more w p e s = short_by s.entries s.args s.uses s.types (one_more p.results (Scalar w) e)
+results_more : (t : PayloadType) (p : Parts) → nat_lt (length p.results) most_entries ≡ true → HasShortParts p
+    → HasShortParts (with_result t p)
+results_more t p e s = short_by s.entries s.args s.uses s.types (one_more p.results t e)
 
 entries_more : (n : ℕ) (v : EntryValue) (p : Parts) → nat_lt (length p.entries) most_entries ≡ true → HasShortParts p
     → HasShortParts (with_entry n v p)
@@ -63,9 +63,9 @@ short_added : (k : Action) (hs : List (ℕ × Terminal)) (p : Parts) → room k 
 short_added argument_is hs p e s = of_first_has Any HasShortParts p _ s (λ x q. args_more _ p e s) hs (all_any hs)
 short_added operand hs p e s = of_one_or_two_has Any HasShortParts p _ s (λ x k q. uses_more _ p e s) hs (all_any hs)
 short_added (truth_is b) hs p e s =
-    types_more width.I1 (with_literal (literal.Truth b) p) e (literal_short (literal.Truth b) p s)
-short_added width_is hs p e s = of_first_has Any HasShortParts p _ s (λ x q. types_more _ p e s) hs (all_any hs)
-short_added (width_left_out w) hs p e s = types_more w p e s
+    types_more (Scalar width.I1) (with_literal (literal.Truth b) p) e (literal_short (literal.Truth b) p s)
+short_added type_is hs p e s = of_first_has Any HasShortParts p _ s (λ x q. types_more _ p e s) hs (all_any hs)
+short_added (width_left_out w) hs p e s = types_more (Scalar w) p e s
 short_added result_is hs p e s = of_first_has Any HasShortParts p _ s (λ x q. results_more _ p e s) hs (all_any hs)
 short_added unit_entry hs p e s = of_first_has Any HasShortParts p _ s (λ x q. entries_more _ _ p e s) hs (all_any hs)
 short_added (truth_entry b) hs p e s =

@@ -3,6 +3,7 @@
 use Rattle.std.specs.Prelude.{◌≡◌, ℕ, List, [], ◌∷◌, map, length, Option, Some, None, Bool, true, false, nat_lt, All}
 use Rattle.std.specs.Prelude.{option_map}
 use Rattle.xf_lex.specs.declared.token.Token.{Token}
+use Rattle.xf_type.specs.declared.payload_type.PayloadType.TheVariants.{Scalar}
 use Rattle.xf_type.specs.declared.payload_type.Width.{Width}
 use Rattle.xf_type.specs.declared.payload_type.Width.TheVariants as width
 use Rattle.xf_type.specs.Limits.{most_entries}
@@ -13,11 +14,11 @@ use Rattle.xf_format.specs.declared.parts.EntryValue.TheVariants as value
 use Rattle.xf_format.specs.declared.parts.Literal.TheVariants as literal
 use Rattle.xf_format.specs.declared.parts.Parts.{Parts}
 use Rattle.xf_format.specs.Parts.{ref, use_of, count_of, with_row, with_symbol, as_private, with_predicate}
-use Rattle.xf_format.specs.Parts.{with_literal, with_entry, with_define, with_arg, with_use, with_width, with_result}
+use Rattle.xf_format.specs.Parts.{with_literal, with_entry, with_define, with_arg, with_use, with_type, with_result}
 use Rattle.xf_format.specs.Parts.{text_of, truth, number, no_value, truth_value, number_value, text_value, Said, said}
 use Rattle.xf_format.specs.Parts.{says_row, says_symbol, says_private, says_predicate, says_literal, says_entry}
-use Rattle.xf_format.specs.Parts.{says_define, says_arg, says_use, says_width, says_result}
-use Rattle.xf_format.specs.Words.{width_meant, predicate_meant, row_begun, the_row}
+use Rattle.xf_format.specs.Parts.{says_define, says_arg, says_use, says_type, says_result}
+use Rattle.xf_format.specs.Words.{width_meant, type_meant, predicate_meant, row_begun, the_row}
 
 pub data Action : Type 0 where
   -- the word of an operation begins it
@@ -33,8 +34,8 @@ pub data Action : Type 0 where
   -- an integer, behind a sign or not, and a truth value with its width
   literal_is : (negative : Bool) → Action
   truth_is : (b : Bool) → Action
-  -- a width that is held, and one that is not written
-  width_is : Action
+  -- a type by the token that is held, and a width that is not written
+  type_is : Action
   width_left_out : (w : Width) → Action
   result_is : Action
   -- an attribute: its name, and its value behind it
@@ -43,8 +44,7 @@ pub data Action : Type 0 where
   text_entry : Action
   integer_entry : (negative : Bool) (w : Width) → Action
   typed_entry : (negative : Bool) → Action
-  -- what a later reader reads: a tensor type, and the rest of an operation
-  tensor_type : Action
+  -- what a later reader reads: the rest of an operation
   unread_rest : Action
 
 -- ---- what is held
@@ -100,17 +100,16 @@ parts_by symbol_is hs p = of_first hs p (λ x. with_symbol x.0 p)
 parts_by private_is hs p = as_private p
 parts_by predicate_is hs p = of_first hs p (λ x. with_predicate (predicate_meant x.1) p)
 parts_by (literal_is negative) hs p = of_first hs p (λ x. with_literal (literal.Integer negative x.0) p)
-parts_by (truth_is b) hs p = with_width width.I1 (with_literal (literal.Truth b) p)
-parts_by width_is hs p = of_first hs p (λ x. with_width (width_meant x.1) p)
-parts_by (width_left_out w) hs p = with_width w p
-parts_by result_is hs p = of_first hs p (λ x. with_result (width_meant x.1) p)
+parts_by (truth_is b) hs p = with_type (Scalar width.I1) (with_literal (literal.Truth b) p)
+parts_by type_is hs p = of_first hs p (λ x. with_type (type_meant x.1) p)
+parts_by (width_left_out w) hs p = with_type (Scalar w) p
+parts_by result_is hs p = of_first hs p (λ x. with_result (type_meant x.1) p)
 parts_by unit_entry hs p = of_first hs p (λ x. with_entry x.0 value.Unit p)
 parts_by (truth_entry b) hs p = of_first hs p (λ x. with_entry x.0 (value.Truth b) p)
 parts_by text_entry hs p = of_two hs p (λ x y. with_entry x.0 (value.Text y.0) p)
 parts_by (integer_entry negative w) hs p = of_two hs p (λ x y. with_entry x.0 (value.Integer negative y.0 w) p)
 parts_by (typed_entry negative) hs p =
     of_three hs p (λ x y z. with_entry x.0 (value.Integer negative y.0 (width_meant z.1)) p)
-parts_by tensor_type hs p = p
 parts_by unread_rest hs p = p
 
 abbrev pub add : Action → Reading → Reading
@@ -134,10 +133,10 @@ said_by symbol_is hs t = of_first hs t (λ x. says_symbol (text_of x) t)
 said_by private_is hs t = says_private t
 said_by predicate_is hs t = of_first hs t (λ x. says_predicate (predicate_meant x) t)
 said_by (literal_is negative) hs t = of_first hs t (λ x. says_literal (number negative (text_of x)) t)
-said_by (truth_is b) hs t = says_width width.I1 (says_literal (truth b) t)
-said_by width_is hs t = of_first hs t (λ x. says_width (width_meant x) t)
-said_by (width_left_out w) hs t = says_width w t
-said_by result_is hs t = of_first hs t (λ x. says_result (width_meant x) t)
+said_by (truth_is b) hs t = says_type (Scalar width.I1) (says_literal (truth b) t)
+said_by type_is hs t = of_first hs t (λ x. says_type (type_meant x) t)
+said_by (width_left_out w) hs t = says_type (Scalar w) t
+said_by result_is hs t = of_first hs t (λ x. says_result (type_meant x) t)
 said_by unit_entry hs t = of_first hs t (λ x. says_entry (text_of x) no_value t)
 said_by (truth_entry b) hs t = of_first hs t (λ x. says_entry (text_of x) (truth_value b) t)
 said_by text_entry hs t = of_two hs t (λ x y. says_entry (text_of x) (text_value (text_of y)) t)
@@ -145,7 +144,6 @@ said_by (integer_entry negative w) hs t =
     of_two hs t (λ x y. says_entry (text_of x) (number_value negative (text_of y) w) t)
 said_by (typed_entry negative) hs t =
     of_three hs t (λ x y z. says_entry (text_of x) (number_value negative (text_of y) (width_meant z)) t)
-said_by tensor_type hs t = t
 said_by unread_rest hs t = t
 
 abbrev pub tell : Action → Saying → Saying
@@ -157,7 +155,7 @@ abbrev pub room : Action → Reading → Bool
 room argument_is h = nat_lt (length h.parts.args) most_entries
 room operand h = nat_lt (length h.parts.uses) most_entries
 room (truth_is b) h = nat_lt (length h.parts.types) most_entries
-room width_is h = nat_lt (length h.parts.types) most_entries
+room type_is h = nat_lt (length h.parts.types) most_entries
 room (width_left_out w) h = nat_lt (length h.parts.types) most_entries
 room result_is h = nat_lt (length h.parts.results) most_entries
 room unit_entry h = nat_lt (length h.parts.entries) most_entries
@@ -165,7 +163,6 @@ room (truth_entry b) h = nat_lt (length h.parts.entries) most_entries
 room text_entry h = nat_lt (length h.parts.entries) most_entries
 room (integer_entry negative w) h = nat_lt (length h.parts.entries) most_entries
 room (typed_entry negative) h = nat_lt (length h.parts.entries) most_entries
-room tensor_type h = false
 room unread_rest h = false
 room k h = true
 
@@ -173,7 +170,7 @@ abbrev pub space : Action → Saying → Bool
 space argument_is t = nat_lt (length t.said.args) most_entries
 space operand t = nat_lt (length t.said.uses) most_entries
 space (truth_is b) t = nat_lt (length t.said.types) most_entries
-space width_is t = nat_lt (length t.said.types) most_entries
+space type_is t = nat_lt (length t.said.types) most_entries
 space (width_left_out w) t = nat_lt (length t.said.types) most_entries
 space result_is t = nat_lt (length t.said.results) most_entries
 space unit_entry t = nat_lt (length t.said.entries) most_entries
@@ -181,13 +178,11 @@ space (truth_entry b) t = nat_lt (length t.said.entries) most_entries
 space text_entry t = nat_lt (length t.said.entries) most_entries
 space (integer_entry negative w) t = nat_lt (length t.said.entries) most_entries
 space (typed_entry negative) t = nat_lt (length t.said.entries) most_entries
-space tensor_type t = false
 space unread_rest t = false
 space k t = true
 
 -- what is due where there is no room
 abbrev pub full : Action → Expected
-full tensor_type = due.Type
 full unread_rest = due.OtherReader
 full k = due.ListEnd
 

@@ -23,4 +23,4 @@ terminator_slots = Dictionary ∷ Operands ∷ []
 
 -- func.call @name(%0) {..} : (i32) -> i32
 abbrev pub call_slots : List FormatElement
-call_slots = Symbol ∷ Mark false 40 ∷ Uses ∷ Dictionary ∷ Mark true 58 ∷ Mark true 40 ∷ Types ∷ CallResults ∷ []
+call_slots = Symbol ∷ Mark false 40 ∷ Uses 0 41 ∷ Dictionary ∷ Mark true 58 ∷ Mark true 40 ∷ Types ∷ CallResults ∷ []

@@ -1,6 +1,7 @@
 pub mod Actions
 pub mod Arith
 pub mod Builtin
+pub mod Columns
 pub mod Format
 pub mod Func
 pub mod Laws
@@ -12,6 +13,7 @@ pub mod Rules
 pub mod Scf
 pub mod Short
 pub mod Strings
+pub mod Tensor
 pub mod Tests
 pub mod Within
 pub mod Words

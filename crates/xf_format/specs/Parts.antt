@@ -4,7 +4,6 @@ use Rattle.std.specs.Prelude.{option_map}
 use Rattle.xf_lex.specs.declared.token.Token.{Token}
 use Rattle.xf_type.specs.declared.kind.CmpKind.{CmpKind}
 use Rattle.xf_type.specs.declared.payload_type.PayloadType.{PayloadType}
-use Rattle.xf_type.specs.declared.payload_type.PayloadType.TheVariants.{Scalar}
 use Rattle.xf_type.specs.declared.payload_type.Width.{Width}
 use Rattle.xf_grammar.specs.Tokens.{Terminal, the_end, terminal, terminal_at, digits_of, number_of}
 use Rattle.xf_format.specs.declared.parts.AttrEntry.{AttrEntry}
@@ -75,11 +74,11 @@ with_arg r h = record h { args = h.args ++ r ∷ [] }
 abbrev pub with_use : Use → Parts → Parts
 with_use r h = record h { uses = h.uses ++ r ∷ [] }
 
-abbrev pub with_width : Width → Parts → Parts
-with_width w h = record h { types = h.types ++ Scalar w ∷ [] }
+abbrev pub with_type : PayloadType → Parts → Parts
+with_type t h = record h { types = h.types ++ t ∷ [] }
 
-abbrev pub with_result : Width → Parts → Parts
-with_result w h = record h { results = h.results ++ Scalar w ∷ [] }
+abbrev pub with_result : PayloadType → Parts → Parts
+with_result t h = record h { results = h.results ++ t ∷ [] }
 
 -- ---- by bytes
 
@@ -192,11 +191,11 @@ says_arg b t = record t { args = t.args ++ b ∷ [] }
 abbrev pub says_use : List ℕ → Option ℕ → Said → Said
 says_use b i t = record t { uses = t.uses ++ (record { name = b; number = i }) ∷ [] }
 
-abbrev pub says_width : Width → Said → Said
-says_width w t = record t { types = t.types ++ Scalar w ∷ [] }
+abbrev pub says_type : PayloadType → Said → Said
+says_type u t = record t { types = t.types ++ u ∷ [] }
 
-abbrev pub says_result : Width → Said → Said
-says_result w t = record t { results = t.results ++ Scalar w ∷ [] }
+abbrev pub says_result : PayloadType → Said → Said
+says_result u t = record t { results = t.results ++ u ∷ [] }
 
 abbrev pub nothing_said : Said
 nothing_said = record {

@@ -13,11 +13,12 @@ use Rattle.xf_format.specs.Builtin as builtin
 use Rattle.xf_format.specs.Func as func
 use Rattle.xf_format.specs.Arith as arith
 use Rattle.xf_format.specs.Scf as scf
+use Rattle.xf_format.specs.Tensor as tensor
 use Rattle.xf_format.specs.Linalg as linalg
 
 -- each word of an operation, and its row
 abbrev pub words : List (List ℕ × Row)
-words = builtin.words ++ (func.words ++ (arith.words ++ (scf.words ++ linalg.words)))
+words = builtin.words ++ (func.words ++ (arith.words ++ (scf.words ++ (tensor.words ++ linalg.words))))
 
 abbrev pub slots : Row → List FormatElement
 slots row.Module = builtin.module_slots
@@ -32,6 +33,13 @@ slots (row.Convert k) = arith.convert_slots
 slots row.For = scf.for_slots
 slots row.If = scf.if_slots
 slots row.Yield = func.terminator_slots
+slots row.Empty = tensor.empty_slots
+slots row.Dim = tensor.dim_slots
+slots row.Extract = tensor.extract_slots
+slots row.Insert = tensor.insert_slots
+slots row.Cast = tensor.cast_slots
+slots (row.Named k) = linalg.named_slots
+slots row.LinalgYield = linalg.yield_slots
 slots row.Other = linalg.unread_slots
 slots row.Generic = linalg.unread_slots
 

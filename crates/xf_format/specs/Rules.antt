@@ -17,12 +17,12 @@ use Rattle.xf_format.specs.declared.row.FormatElement.TheVariants as slot
 use Rattle.xf_format.specs.declared.row.Level.{Level}
 use Rattle.xf_format.specs.declared.row.Level.TheVariants as level
 use Rattle.xf_format.specs.Actions.{Action, begins, defines, argument_is, operand, symbol_is, private_is, predicate_is}
-use Rattle.xf_format.specs.Actions.{literal_is, truth_is, width_is, width_left_out, result_is, unit_entry, truth_entry}
-use Rattle.xf_format.specs.Actions.{text_entry, integer_entry, typed_entry, tensor_type, unread_rest, Reading, free}
+use Rattle.xf_format.specs.Actions.{literal_is, truth_is, type_is, width_left_out, result_is, unit_entry, truth_entry}
+use Rattle.xf_format.specs.Actions.{text_entry, integer_entry, typed_entry, unread_rest, Reading, free}
 use Rattle.xf_format.specs.Actions.{Saying, add, tell, room, space, full}
 use Rattle.xf_format.specs.Tests.{Test, of_kind, of_word, short_symbol, short_word, short_text, an_index, a_width}
-use Rattle.xf_format.specs.Tests.{a_predicate, integer_for, width_for, an_operation, an_unread, a_result, passes}
-use Rattle.xf_format.specs.Tests.{allows, State, unread_text, step, close}
+use Rattle.xf_format.specs.Tests.{a_shape, a_predicate, integer_for, width_for, an_operation, an_unread, a_result}
+use Rattle.xf_format.specs.Tests.{passes, allows, State, unread_text, step, close}
 use Rattle.xf_format.specs.Words.{spelling}
 
 abbrev pub Rule : Type 0
@@ -100,26 +100,32 @@ use_rule gap =
 
 -- a word of a width, for which there has to be room
 unfoldable pub width_rule : Bool → Expected → Rule
-width_rule gap d = peek a_width (need width_is (take gap true a_width (act width_is) skip)) (refuse d)
+width_rule gap d = peek a_width (need type_is (take gap true a_width (act type_is) skip)) (refuse d)
 
--- tensor and its shape, which a later reader reads; another token goes on so
-abbrev pub tensor_or : Bool → Rule → Rule
-tensor_or gap off =
+-- tensor and its shape, of which an action makes a part
+abbrev pub tensor_for : Action → Bool → Rule
+tensor_for k gap =
     peek (of_word (codes "tensor"))
-    (need tensor_type (take gap false (of_word (codes "tensor"))
-    (take false true (of_kind kind.Shape) (act tensor_type) (refuse due.Other)) skip))
-    off
+    (need k (take gap false (of_word (codes "tensor"))
+    (take false true a_shape (act k) (peek (of_kind kind.Shape) (refuse due.Shape) (refuse due.Other))) skip))
+    (refuse due.Type)
+
+-- the word of a width, or a tensor type
+abbrev pub type_for : Action → Bool → Rule
+type_for k gap = peek a_width (need k (take gap true a_width (act k) skip)) (tensor_for k gap)
+
+unfoldable pub tensor_rule : Bool → Rule
+tensor_rule gap = tensor_for type_is gap
 
 unfoldable pub type_rule : Bool → Rule
-type_rule gap =
-    peek a_width (need width_is (take gap true a_width (act width_is) skip))
-    (tensor_or gap (refuse due.Type))
+type_rule gap = type_for type_is gap
 
--- a type of a result
+-- the same of a result
+unfoldable pub result_tensor_rule : Bool → Rule
+result_tensor_rule gap = tensor_for result_is gap
+
 unfoldable pub result_rule : Bool → Rule
-result_rule gap =
-    peek a_width (need result_is (take gap true a_width (act result_is) skip))
-    (tensor_or gap (refuse due.Type))
+result_rule gap = type_for result_is gap
 
 unfoldable pub predicate_rule : Rule
 predicate_rule = take true true a_predicate (act predicate_is) (refuse due.Other)
@@ -254,6 +260,26 @@ operands_rule =
     (both (kind_rule true due.Other colon) (listed (item_rule (item.Type true)))))
     skip
 
+-- operands : types )
+unfoldable pub typed_rule : Rule
+typed_rule =
+    both (listed (item_rule (item.Use false)))
+    (both (kind_rule true due.Other colon)
+    (both (listed (item_rule (item.Type true))) (kind_rule false due.Other close_paren)))
+
+-- ins ( operands : types )
+unfoldable pub ins_rule : Rule
+ins_rule = both (word_rule (codes "ins")) (both (kind_rule false due.Other open_paren) typed_rule)
+
+-- outs ( operand : type )
+unfoldable pub outs_rule : Rule
+outs_rule =
+    both (silent true (of_word (codes "outs")) due.Outs)
+    (both (kind_rule false due.Other open_paren)
+    (both (peek (of_kind kind.Value) (use_rule false) (refuse due.OutsOperand))
+    (both (kind_rule true due.AfterOut colon)
+    (both (type_rule true) (kind_rule false due.Other close_paren)))))
+
 -- optional iter_args ( pairs ) -> ( types )
 unfoldable pub iter_args_rule : Rule
 iter_args_rule =
@@ -283,7 +309,15 @@ slot_rule slot.Predicate = predicate_rule
 slot_rule slot.Argument = argument_rule true
 slot_rule (slot.Use i) = use_rule true
 slot_rule (slot.Width i) = width_rule true due.ArithWidth
-slot_rule slot.Uses = enclosed_rule (item.Use false) due.Other
+slot_rule (slot.Uses k b) = until_rule (kind.Mark b) due.Other (item.Use false)
+slot_rule (slot.TypeOf i) = type_rule true
+slot_rule (slot.TensorOf i) = tensor_rule true
+slot_rule (slot.WidthOf i) = width_rule true due.Width
+slot_rule slot.ResultType = result_rule true
+slot_rule slot.ResultTensor = result_tensor_rule true
+slot_rule slot.Arrow = kind_rule true due.Other kind.Arrow
+slot_rule slot.Ins = ins_rule
+slot_rule slot.Outs = outs_rule
 slot_rule slot.Types = enclosed_rule (item.Type false) due.Other
 slot_rule slot.Params = enclosed_rule item.Param due.AfterArgument
 slot_rule slot.Operands = operands_rule

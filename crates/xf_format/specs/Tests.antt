@@ -14,7 +14,7 @@ use Rattle.xf_format.specs.Actions.{Action, Reading, Saying}
 use Rattle.xf_format.specs.Parts.{text_of}
 use Rattle.xf_format.specs.Rows.{has_operations}
 use Rattle.xf_format.specs.Strings.{decoded}
-use Rattle.xf_format.specs.Words.{is_width, width_meant, is_predicate, row_begun, opens, opens_unread}
+use Rattle.xf_format.specs.Words.{is_width, width_meant, is_shape, is_predicate, row_begun, opens, opens_unread}
 
 pub data Test : Type 0 where
   of_kind : (k : TokenKind) → Test
@@ -26,6 +26,8 @@ pub data Test : Type 0 where
   -- a # and digits
   an_index : Test
   a_width : Test
+  -- the shape of a tensor type
+  a_shape : Test
   a_predicate : Test
   -- an integer for which a width has room, and a width that has room for the integer that is held second
   integer_for : (negative : Bool) (w : Width) → Test
@@ -70,6 +72,7 @@ tested short_word x hs = is_name x
 tested short_text x hs = is_string x
 tested an_index x hs = is_index x
 tested a_width x hs = is_width x
+tested a_shape x hs = is_shape x
 tested a_predicate x hs = is_predicate x
 tested (integer_for negative w) x hs = is_kind kind.Integer x && room_for w negative x
 tested (width_for negative) x hs = is_width x && room_for (width_meant x) negative (second_of hs)

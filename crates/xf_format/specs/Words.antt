@@ -1,7 +1,9 @@
 -- What tokens mean by their bytes: the words of operations, types and predicates, and shapes.
-use Rattle.std.specs.Prelude.{ℕ, List, Option, Some, None, Bool, false, ◌&&◌, not, codes, is_some}
+use Rattle.std.specs.Prelude.{ℕ, List, [], Option, Some, None, Bool, false, ◌&&◌, not, codes, is_some}
 use Rattle.xf_type.specs.declared.kind.CmpKind.{CmpKind}
 use Rattle.xf_type.specs.declared.kind.CmpKind.TheVariants as cmp
+use Rattle.xf_type.specs.declared.payload_type.PayloadType.{PayloadType}
+use Rattle.xf_type.specs.declared.payload_type.PayloadType.TheVariants.{Scalar, Tensor}
 use Rattle.xf_type.specs.declared.payload_type.Shape.{Shape}
 use Rattle.xf_type.specs.declared.payload_type.Width.{Width}
 use Rattle.xf_type.specs.declared.payload_type.Width.TheVariants as width
@@ -23,8 +25,9 @@ predicates = spelt predicate_spelling all_predicates
 abbrev pub spelling : Keyword → List ℕ
 spelling key.To = codes "to"
 spelling key.Step = codes "step"
+spelling key.Into = codes "into"
 
--- ---- the width, the tensor type and the predicate that a token means
+-- ---- the width, the type and the predicate that a token means
 
 abbrev pub is_width : Terminal → Bool
 is_width x = is_some (lookup widths (word_of x))
@@ -42,6 +45,18 @@ shape_meant x = None
 
 abbrev pub is_shape : Terminal → Bool
 is_shape x = is_some (shape_meant x)
+
+abbrev pub the_shape : Option Shape → Shape
+the_shape (Some s) = s
+the_shape None = record { dims = []; elem = width.Index }
+
+-- a type by the word of its width, or else by the shape behind the word tensor
+abbrev pub type_by : Option Width → Option Shape → PayloadType
+type_by (Some w) s = Scalar w
+type_by None s = Tensor (the_shape s)
+
+abbrev pub type_meant : Terminal → PayloadType
+type_meant x = type_by (lookup widths (word_of x)) (shape_meant x)
 
 abbrev pub is_predicate : Terminal → Bool
 is_predicate x = is_some (lookup predicates (word_of x))

@@ -14,12 +14,14 @@ pub enum Expected {
     Function,
     /// An operation of a body: where none begins in one, or behind the names of results.
     Operation,
-    /// What is read here, and what a later reader reads stands there: at the word of an operation of
-    /// `tensor` or `linalg`, or at a `dense` literal.
+    /// What is read here, and what a later reader reads stands there: at the word of an operation on
+    /// slices, of `linalg.generic`, or at a `dense` literal.
     OtherReader,
-    /// A type: where neither a width nor a tensor type stands. A tensor type is refused at its word, as
-    /// none has room yet.
+    /// A type: where neither a width nor a tensor type stands.
     Type,
+    /// A shape that writes a tensor type: at a shape token that writes none. Where no shape stands behind `tensor`,
+    /// it is `Other`.
+    Shape,
     /// The width of an integer: behind the `:` of a constant, of an attribute's number or of a loop.
     Width,
     /// The width of an `arith` operation other than a constant: behind a `:` or the word `to`.
@@ -35,6 +37,12 @@ pub enum Expected {
     AfterArgument,
     /// `,` or `)`: behind one of several result types of a function.
     AfterResult,
+    /// `outs`: behind the word or the `ins` of an operation of `linalg`.
+    Outs,
+    /// The operand of `outs`: behind its `(`.
+    OutsOperand,
+    /// `:`: behind the operand of `outs`.
+    AfterOut,
     /// The brace that opens the body of a function, or the result types or attributes before it.
     FunctionBody,
     /// The end of a list that has 2^32 - 1 items or of a text that has 1000000 operations, at the first

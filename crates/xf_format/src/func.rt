@@ -21,7 +21,7 @@ pub const TERMINATOR: [FormatElement; 2] = [FormatElement::Dictionary, FormatEle
 pub const CALL: [FormatElement; 8] = [
     FormatElement::Symbol,
     FormatElement::Mark(false, b'('),
-    FormatElement::Uses,
+    FormatElement::Uses(0, b')'),
     FormatElement::Dictionary,
     FormatElement::Mark(true, b':'),
     FormatElement::Mark(true, b'('),

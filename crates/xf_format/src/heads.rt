@@ -102,7 +102,7 @@ pub fn head_at(
     let mut parts = Parts::new(alloc, Row::Module);
     let next = begin_at(tokens, level, &mut parts, at)?;
     let slots = row_slots(parts.row);
-    let next = slots_at(tokens, slots, &mut parts, next)?;
+    let next = slots_at(alloc, tokens, slots, &mut parts, next)?;
     Ok((parts, next))
 }
 

@@ -4,6 +4,7 @@
 
 mod arith;
 mod builtin;
+mod columns;
 mod dictionary;
 mod expected;
 mod func;
@@ -18,8 +19,13 @@ mod row;
 mod scf;
 mod single;
 mod slot;
+mod tensor;
 mod word;
 
+pub use columns::{
+    ArgumentTypes, OperandCount, OperandTypes, ResultTypes, is_counted, operand_type, types_given,
+    types_taken,
+};
 pub use dictionary::has_room;
 pub use expected::{Expected, Stopped};
 pub use heads::{due_at, due_before, head_at, may_end_open};

@@ -1,11 +1,29 @@
-//! The rows of tensor and linalg, as they are printed.
+//! The rows of linalg, as they are printed.
 ghost use Rattle.std.specs.Prelude.{◌≡◌};
 ghost use Rattle.xf_format.specs.Words.{lookup};
 ghost use Rattle.xf_format.specs.Linalg.{words};
 
 use crate::row::{FormatElement, Row};
+use xf_ir::NamedKind;
 
-/// What stands behind the word of an operation, up to the brace of its body.
+/// `linalg.matmul {..} ins(%0, %1 : type, type) outs(%2 : type) -> type`
+pub const NAMED: [FormatElement; 5] = [
+    FormatElement::Dictionary,
+    FormatElement::Ins,
+    FormatElement::Outs,
+    FormatElement::Arrow,
+    FormatElement::ResultType,
+];
+
+/// `linalg.yield {..} %0 : i32`
+pub const YIELD: [FormatElement; 4] = [
+    FormatElement::Dictionary,
+    FormatElement::Use(0),
+    FormatElement::Mark(true, b':'),
+    FormatElement::WidthOf(0),
+];
+
+/// What stands behind the word of an operation that is not read yet, up to the brace of its body.
 pub const UNREAD: [FormatElement; 1] = [FormatElement::Unread];
 
 /// `^bb0(%arg0: i32):`
@@ -23,32 +41,18 @@ pub const TAIL: [FormatElement; 1] = [FormatElement::CallResults];
 pub fn row_of(word: &[u8]) -> Option<Row>
     ensures { result ≡ lookup words word.now }
 {
-    if word == b"tensor.empty".as_slice() {
-        Some(Row::Other)
-    } else if word == b"tensor.dim".as_slice() {
-        Some(Row::Other)
-    } else if word == b"tensor.extract".as_slice() {
-        Some(Row::Other)
-    } else if word == b"tensor.insert".as_slice() {
-        Some(Row::Other)
-    } else if word == b"tensor.extract_slice".as_slice() {
-        Some(Row::Other)
-    } else if word == b"tensor.insert_slice".as_slice() {
-        Some(Row::Other)
-    } else if word == b"tensor.cast".as_slice() {
-        Some(Row::Other)
-    } else if word == b"linalg.matmul".as_slice() {
-        Some(Row::Other)
+    if word == b"linalg.matmul".as_slice() {
+        Some(Row::Named(NamedKind::Matmul))
     } else if word == b"linalg.batch_matmul".as_slice() {
-        Some(Row::Other)
+        Some(Row::Named(NamedKind::BatchMatmul))
     } else if word == b"linalg.matvec".as_slice() {
-        Some(Row::Other)
+        Some(Row::Named(NamedKind::Matvec))
     } else if word == b"linalg.dot".as_slice() {
-        Some(Row::Other)
+        Some(Row::Named(NamedKind::Dot))
     } else if word == b"linalg.fill".as_slice() {
-        Some(Row::Other)
+        Some(Row::Named(NamedKind::Fill))
     } else if word == b"linalg.yield".as_slice() {
-        Some(Row::Other)
+        Some(Row::LinalgYield)
     } else if word == b"linalg.generic".as_slice() {
         Some(Row::Generic)
     } else {

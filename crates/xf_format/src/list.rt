@@ -9,6 +9,7 @@ use crate::dictionary::entry_at;
 use crate::expected::{Expected, Stopped};
 use crate::parts::{MOST_ENTRIES, Parts};
 use crate::single::{argument_at, expects, result_at, type_at, use_at};
+use std::alloc::Global;
 use xf_grammar::looks;
 use xf_lex::{Token, TokenKind};
 
@@ -31,13 +32,13 @@ pub enum Item {
 
 /// A block argument with its type.
 #[tactic(auto, unfolding(crate::specs::Rules::param_rule))]
-fn param_at(tokens: &[Token], parts: &mut Parts, at: usize) -> Result<usize, Stopped>
+fn param_at(alloc: Global, tokens: &[Token], parts: &mut Parts, at: usize) -> Result<usize, Stopped>
     ensures gives { Gives (λ n. (free parts.new, n)) result (by param_rule tokens.now parts.old at) }
     ensures within { IfOk result (λ n. (at ≤ n) × (n ≤ length tokens.now)) }
 {
     let at = argument_at(tokens, parts, at)?;
     let at = expects(tokens, TokenKind::Mark(b':'), Expected::Other, parts, at)?;
-    type_at(tokens, parts, at)
+    type_at(alloc, tokens, parts, at)
 }
 
 /// A block argument and an operand, with `=` between them.
@@ -58,28 +59,40 @@ fn pair_at(tokens: &[Token], parts: &mut Parts, at: usize) -> Result<usize, Stop
 }
 
 /// An item.
-fn item_at(tokens: &[Token], item: Item, parts: &mut Parts, at: usize) -> Result<usize, Stopped>
+fn item_at(
+    alloc: Global,
+    tokens: &[Token],
+    item: Item,
+    parts: &mut Parts,
+    at: usize,
+) -> Result<usize, Stopped>
     ensures gives { Gives (λ n. (free parts.new, n)) result (by (item_rule item) tokens.now parts.old at) }
     ensures within { IfOk result (λ n. (at ≤ n) × (n ≤ length tokens.now)) }
 {
     match item {
         Item::Use(_) => use_at(tokens, parts, at),
-        Item::Type(_) => type_at(tokens, parts, at),
-        Item::Result => result_at(tokens, parts, at),
-        Item::Param => param_at(tokens, parts, at),
+        Item::Type(_) => type_at(alloc, tokens, parts, at),
+        Item::Result => result_at(alloc, tokens, parts, at),
+        Item::Param => param_at(alloc, tokens, parts, at),
         Item::Pair => pair_at(tokens, parts, at),
         Item::Entry => entry_at(tokens, parts, at),
     }
 }
 
 /// One item or several, with commas between them.
-pub fn list_at(tokens: &[Token], item: Item, parts: &mut Parts, at: usize) -> Result<usize, Stopped>
+pub fn list_at(
+    alloc: Global,
+    tokens: &[Token],
+    item: Item,
+    parts: &mut Parts,
+    at: usize,
+) -> Result<usize, Stopped>
     ensures gives { Gives (λ n. (free parts.new, n)) result (by (listed (item_rule item)) tokens.now parts.old at) }
     ensures within { IfOk result (λ n. (at ≤ n) × (n ≤ length tokens.now)) }
 {
-    let mut at = item_at(tokens, item, parts, at)?;
+    let mut at = item_at(alloc, tokens, item, parts, at)?;
     'list: while looks(tokens, at, TokenKind::Mark(b',')) {
-        at = item_at(tokens, item, parts, at + 1)?;
+        at = item_at(alloc, tokens, item, parts, at + 1)?;
     }
     Ok(at)
 }
@@ -87,6 +100,7 @@ pub fn list_at(tokens: &[Token], item: Item, parts: &mut Parts, at: usize) -> Re
 /// Items, possibly none, and the token that ends them. `due` is due behind an item.
 #[tactic(auto, unfolding(crate::specs::Rules::until_rule))]
 pub fn list_until(
+    alloc: Global,
     tokens: &[Token],
     item: Item,
     close: TokenKind,
@@ -100,6 +114,6 @@ pub fn list_until(
     if looks(tokens, at, close) {
         return Ok(at + 1);
     }
-    let at = list_at(tokens, item, parts, at)?;
+    let at = list_at(alloc, tokens, item, parts, at)?;
     expects(tokens, close, due, parts, at)
 }

@@ -4,7 +4,8 @@ ghost use Rattle.xf_format.specs.Rows.{slots, bodies, header, tail, stands, is_u
 ghost use Rattle.xf_format.specs.Rows.{behind, is_yield};
 ghost use Rattle.xf_format.specs.Words.{spelling};
 
-use crate::{arith, builtin, func, linalg, scf};
+use crate::{arith, builtin, func, linalg, scf, tensor};
+use xf_ir::NamedKind;
 use xf_type::{BinKind, ConvKind};
 
 /// An operation by its first word.
@@ -34,7 +35,21 @@ pub enum Row {
     If,
     /// `scf.yield`
     Yield,
-    /// An operation of `tensor` or `linalg` without a body, which is not read yet.
+    /// `tensor.empty`
+    Empty,
+    /// `tensor.dim`
+    Dim,
+    /// `tensor.extract`
+    Extract,
+    /// `tensor.insert`
+    Insert,
+    /// `tensor.cast`
+    Cast,
+    /// An operation of `linalg` with a name.
+    Named(NamedKind),
+    /// `linalg.yield`
+    LinalgYield,
+    /// An operation on slices of tensors, which is not read yet.
     Other,
     /// `linalg.generic`, which is not read yet.
     Generic,
@@ -45,6 +60,7 @@ pub enum Row {
 pub enum Keyword {
     To,
     Step,
+    Into,
 }
 
 impl Keyword {
@@ -55,6 +71,7 @@ impl Keyword {
         match self {
             Keyword::To => b"to",
             Keyword::Step => b"step",
+            Keyword::Into => b"into",
         }
     }
 }
@@ -89,8 +106,25 @@ pub enum FormatElement {
     Use(u8),
     /// One width of an `arith` operation, among its types; the number says which, from 0 on.
     Width(u8),
-    /// Operands, possibly none, and the `)` behind them. The `(` is a mark of its own, here and below.
-    Uses,
+    /// The operands from this one on, possibly none, and the mark of this byte behind them, as `)`. The `(` or `[`
+    /// before them is a mark of its own, here and below.
+    Uses(u8, u8),
+    /// The type of the operand with this number, from 0 on.
+    TypeOf(u8),
+    /// The type of this operand, which is a tensor type.
+    TensorOf(u8),
+    /// The type of this operand, which is a width.
+    WidthOf(u8),
+    /// The type of the result.
+    ResultType,
+    /// The type of the result, which is a tensor type.
+    ResultTensor,
+    /// `->`. It is no part.
+    Arrow,
+    /// `ins` with the operands but for the last and their types in parentheses.
+    Ins,
+    /// `outs` with the last operand and its type in parentheses.
+    Outs,
     /// Types of operands, possibly none, and the `)` behind them.
     Types,
     /// Arguments with their types, `%n: type`, possibly none, and the `)` behind them.
@@ -141,6 +175,13 @@ pub fn row_slots(row: Row) -> &'static [FormatElement]
         Row::Convert(_) => &arith::CONVERT,
         Row::For => &scf::FOR,
         Row::If => &scf::IF,
+        Row::Empty => &tensor::EMPTY,
+        Row::Dim => &tensor::DIM,
+        Row::Extract => &tensor::EXTRACT,
+        Row::Insert => &tensor::INSERT,
+        Row::Cast => &tensor::CAST,
+        Row::Named(_) => &linalg::NAMED,
+        Row::LinalgYield => &linalg::YIELD,
         Row::Other | Row::Generic => &linalg::UNREAD,
     }
 }

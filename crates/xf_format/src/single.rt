@@ -1,21 +1,23 @@
 //! Parts of one token or two.
-ghost use Rattle.std.specs.Prelude.{◌≡◌, ◌≤◌, length, Bool, IfOk};
+ghost use Rattle.std.specs.Prelude.{◌≡◌, ◌<◌, ◌≤◌, length, Bool, IfOk};
+ghost use Rattle.xf_grammar.specs.Tokens.{terminal_at};
 ghost use Rattle.xf_format.specs.Actions.{free};
 ghost use Rattle.xf_format.specs.Parts.{count_at};
-ghost use Rattle.xf_format.specs.Reading.{Gives};
+ghost use Rattle.xf_format.specs.Reading.{Gives, ShapeTold};
 ghost use Rattle.xf_format.specs.Rules.{by, argument_rule, block_name_rule, function_name_rule, kind_rule};
-ghost use Rattle.xf_format.specs.Rules.{module_name_rule, predicate_rule, result_rule, symbol_rule, type_rule};
-ghost use Rattle.xf_format.specs.Rules.{use_rule, width_rule, word_rule};
+ghost use Rattle.xf_format.specs.Rules.{module_name_rule, predicate_rule, result_rule, result_tensor_rule};
+ghost use Rattle.xf_format.specs.Rules.{symbol_rule, tensor_rule, type_rule, use_rule, width_rule, word_rule};
 ghost use Rattle.xf_format.specs.declared.expected.Expected.TheVariants as due;
 
 use crate::expected::{Expected, Stopped};
 use crate::names::is_symbol;
 use crate::parts::{MOST_ENTRIES, Parts, Ref, Use};
 use crate::word::predicate_of;
+use std::alloc::Global;
 use xf_grammar::{is_index_at, looks, number_at, says, word_at};
 use xf_lex::{Token, TokenKind};
-use xf_shape::width_of;
-use xf_type::PayloadType;
+use xf_shape::{shape_of, width_of};
+use xf_type::{PayloadType, Shape};
 
 /// A token of this kind, which is due.
 #[tactic(auto, unfolding(crate::specs::Rules::kind_rule))]
@@ -184,9 +186,56 @@ pub fn width_at(
     }
 }
 
-/// A type. A tensor type is not read yet.
-#[tactic(auto, unfolding(crate::specs::Rules::type_rule))]
-pub fn type_at(tokens: &[Token], parts: &mut Parts, at: usize) -> Result<usize, Stopped>
+/// The tensor type that a shape token writes, where one is due.
+fn shape_at(alloc: Global, tokens: &[Token], at: usize) -> Result<Shape, Stopped>
+    ensures told { ShapeTold (terminal_at tokens.now at) at result }
+    ensures within { IfOk result (λ s. at < length tokens.now) }
+{
+    if at >= tokens.len() {
+        return Err(Stopped::At(at, Expected::Other));
+    }
+    let token = &tokens[at];
+    match token.kind {
+        TokenKind::Shape => match shape_of(alloc, token.bytes.as_slice())? {
+            Some(shape) => Ok(shape),
+            None => Err(Stopped::At(at, Expected::Shape)),
+        },
+        _ => Err(Stopped::At(at, Expected::Other)),
+    }
+}
+
+/// A tensor type.
+#[tactic(auto, unfolding(crate::specs::Rules::tensor_rule))]
+pub fn tensor_at(
+    alloc: Global,
+    tokens: &[Token],
+    parts: &mut Parts,
+    at: usize,
+) -> Result<usize, Stopped>
+    ensures gives { (gap : Bool) → Gives (λ n. (free parts.new, n))
+        result (by (tensor_rule gap) tokens.now parts.old at) }
+    ensures within { IfOk result (λ n. (at ≤ n) × (n ≤ length tokens.now)) }
+{
+    if !says(tokens, at, b"tensor") {
+        return Err(Stopped::At(at, Expected::Type));
+    }
+    if parts.types.len() >= MOST_ENTRIES {
+        return Err(Stopped::At(at, Expected::ListEnd));
+    }
+    let next = at + 1;
+    let shape = shape_at(alloc, tokens, next)?;
+    parts.types.push(PayloadType::Tensor(shape))?;
+    Ok(next + 1)
+}
+
+/// A type.
+#[tactic(auto, unfolding(crate::specs::Rules::type_rule, crate::specs::Rules::tensor_rule))]
+pub fn type_at(
+    alloc: Global,
+    tokens: &[Token],
+    parts: &mut Parts,
+    at: usize,
+) -> Result<usize, Stopped>
     ensures gives { (gap : Bool) → Gives (λ n. (free parts.new, n))
         result (by (type_rule gap) tokens.now parts.old at) }
     ensures within { IfOk result (λ n. (at ≤ n) × (n ≤ length tokens.now)) }
@@ -199,13 +248,42 @@ pub fn type_at(tokens: &[Token], parts: &mut Parts, at: usize) -> Result<usize, 
             parts.types.push(PayloadType::Scalar(width))?;
             Ok(at + 1)
         }
-        None => Err(Stopped::At(at, Expected::Type)),
+        None => tensor_at(alloc, tokens, parts, at),
     }
 }
 
-/// A type of a result. A tensor type is not read yet.
-#[tactic(auto, unfolding(crate::specs::Rules::result_rule))]
-pub fn result_at(tokens: &[Token], parts: &mut Parts, at: usize) -> Result<usize, Stopped>
+/// A tensor type of a result.
+#[tactic(auto, unfolding(crate::specs::Rules::result_tensor_rule))]
+pub fn result_tensor_at(
+    alloc: Global,
+    tokens: &[Token],
+    parts: &mut Parts,
+    at: usize,
+) -> Result<usize, Stopped>
+    ensures gives { (gap : Bool) → Gives (λ n. (free parts.new, n))
+        result (by (result_tensor_rule gap) tokens.now parts.old at) }
+    ensures within { IfOk result (λ n. (at ≤ n) × (n ≤ length tokens.now)) }
+{
+    if !says(tokens, at, b"tensor") {
+        return Err(Stopped::At(at, Expected::Type));
+    }
+    if parts.results.len() >= MOST_ENTRIES {
+        return Err(Stopped::At(at, Expected::ListEnd));
+    }
+    let next = at + 1;
+    let shape = shape_at(alloc, tokens, next)?;
+    parts.results.push(PayloadType::Tensor(shape))?;
+    Ok(next + 1)
+}
+
+/// A type of a result.
+#[tactic(auto, unfolding(crate::specs::Rules::result_rule, crate::specs::Rules::result_tensor_rule))]
+pub fn result_at(
+    alloc: Global,
+    tokens: &[Token],
+    parts: &mut Parts,
+    at: usize,
+) -> Result<usize, Stopped>
     ensures gives { (gap : Bool) → Gives (λ n. (free parts.new, n))
         result (by (result_rule gap) tokens.now parts.old at) }
     ensures within { IfOk result (λ n. (at ≤ n) × (n ≤ length tokens.now)) }
@@ -218,7 +296,7 @@ pub fn result_at(tokens: &[Token], parts: &mut Parts, at: usize) -> Result<usize
             parts.results.push(PayloadType::Scalar(width))?;
             Ok(at + 1)
         }
-        None => Err(Stopped::At(at, Expected::Type)),
+        None => result_tensor_at(alloc, tokens, parts, at),
     }
 }
 

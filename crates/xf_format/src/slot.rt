@@ -1,14 +1,15 @@
 //! The slots of a row.
 ghost use Rattle.std.specs.Prelude.{◌≡◌, ◌≤◌, length, Bool, IfOk, OnOk};
+ghost use Rattle.xf_type.specs.declared.payload_type.PayloadType.TheVariants.{Scalar};
 ghost use Rattle.xf_type.specs.declared.payload_type.Width.TheVariants as width;
 ghost use Rattle.xf_format.specs.declared.parts.Literal.TheVariants as literal;
 ghost use Rattle.xf_format.specs.Actions.{free};
-ghost use Rattle.xf_format.specs.Parts.{with_width, with_literal};
+ghost use Rattle.xf_format.specs.Parts.{with_type, with_literal};
 ghost use Rattle.xf_format.specs.Reading.{Gives};
 ghost use Rattle.xf_format.specs.Rules.{by, attributes_rule, call_results_rule, dictionary_rule, enclosed_rule};
 ghost use Rattle.xf_format.specs.Rules.{function_results_rule, if_results_rule, iter_args_rule, listed_results_rule};
 ghost use Rattle.xf_format.specs.Rules.{literal_rule, loop_width_rule, number_rule, operands_rule, result_types_rule};
-ghost use Rattle.xf_format.specs.Rules.{slot_rule, slots_rule};
+ghost use Rattle.xf_format.specs.Rules.{slot_rule, slots_rule, typed_rule, ins_rule, outs_rule};
 
 use crate::expected::{Expected, Stopped};
 use crate::list::{Item, list_at, list_until};
@@ -16,8 +17,9 @@ use crate::parts::{Literal, MOST_ENTRIES, Parts};
 use crate::row::FormatElement;
 use crate::single::{
     argument_at, block_name_at, expects, function_name_at, module_name_at, predicate_at, result_at,
-    symbol_at, use_at, width_at, word_is,
+    result_tensor_at, symbol_at, tensor_at, type_at, use_at, width_at, word_is,
 };
+use std::alloc::Global;
 use xf_grammar::{looks, says};
 use xf_lex::{Token, TokenKind};
 use xf_type::{NoMemory, PayloadType, Width};
@@ -54,7 +56,7 @@ fn number_is(
 
 /// Sets the literal to a truth value, with its width.
 fn add_truth(parts: &mut Parts, truth: bool) -> Result<(), NoMemory>
-    ensures { OnOk result (parts.new ≡ with_width width.I1 (with_literal (literal.Truth truth) parts.old)) }
+    ensures { OnOk result (parts.new ≡ with_type (Scalar width.I1) (with_literal (literal.Truth truth) parts.old)) }
 {
     parts.literal = Some(Literal::Truth(truth));
     parts.types.push(PayloadType::Scalar(Width::I1))?;
@@ -92,13 +94,19 @@ fn literal_at(tokens: &[Token], parts: &mut Parts, at: usize) -> Result<usize, S
 
 /// Discardable attributes, which may be left out.
 #[tactic(auto, unfolding(crate::specs::Rules::dictionary_rule))]
-pub fn dictionary_at(tokens: &[Token], parts: &mut Parts, at: usize) -> Result<usize, Stopped>
+pub fn dictionary_at(
+    alloc: Global,
+    tokens: &[Token],
+    parts: &mut Parts,
+    at: usize,
+) -> Result<usize, Stopped>
     requires { at ≤ length tokens.now }
     ensures gives { Gives (λ n. (free parts.new, n)) result (by dictionary_rule tokens.now parts.old at) }
     ensures within { IfOk result (λ n. (at ≤ n) × (n ≤ length tokens.now)) }
 {
     if looks(tokens, at, TokenKind::Mark(b'{')) {
         list_until(
+            alloc,
             tokens,
             Item::Entry,
             TokenKind::Mark(b'}'),
@@ -113,7 +121,12 @@ pub fn dictionary_at(tokens: &[Token], parts: &mut Parts, at: usize) -> Result<u
 
 /// `attributes` and discardable attributes, which may be left out.
 #[tactic(auto, unfolding(crate::specs::Rules::attributes_rule))]
-fn attributes_at(tokens: &[Token], parts: &mut Parts, at: usize) -> Result<usize, Stopped>
+fn attributes_at(
+    alloc: Global,
+    tokens: &[Token],
+    parts: &mut Parts,
+    at: usize,
+) -> Result<usize, Stopped>
     requires { at ≤ length tokens.now }
     ensures gives { Gives (λ n. (free parts.new, n)) result (by attributes_rule tokens.now parts.old at) }
     ensures within { IfOk result (λ n. (at ≤ n) × (n ≤ length tokens.now)) }
@@ -129,6 +142,7 @@ fn attributes_at(tokens: &[Token], parts: &mut Parts, at: usize) -> Result<usize
         at + 1,
     )?;
     list_until(
+        alloc,
         tokens,
         Item::Entry,
         TokenKind::Mark(b'}'),
@@ -140,6 +154,7 @@ fn attributes_at(tokens: &[Token], parts: &mut Parts, at: usize) -> Result<usize
 
 /// Items up to a `)`. `due` is due behind an item.
 fn enclosed(
+    alloc: Global,
     tokens: &[Token],
     item: Item,
     due: Expected,
@@ -149,12 +164,13 @@ fn enclosed(
     ensures gives { Gives (λ n. (free parts.new, n)) result (by (enclosed_rule item due) tokens.now parts.old at) }
     ensures within { IfOk result (λ n. (at ≤ n) × (n ≤ length tokens.now)) }
 {
-    list_until(tokens, item, TokenKind::Mark(b')'), due, parts, at)
+    list_until(alloc, tokens, item, TokenKind::Mark(b')'), due, parts, at)
 }
 
 /// One result type, or result types in parentheses. `due` is due behind one of those.
 #[tactic(auto, unfolding(crate::specs::Rules::result_types_rule))]
 fn result_types_at(
+    alloc: Global,
     tokens: &[Token],
     due: Expected,
     parts: &mut Parts,
@@ -164,31 +180,41 @@ fn result_types_at(
     ensures within { IfOk result (λ n. (at ≤ n) × (n ≤ length tokens.now)) }
 {
     if looks(tokens, at, TokenKind::Mark(b'(')) {
-        enclosed(tokens, Item::Result, due, parts, at + 1)
+        enclosed(alloc, tokens, Item::Result, due, parts, at + 1)
     } else {
-        result_at(tokens, parts, at)
+        result_at(alloc, tokens, parts, at)
     }
 }
 
 /// `->` and the result types of a call.
 #[tactic(auto, unfolding(crate::specs::Rules::call_results_rule))]
-fn call_results_at(tokens: &[Token], parts: &mut Parts, at: usize) -> Result<usize, Stopped>
+fn call_results_at(
+    alloc: Global,
+    tokens: &[Token],
+    parts: &mut Parts,
+    at: usize,
+) -> Result<usize, Stopped>
     ensures gives { Gives (λ n. (free parts.new, n)) result (by call_results_rule tokens.now parts.old at) }
     ensures within { IfOk result (λ n. (at ≤ n) × (n ≤ length tokens.now)) }
 {
     let at = expects(tokens, TokenKind::Arrow, Expected::Other, parts, at)?;
-    result_types_at(tokens, Expected::Other, parts, at)
+    result_types_at(alloc, tokens, Expected::Other, parts, at)
 }
 
 /// `->` and the result types of a function, which may be left out.
 #[tactic(auto, unfolding(crate::specs::Rules::function_results_rule))]
-fn function_results_at(tokens: &[Token], parts: &mut Parts, at: usize) -> Result<usize, Stopped>
+fn function_results_at(
+    alloc: Global,
+    tokens: &[Token],
+    parts: &mut Parts,
+    at: usize,
+) -> Result<usize, Stopped>
     requires { at ≤ length tokens.now }
     ensures gives { Gives (λ n. (free parts.new, n)) result (by function_results_rule tokens.now parts.old at) }
     ensures within { IfOk result (λ n. (at ≤ n) × (n ≤ length tokens.now)) }
 {
     if looks(tokens, at, TokenKind::Arrow) {
-        result_types_at(tokens, Expected::AfterResult, parts, at + 1)
+        result_types_at(alloc, tokens, Expected::AfterResult, parts, at + 1)
     } else {
         Ok(at)
     }
@@ -196,23 +222,33 @@ fn function_results_at(tokens: &[Token], parts: &mut Parts, at: usize) -> Result
 
 /// Result types in parentheses.
 #[tactic(auto, unfolding(crate::specs::Rules::listed_results_rule))]
-fn listed_results_at(tokens: &[Token], parts: &mut Parts, at: usize) -> Result<usize, Stopped>
+fn listed_results_at(
+    alloc: Global,
+    tokens: &[Token],
+    parts: &mut Parts,
+    at: usize,
+) -> Result<usize, Stopped>
     ensures gives { Gives (λ n. (free parts.new, n)) result (by listed_results_rule tokens.now parts.old at) }
     ensures within { IfOk result (λ n. (at ≤ n) × (n ≤ length tokens.now)) }
 {
     let at = expects(tokens, TokenKind::Mark(b'('), Expected::Other, parts, at)?;
-    enclosed(tokens, Item::Result, Expected::Other, parts, at)
+    enclosed(alloc, tokens, Item::Result, Expected::Other, parts, at)
 }
 
 /// `->` and result types in parentheses, which may be left out.
 #[tactic(auto, unfolding(crate::specs::Rules::if_results_rule))]
-fn if_results_at(tokens: &[Token], parts: &mut Parts, at: usize) -> Result<usize, Stopped>
+fn if_results_at(
+    alloc: Global,
+    tokens: &[Token],
+    parts: &mut Parts,
+    at: usize,
+) -> Result<usize, Stopped>
     requires { at ≤ length tokens.now }
     ensures gives { Gives (λ n. (free parts.new, n)) result (by if_results_rule tokens.now parts.old at) }
     ensures within { IfOk result (λ n. (at ≤ n) × (n ≤ length tokens.now)) }
 {
     if looks(tokens, at, TokenKind::Arrow) {
-        listed_results_at(tokens, parts, at + 1)
+        listed_results_at(alloc, tokens, parts, at + 1)
     } else {
         Ok(at)
     }
@@ -220,7 +256,12 @@ fn if_results_at(tokens: &[Token], parts: &mut Parts, at: usize) -> Result<usize
 
 /// Operands, `:` and their types, which may be left out.
 #[tactic(auto, unfolding(crate::specs::Rules::operands_rule))]
-fn operands_at(tokens: &[Token], parts: &mut Parts, at: usize) -> Result<usize, Stopped>
+fn operands_at(
+    alloc: Global,
+    tokens: &[Token],
+    parts: &mut Parts,
+    at: usize,
+) -> Result<usize, Stopped>
     requires { at ≤ length tokens.now }
     ensures gives { Gives (λ n. (free parts.new, n)) result (by operands_rule tokens.now parts.old at) }
     ensures within { IfOk result (λ n. (at ≤ n) × (n ≤ length tokens.now)) }
@@ -228,14 +269,19 @@ fn operands_at(tokens: &[Token], parts: &mut Parts, at: usize) -> Result<usize, 
     if !looks(tokens, at, TokenKind::Value) {
         return Ok(at);
     }
-    let at = list_at(tokens, Item::Use(true), parts, at)?;
+    let at = list_at(alloc, tokens, Item::Use(true), parts, at)?;
     let at = expects(tokens, TokenKind::Mark(b':'), Expected::Other, parts, at)?;
-    list_at(tokens, Item::Type(true), parts, at)
+    list_at(alloc, tokens, Item::Type(true), parts, at)
 }
 
 /// `iter_args` with its pairs, and `->` with result types, which may be left out.
 #[tactic(auto, unfolding(crate::specs::Rules::iter_args_rule))]
-fn iter_args_at(tokens: &[Token], parts: &mut Parts, at: usize) -> Result<usize, Stopped>
+fn iter_args_at(
+    alloc: Global,
+    tokens: &[Token],
+    parts: &mut Parts,
+    at: usize,
+) -> Result<usize, Stopped>
     requires { at ≤ length tokens.now }
     ensures gives { Gives (λ n. (free parts.new, n)) result (by iter_args_rule tokens.now parts.old at) }
     ensures within { IfOk result (λ n. (at ≤ n) × (n ≤ length tokens.now)) }
@@ -250,9 +296,57 @@ fn iter_args_at(tokens: &[Token], parts: &mut Parts, at: usize) -> Result<usize,
         parts,
         at + 1,
     )?;
-    let at = enclosed(tokens, Item::Pair, Expected::Other, parts, at)?;
+    let at = enclosed(alloc, tokens, Item::Pair, Expected::Other, parts, at)?;
     let at = expects(tokens, TokenKind::Arrow, Expected::Other, parts, at)?;
-    listed_results_at(tokens, parts, at)
+    listed_results_at(alloc, tokens, parts, at)
+}
+
+/// Operands, `:` and their types, and the `)` behind them.
+#[tactic(auto, unfolding(crate::specs::Rules::typed_rule))]
+fn typed_at(alloc: Global, tokens: &[Token], parts: &mut Parts, at: usize) -> Result<usize, Stopped>
+    ensures gives { Gives (λ n. (free parts.new, n)) result (by typed_rule tokens.now parts.old at) }
+    ensures within { IfOk result (λ n. (at ≤ n) × (n ≤ length tokens.now)) }
+{
+    let at = list_at(alloc, tokens, Item::Use(false), parts, at)?;
+    let at = expects(tokens, TokenKind::Mark(b':'), Expected::Other, parts, at)?;
+    let at = list_at(alloc, tokens, Item::Type(true), parts, at)?;
+    expects(tokens, TokenKind::Mark(b')'), Expected::Other, parts, at)
+}
+
+/// `ins` with operands and their types in parentheses.
+#[tactic(auto, unfolding(crate::specs::Rules::ins_rule))]
+fn ins_at(alloc: Global, tokens: &[Token], parts: &mut Parts, at: usize) -> Result<usize, Stopped>
+    ensures gives { Gives (λ n. (free parts.new, n)) result (by ins_rule tokens.now parts.old at) }
+    ensures within { IfOk result (λ n. (at ≤ n) × (n ≤ length tokens.now)) }
+{
+    let at = word_is(tokens, b"ins", parts, at)?;
+    let at = expects(tokens, TokenKind::Mark(b'('), Expected::Other, parts, at)?;
+    typed_at(alloc, tokens, parts, at)
+}
+
+/// `outs` with an operand and its type in parentheses.
+#[tactic(auto, unfolding(crate::specs::Rules::outs_rule))]
+fn outs_at(alloc: Global, tokens: &[Token], parts: &mut Parts, at: usize) -> Result<usize, Stopped>
+    ensures gives { Gives (λ n. (free parts.new, n)) result (by outs_rule tokens.now parts.old at) }
+    ensures within { IfOk result (λ n. (at ≤ n) × (n ≤ length tokens.now)) }
+{
+    if !says(tokens, at, b"outs") {
+        return Err(Stopped::At(at, Expected::Outs));
+    }
+    let at = expects(
+        tokens,
+        TokenKind::Mark(b'('),
+        Expected::Other,
+        parts,
+        at + 1,
+    )?;
+    if !looks(tokens, at, TokenKind::Value) {
+        return Err(Stopped::At(at, Expected::OutsOperand));
+    }
+    let at = use_at(tokens, parts, at)?;
+    let at = expects(tokens, TokenKind::Mark(b':'), Expected::AfterOut, parts, at)?;
+    let at = type_at(alloc, tokens, parts, at)?;
+    expects(tokens, TokenKind::Mark(b')'), Expected::Other, parts, at)
 }
 
 /// `:` and the width of a loop, else `index`.
@@ -274,6 +368,7 @@ fn loop_width_at(tokens: &[Token], parts: &mut Parts, at: usize) -> Result<usize
 
 /// A slot.
 fn slot_at(
+    alloc: Global,
     tokens: &[Token],
     slot: FormatElement,
     parts: &mut Parts,
@@ -295,21 +390,51 @@ fn slot_at(
         FormatElement::ModuleName => module_name_at(tokens, parts, at),
         FormatElement::FunctionName => function_name_at(tokens, parts, at),
         FormatElement::Symbol => symbol_at(tokens, parts, at),
-        FormatElement::Attributes => attributes_at(tokens, parts, at),
-        FormatElement::Dictionary => dictionary_at(tokens, parts, at),
+        FormatElement::Attributes => attributes_at(alloc, tokens, parts, at),
+        FormatElement::Dictionary => dictionary_at(alloc, tokens, parts, at),
         FormatElement::Literal => literal_at(tokens, parts, at),
         FormatElement::Predicate => predicate_at(tokens, parts, at),
         FormatElement::Argument => argument_at(tokens, parts, at),
         FormatElement::Use(_) => use_at(tokens, parts, at),
         FormatElement::Width(_) => width_at(tokens, Expected::ArithWidth, parts, at),
-        FormatElement::Uses => enclosed(tokens, Item::Use(false), Expected::Other, parts, at),
-        FormatElement::Types => enclosed(tokens, Item::Type(false), Expected::Other, parts, at),
-        FormatElement::Params => enclosed(tokens, Item::Param, Expected::AfterArgument, parts, at),
-        FormatElement::Operands => operands_at(tokens, parts, at),
-        FormatElement::CallResults => call_results_at(tokens, parts, at),
-        FormatElement::FunctionResults => function_results_at(tokens, parts, at),
-        FormatElement::IfResults => if_results_at(tokens, parts, at),
-        FormatElement::IterArgs => iter_args_at(tokens, parts, at),
+        FormatElement::Uses(_, close) => list_until(
+            alloc,
+            tokens,
+            Item::Use(false),
+            TokenKind::Mark(close),
+            Expected::Other,
+            parts,
+            at,
+        ),
+        FormatElement::TypeOf(_) => type_at(alloc, tokens, parts, at),
+        FormatElement::TensorOf(_) => tensor_at(alloc, tokens, parts, at),
+        FormatElement::WidthOf(_) => width_at(tokens, Expected::Width, parts, at),
+        FormatElement::ResultType => result_at(alloc, tokens, parts, at),
+        FormatElement::ResultTensor => result_tensor_at(alloc, tokens, parts, at),
+        FormatElement::Arrow => expects(tokens, TokenKind::Arrow, Expected::Other, parts, at),
+        FormatElement::Ins => ins_at(alloc, tokens, parts, at),
+        FormatElement::Outs => outs_at(alloc, tokens, parts, at),
+        FormatElement::Types => enclosed(
+            alloc,
+            tokens,
+            Item::Type(false),
+            Expected::Other,
+            parts,
+            at,
+        ),
+        FormatElement::Params => enclosed(
+            alloc,
+            tokens,
+            Item::Param,
+            Expected::AfterArgument,
+            parts,
+            at,
+        ),
+        FormatElement::Operands => operands_at(alloc, tokens, parts, at),
+        FormatElement::CallResults => call_results_at(alloc, tokens, parts, at),
+        FormatElement::FunctionResults => function_results_at(alloc, tokens, parts, at),
+        FormatElement::IfResults => if_results_at(alloc, tokens, parts, at),
+        FormatElement::IterArgs => iter_args_at(alloc, tokens, parts, at),
         FormatElement::LoopWidth => loop_width_at(tokens, parts, at),
         FormatElement::BlockName => block_name_at(tokens, parts, at),
         FormatElement::Unread => Err(Stopped::At(at, Expected::OtherReader)),
@@ -318,6 +443,7 @@ fn slot_at(
 
 /// What the slots of a row write, from a token on.
 pub fn slots_at(
+    alloc: Global,
     tokens: &[Token],
     slots: &[FormatElement],
     parts: &mut Parts,
@@ -329,7 +455,7 @@ pub fn slots_at(
 {
     let mut at = at;
     for slot in slots {
-        at = slot_at(tokens, *slot, parts, at)?;
+        at = slot_at(alloc, tokens, *slot, parts, at)?;
     }
     Ok(at)
 }

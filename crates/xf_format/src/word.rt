@@ -4,7 +4,7 @@ ghost use Rattle.xf_format.specs.Rows.{words};
 ghost use Rattle.xf_format.specs.Words.{lookup, predicates};
 
 use crate::row::Row;
-use crate::{arith, builtin, func, linalg, scf};
+use crate::{arith, builtin, func, linalg, scf, tensor};
 use xf_type::CmpKind;
 
 /// All predicates.
@@ -48,6 +48,9 @@ pub fn row_of(word: &[u8]) -> Option<Row>
         return Some(row);
     }
     if let Some(row) = scf::row_of(word) {
+        return Some(row);
+    }
+    if let Some(row) = tensor::row_of(word) {
         return Some(row);
     }
     linalg::row_of(word)

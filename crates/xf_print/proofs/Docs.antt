@@ -20,8 +20,8 @@ use Rattle.xf_ir.specs.declared.kind.Kind.{Kind}
 use Rattle.xf_ir.specs.declared.op.Module.{Module}
 use Rattle.xf_ir.specs.Placed.{functions_of}
 use Rattle.xf_ir.specs.Tree.{Ops, no_ops, op, Regions, no_regions, region, Tree, cons}
-use Rattle.xf_printed.specs.Fills.{head_fill, rule_text, slots_fill}
-use Rattle.xf_printed.specs.Names.{Names, no_names, first_of, number_of, with_ops}
+use Rattle.xf_printed.specs.Fills.{head_fill, rule_text}
+use Rattle.xf_printed.specs.Names.{Names, no_names, number_of, with_ops}
 use Rattle.xf_printed.specs.PrintedForm.{functions_docs, head_of, header_of, is_empty_yield, ops_docs, printed_form}
 use Rattle.xf_printed.specs.PrintedForm.{regions_blocks, slots_of, tail_of, word_of}
 use Rattle.xf_print.specs.Lines.{block_text, blocks_text, body_text, brace_text, closing, end_text, function_text}
@@ -66,17 +66,12 @@ behind_head l margin s bs q rest r =
     ++ (blocks_written format r margin true bs ++ (written language (slots_rule (tail r)) q ++ docs_written format
     (behind l) margin rest))
 
-behind_head_text : (l : Level) (margin : ℕ) (s : Fill) (bs : Blocks) (q : Fill) (rest : Docs) (r : Row)
-    → text (behind_head l margin s bs q rest r)
-    ≡ rule_text (slots_rule (slots r)) s ++ (text
-    (blocks_written format r margin true bs) ++ (rule_text (slots_rule (tail r)) q ++ text
-    (docs_written format (behind l) margin rest)))
-behind_head_text l margin s bs q rest r =
-    text_append (written language (slots_rule (slots r)) s) _
-    ∙ ap (λ x. rule_text (slots_rule (slots r)) s ++ x)
-    (text_append (blocks_written format r margin true bs) _
-    ∙ ap (λ x. text (blocks_written format r margin true bs) ++ x)
-    (text_append (written language (slots_rule (tail r)) q) (docs_written format (behind l) margin rest)))
+five : (a b c d e : List Spaced)
+    → text (a ++ (b ++ (c ++ (d ++ e)))) ≡ text a ++ (text b ++ (text c ++ (text d ++ text e)))
+five a b c d e = simp text_append
+
+head_apart : (g h f a : List ℕ) → (g ++ h) ++ (f ++ a) ≡ g ++ ((h ++ f) ++ a)
+head_apart g h f a = simp append_assoc
 
 -- with its head, behind a gap; k is its row
 whole_written : (l : Level) (g : Gap) (margin : ℕ) (number : ℕ) (ts : List PayloadType) (w : List ℕ) (s : Fill)
@@ -90,33 +85,11 @@ whole_written l g margin number ts w s bs q rest r e =
     let head : List Spaced = begun g (written language (head_rule l) (head_fill number ts w)) in
     let after : List ℕ = text (blocks_written format r margin true bs) ++ (rule_text (slots_rule (tail r)) q ++ text
     (docs_written format (behind l) margin rest)) in
-    let filled : List ℕ = rule_text (slots_rule (slots r)) s in
     ap (λ r. text (head ++ behind_head l margin s bs q rest r)) (head_row l number ts w ∙ e)
-    ∙ text_append head (behind_head l margin s bs q rest r)
-    ∙ ap (λ x. text head ++ x) (behind_head_text l margin s bs q rest r)
-    ∙ ap (λ x. x ++ (filled ++ after)) (head_line l g number ts w)
-    ∙ append_assoc (gap_text g) (results_text number ts ++ w) (filled ++ after)
-    ∙ ap (λ x. gap_text g ++ x) (sym (append_assoc (results_text number ts ++ w) filled after))
-
--- a filled row, by the name that its row has here
-named_slots : (names : Names) (t : Tree) → slots_of names t
-    ≡ slots_fill names (first_of (names.entry t.name.0)) t (slots (op_row t.kind))
-unfolding op_row
-named_slots names t = refl
-
-named_tail : (names : Names) (t : Tree) → tail_of names t
-    ≡ slots_fill names (first_of (names.entry t.name.0)) t (tail (op_row t.kind))
-unfolding op_row
-named_tail names t = refl
-
-named_header : (names : Names) (t : Tree)
-    → header_of names t ≡ slots_fill names (first_of (names.entry t.name.0)) t (header (op_row t.kind))
-unfolding op_row
-named_header names t = refl
-
-named_row : (k : Kind) → the_row (lookup words (word_of k)) ≡ op_row k
-unfolding op_row
-named_row k = refl
+    ∙ five head (written language (slots_rule (slots r)) s) (blocks_written format r margin true bs)
+    (written language (slots_rule (tail r)) q) (docs_written format (behind l) margin rest)
+    ∙ ap (λ x. x ++ (rule_text (slots_rule (slots r)) s ++ after)) (head_line l g number ts w)
+    ∙ head_apart (gap_text g) (results_text number ts ++ w) (rule_text (slots_rule (slots r)) s) after
 
 whole_text : (l : Level) (g : Gap) (margin : ℕ) (names : Names) (t : Tree) (bs : Blocks) (rest : Docs)
     → text (begun g (written language (head_rule l) (head_of names t)) ++ behind_head l margin (slots_of names t) bs
@@ -124,16 +97,10 @@ whole_text : (l : Level) (g : Gap) (margin : ℕ) (names : Names) (t : Tree) (bs
     ≡ gap_text g ++ (opening names t ++ (text
     (blocks_written format (op_row t.kind) margin true bs) ++ (tail_text names t ++ text
     (docs_written format (behind l) margin rest))))
-unfolding opening tail_text
+unfolding opening tail_text op_row
 whole_text l g margin names t bs rest =
-    let number : ℕ = number_of (names.entry t.name.0) in
-    let head : List Spaced = begun g (written language (head_rule l) (head_of names t)) in
-    ap (λ s. text (head ++ behind_head l margin s bs (tail_of names t) rest (head_row_of format l (head_of names t))))
-    (named_slots names t)
-    ∙ ap (λ q. text (head ++ behind_head l margin
-    (slots_fill names (first_of (names.entry t.name.0)) t (slots (op_row t.kind))) bs q rest
-    (head_row_of format l (head_of names t)))) (named_tail names t)
-    ∙ whole_written l g margin number t.results (word_of t.kind) _ bs _ rest (op_row t.kind) (named_row t.kind)
+    whole_written l g margin (number_of (names.entry t.name.0)) t.results (word_of t.kind) _ bs _ rest
+    (op_row t.kind) refl
 
 -- an operation, and those behind it
 tree_first : (l : Level) (margin : ℕ) (names : Names) (t : Tree) (rest : Docs)
@@ -142,12 +109,12 @@ tree_first : (l : Level) (margin : ℕ) (names : Names) (t : Tree) (rest : Docs)
     ≡ tree_text names margin t ++ text (docs_written format (behind l) margin rest)
 unfolding tree_text rest_text blocks_text
 tree_first l margin names t rest =
-    let blocks : List ℕ = blocks_text names margin t true t.regions in
-    let others : List ℕ = text (docs_written format (behind l) margin rest) in
     whole_text l (line margin) margin names t (regions_blocks names (header_of names t) t.regions) rest
-    ∙ ap (λ x. gap_text (line margin) ++ (opening names t ++ x)) (sym (append_assoc blocks (tail_text names t) others))
-    ∙ ap (λ x. gap_text (line margin) ++ x) (sym (append_assoc (opening names t) (blocks ++ tail_text names t) others))
-    ∙ sym (append_assoc (gap_text (line margin)) (opening names t ++ (blocks ++ tail_text names t)) others)
+    ∙ rest_apart (gap_text (line margin)) (opening names t) (blocks_text names margin t true t.regions)
+    (tail_text names t) (text (docs_written format (behind l) margin rest))
+  where
+    rest_apart : (g o b t d : List ℕ) → g ++ (o ++ (b ++ (t ++ d))) ≡ (g ++ (o ++ (b ++ t))) ++ d
+    rest_apart g o b t d = simp append_assoc
 
 -- ---- operations of a block, at whatever level
 
@@ -210,35 +177,23 @@ block_written margin first h ds bs r =
     let after : List Spaced = blocks_written format r margin false bs in
     text_append before _
     ∙ ap (λ x. text before ++ (codes " {" ++ x)) (text_append head _ ∙ ap (λ x. text head ++ x) (text_append inner _))
-    ∙ joined (text before) (text head) (text inner) (closing margin ++ text after)
+    ∙ apart (text before) (text head) (text inner) (closing margin ++ text after)
     ∙ ap (λ x. ((x ++ text head) ++ text inner) ++ (closing margin ++ text after)) (brace_written r first)
   where
-    joined : (a b c d : List ℕ) → a ++ (codes " {" ++ (b ++ (c ++ d))) ≡ (((a ++ codes " {") ++ b) ++ c) ++ d
-    joined a b c d =
+    apart : (a b c d : List ℕ) → a ++ (codes " {" ++ (b ++ (c ++ d))) ≡ (((a ++ codes " {") ++ b) ++ c) ++ d
+    apart a b c d =
         sym (append_assoc ((a ++ codes " {") ++ b) c d ∙ append_assoc (a ++ codes " {") b (c ++ d)
         ∙ append_assoc a (codes " {") (b ++ (c ++ d)))
-
--- the header of a row
-header_named : (names : Names) (margin : ℕ) (t : Tree)
-    → text (begun (line margin) (written language (slots_rule (header (op_row t.kind))) (header_of names t)))
-    ≡ header_text names margin t
-unfolding header_text
-header_named names margin t =
-    ap (λ h. text (begun (line margin) (written language (slots_rule (header (op_row t.kind))) h)))
-    (named_header names t)
 
 pub first_block : (names : Names) (margin : ℕ) (t : Tree) (first : Bool) (args : List PayloadType) (ops : Ops)
     (rest : Regions)
     → blocks_text names margin t first (region args ops rest)
     ≡ block_text names margin t first ops ++ (closing margin ++ blocks_text names margin t false rest)
-unfolding blocks_text block_text opened_text
+unfolding blocks_text block_text opened_text header_text op_row
 first_block names margin t first args ops rest =
-    let others : List ℕ = closing margin ++ blocks_text names margin t false rest in
-    let inner : List ℕ = text (docs_written format (inside (op_row t.kind)) (margin + 1) (ops_docs names ops)) in
     block_written margin first (header_of names t) (ops_docs names ops) (regions_blocks names (header_of names t) rest)
     (op_row t.kind)
-    ∙ ap (λ x. ((brace_text (op_row t.kind) first ++ x) ++ inner) ++ others) (header_named names margin t)
-    ∙ ap (λ x. ((brace_text (op_row t.kind) first ++ header_text names margin t) ++ x) ++ others)
+    ∙ ap (λ x. (opened_text names margin t first ++ x) ++ (closing margin ++ blocks_text names margin t false rest))
     (any_level (inside (op_row t.kind)) (margin + 1) names ops)
 
 -- a block, and what stands behind the blocks
@@ -282,24 +237,19 @@ no_function = refl
 -- ---- the module
 
 pub form_text : (m : Module) → printed_form m ≡ opening no_names m.root ++ body_text no_names m
-unfolding body_text opened_text end_text
+unfolding body_text opened_text end_text header_text op_row
 form_text m =
     let t : Tree = m.root in
-    let r : Row = op_row t.kind in
     let bs : Blocks = a_block (header_of no_names t) (functions_docs (functions_of m)) no_blocks in
-    let fs : List ℕ = functions_text (functions_of m) in
     let tail : List ℕ = tail_text no_names t in
     ap (λ x. text x ++ (10 ∷ [])) (head_begun level.File none (line 0) (number_of (no_names.entry t.name.0)) t.results
     (word_of t.kind) _)
     ∙ ap (λ x. x ++ (10 ∷ [])) (whole_text level.File none 0 no_names t bs no_docs)
     ∙ ap (λ x. (opening no_names t ++ (x ++ (tail ++ []))) ++ (10 ∷ []))
-    (block_written 0 true (header_of no_names t) (functions_docs (functions_of m)) no_blocks r
-    ∙ ap (λ x. ((brace_text r true ++ x) ++ text
-    (docs_written format (inside r) 1 (functions_docs (functions_of m)))) ++ (closing 0 ++ []))
-    (header_named no_names 0 t)
-    ∙ ap (λ x. ((brace_text r true ++ header_text no_names 0 t) ++ x) ++ (closing 0 ++ []))
-    (any_functions (inside r) (functions_of m)))
-    ∙ ending (opening no_names t) (brace_text r true ++ header_text no_names 0 t) fs tail (closing 0)
+    (block_written 0 true (header_of no_names t) (functions_docs (functions_of m)) no_blocks (op_row t.kind)
+    ∙ ap (λ x. (opened_text no_names 0 t true ++ x) ++ (closing 0 ++ []))
+    (any_functions (inside (op_row t.kind)) (functions_of m)))
+    ∙ ending (opening no_names t) (opened_text no_names 0 t true) (functions_text (functions_of m)) tail (closing 0)
   where
     ending : (o a f q c : List ℕ) → (o ++ (((a ++ f) ++ (c ++ [])) ++ (q ++ []))) ++ (10 ∷ [])
         ≡ o ++ (a ++ (f ++ ((c ++ q) ++ codes "\n")))

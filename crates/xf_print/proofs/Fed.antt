@@ -3,7 +3,7 @@ use Rattle.std.proofs.Common.{◌≡◌, ℕ, Bool, true, false, List, [], ◌�
 use Rattle.std.specs.Prelude.{if◌then◌else◌}
 use Rattle.xf_grammar.specs.Grammar.{line, Spaced, begun}
 use Rattle.xf_grammar.specs.Layout.{text}
-use Rattle.xf_ir.specs.Tree.{Ops, no_ops, op, Tree}
+use Rattle.xf_ir.specs.Tree.{Ops, no_ops, op, Tree, cons}
 use Rattle.xf_printed.specs.Names.{Names}
 use Rattle.xf_printed.specs.PrintedForm.{is_empty_yield}
 use Rattle.xf_print.specs.Lines.{fed, function_text, functions_text, header_text, op_text, ops_text, tree_text}
@@ -43,6 +43,18 @@ joined a b f e s =
 
 -- ---- which texts start so
 
+-- a text of operations, one behind the other
+pub record OneByOne (all : Ops → List ℕ) (one : Tree → List ℕ) : Type 0 where
+  pub none : all no_ops ≡ []
+  pub more : (t : Tree) (rest : Ops) → all (cons t rest) ≡ one t ++ all rest
+  pub starts : (t : Tree) → Starts (one t)
+
+pub all_start : {all : Ops → List ℕ} {one : Tree → List ℕ} → OneByOne all one → (ops : Ops) → Starts (all ops)
+all_start o no_ops = subst Starts (sym o.none) tt
+all_start o (op n k ds os ts rs rest) =
+    let t : Tree = record { name = n; kind = k; attrs = ds; operands = os; results = ts; regions = rs } in
+    subst Starts (sym (o.more t rest)) (starts_append _ _ (o.starts t) (all_start o rest))
+
 tree_starts : (names : Names) (margin : ℕ) (t : Tree) → Starts (tree_text names margin t)
 unfolding tree_text
 tree_starts names margin t = refl
@@ -51,28 +63,16 @@ none_or : (b : Bool) (xs : List ℕ) → Starts xs → Starts (if b then [] else
 none_or true xs s = tt
 none_or false xs s = s
 
-pub op_starts : (names : Names) (margin : ℕ) (t : Tree) → Starts (op_text names margin t)
-op_starts names margin t =
-    none_or (is_empty_yield t.kind t.attrs t.operands) (tree_text names margin t) (tree_starts names margin t)
+pub ops_one : (names : Names) (margin : ℕ) → OneByOne (ops_text names margin) (op_text names margin)
+ops_one names margin = record {
+  none = no_op names margin;
+  more = first_op names margin;
+  starts = λ t. none_or (is_empty_yield t.kind t.attrs t.operands) _ (tree_starts names margin t);
+}
 
-pub ops_starts : (names : Names) (margin : ℕ) (ops : Ops) → Starts (ops_text names margin ops)
-ops_starts names margin no_ops = subst Starts (sym (no_op names margin)) tt
-ops_starts names margin (op n k ds os ts rs rest) =
-    let t : Tree = record { name = n; kind = k; attrs = ds; operands = os; results = ts; regions = rs } in
-    subst Starts (sym (first_op names margin t rest))
-    (starts_append (op_text names margin t) (ops_text names margin rest) (op_starts names margin t)
-    (ops_starts names margin rest))
-
-pub function_starts : (t : Tree) → Starts (function_text t)
-unfolding function_text tree_text
-function_starts t = refl
-
-pub functions_starts : (fs : Ops) → Starts (functions_text fs)
-functions_starts no_ops = subst Starts (sym no_function) tt
-functions_starts (op n k ds os ts rs rest) =
-    let t : Tree = record { name = n; kind = k; attrs = ds; operands = os; results = ts; regions = rs } in
-    subst Starts (sym (first_function t rest))
-    (starts_append (function_text t) (functions_text rest) (function_starts t) (functions_starts rest))
+pub functions_one : OneByOne functions_text function_text
+unfolding function_text
+functions_one = record { none = no_function; more = first_function; starts = λ t. tree_starts _ 1 t }
 
 begun_starts : (margin : ℕ) (ps : List Spaced) → Starts (text (begun (line margin) ps))
 begun_starts margin [] = tt

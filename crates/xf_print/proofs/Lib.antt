@@ -3,10 +3,10 @@ pub mod DimensionLemmas
 pub mod Docs
 pub mod Fed
 pub mod Headers
+pub mod Listed
 pub mod MapLemmas
 pub mod Parts
 pub mod RowLemmas
 pub mod Rows
 pub mod SlotTexts
-pub mod StrideLemmas
 pub mod Writes

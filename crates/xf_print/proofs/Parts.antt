@@ -8,7 +8,7 @@ use Rattle.xf_printed.specs.Names.{Names, no_names, with_ops}
 use Rattle.xf_print.specs.Lines.{block_text, body_text, brace_text, closed, closing, end_line, end_text, fed}
 use Rattle.xf_print.specs.Lines.{function_text, functions_text, header_text, op_row, opened_text, opening, ops_text}
 use Rattle.xf_print.specs.Lines.{rest_text, tail_text, tree_text}
-use Rattle.xf_print.proofs.Fed.{pushed, joined, header_starts, ops_starts, functions_starts}
+use Rattle.xf_print.proofs.Fed.{pushed, joined, header_starts, all_start, ops_one, functions_one}
 
 pub opened_parts : (names : Names) (margin : ℕ) (t : Tree) (first : Bool) (before : List ℕ)
     → (before ++ opened_text names margin t first) ++ 10 ∷ []
@@ -24,7 +24,7 @@ pub block_parts : (names : Names) (margin inner : ℕ) (t : Tree) (first : Bool)
 unfolding block_text
 block_parts names margin inner t first ops before e =
     rw e (pushed before (opened_text names margin t first) (ops_text names (margin + 1) ops)
-    (ops_starts names (margin + 1) ops))
+    (all_start (ops_one names (margin + 1)) ops))
 
 pub tree_parts : (names : Names) (margin : ℕ) (t : Tree) (before : List ℕ)
     → before ≡ replicate (2 * margin) 32 ++ opening names t
@@ -50,7 +50,7 @@ pub body_parts : (names : Names) (m : Module) (before : List ℕ)
 unfolding body_text end_text end_line closing
 body_parts names m before =
     joined before (opened_text names 0 m.root true) (functions_text (functions_of m))
-    ((closed 0 ++ tail_text names m.root) ++ 10 ∷ []) (functions_starts (functions_of m))
+    ((closed 0 ++ tail_text names m.root) ++ 10 ∷ []) (all_start functions_one (functions_of m))
 
 -- the functions, however they are named
 pub functions_parts : (names : Names) (m : Module) (fs : Ops) → fs ≡ functions_of m

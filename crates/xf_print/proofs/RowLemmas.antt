@@ -1,20 +1,22 @@
 -- The rows of a dense constant, one behind the other.
-use Rattle.std.proofs.Common.{◌≡◌, ℕ, suc, ◌+◌, ◌-◌, ◌<◌, List, ◌∷◌, ◌++◌, map, codes, length, take, drop, refl, sym, ap, ◌∙◌, append_assoc, arith}
+use Rattle.std.proofs.Common.{◌≡◌, ℕ, suc, ◌+◌, ◌-◌, ◌<◌, List, ◌∷◌, map, length, take, drop, arith}
 use Rattle.std.specs.Prelude.{◌/◌, min}
 use Rattle.std.proofs.Math.Nat.{div-zero}
 use Rattle.std.proofs.lemmas.List.{take_min, drop_min}
 use Rattle.xf_printed.specs.Dense.{rows}
-use Rattle.xf_printed.specs.Words.{listed, listed_more}
 
-rows_suc : (count at size : ℕ) (ns : List ℕ) → count ≡ suc at → rows count size ns ≡ take size ns ∷ rows at size (drop size ns)
-rows_suc count at size ns e = rw e refl
+rows_suc : (f : List ℕ → List ℕ) (count at size : ℕ) (ns left : List ℕ) → count ≡ suc at → left ≡ drop size ns
+    → map f (rows count size ns) ≡ f (take size ns) ∷ map f (rows at size left)
+rows_suc f count at size ns left e d = rw (e, d)
 
--- the first of the rows that are left behind the first `at`
-pub next_row : (count at size : ℕ) (ns : List ℕ) → at < count → rows (count - at) size ns ≡ take size ns ∷ rows (count - (at + 1)) size (drop size ns)
-next_row count at size ns lt = rows_suc (count - at) (count - (at + 1)) size ns (omega arith)
+-- the first row, and the first of those that are left behind the first `at`
+pub first_row : (f : List ℕ → List ℕ) (count size : ℕ) (ns left : List ℕ) → 0 < count → left ≡ drop size ns
+    → map f (rows count size ns) ≡ f (take size ns) ∷ map f (rows (count - 1) size left)
+first_row f count size ns left lt = rows_suc f count (count - 1) size ns left (omega arith)
 
-pub first_row : (count size : ℕ) (ns : List ℕ) → 0 < count → rows count size ns ≡ take size ns ∷ rows (count - 1) size (drop size ns)
-first_row count size ns lt = rows_suc count (count - 1) size ns (omega arith)
+pub next_row : (f : List ℕ → List ℕ) (count at size : ℕ) (ns left : List ℕ) → at < count → left ≡ drop size ns
+    → map f (rows (count - at) size ns) ≡ f (take size ns) ∷ map f (rows (count - (at + 1)) size left)
+next_row f count at size ns left lt = rows_suc f (count - at) (count - (at + 1)) size ns left (omega arith)
 
 pub take_least : (size : ℕ) (ns : List ℕ) → take (min size (length ns)) ns ≡ take size ns
 take_least size ns = take_min size ns
@@ -24,15 +26,3 @@ drop_least size ns = drop_min size ns
 
 pub none_shared : (n : ℕ) → n / 0 ≡ 0
 none_shared n = div-zero n
-
--- ---- as texts, each by f
-
-pub rows_begin : (f : List ℕ → List ℕ) (count size : ℕ) (ns left line old : List ℕ) → 0 < count → line ≡ old ++ f (take size ns) → left ≡ drop size ns
-    → line ++ listed_more (map f (rows (count - 1) size left)) ≡ old ++ listed (map f (rows count size ns))
-rows_begin f count size ns left line old lt e d = rw (first_row count size ns lt, e, d) (append_assoc old (f (take size ns)) _)
-
-pub rows_go : (f : List ℕ → List ℕ) (count at size : ℕ) (left left' line comma line' all : List ℕ) → at < count → line ++ listed_more (map f (rows (count - at) size left)) ≡ all
-    → comma ≡ line ++ codes ", " → line' ≡ comma ++ f (take size left) → left' ≡ drop size left
-    → line' ++ listed_more (map f (rows (count - (at + 1)) size left')) ≡ all
-rows_go f count at size left left' line comma line' all lt i c e d =
-    rw (e, c, d) (append_assoc (line ++ codes ", ") (f (take size left)) _ ∙ append_assoc line (codes ", ") _ ∙ ap (λ x. line ++ listed_more (map f x)) (sym (next_row count at size left lt)) ∙ i)

@@ -24,7 +24,7 @@ conversion_row : (k : ConvKind) → row.Convert k ≡ the_row (lookup words (con
 conversion_row Extsi = refl
 conversion_row k = refl
 
-named_row : (k : NamedKind) → row.Other ≡ the_row (lookup words (named_spelling k))
+named_row : (k : NamedKind) → row.Named k ≡ the_row (lookup words (named_spelling k))
 named_row Matmul = refl
 named_row k = refl
 
@@ -39,6 +39,6 @@ pub conversion_kind : (k : Kind) (c : ConvKind) (from to : Width) → k ≡ kind
 unfolding op_row
 conversion_kind k c from to e = rw e (conversion_row c)
 
-pub named_kind : (k : Kind) (n : NamedKind) → k ≡ kind.Named n → row.Other ≡ op_row k
+pub named_kind : (k : Kind) (n : NamedKind) → k ≡ kind.Named n → row.Named n ≡ op_row k
 unfolding op_row
 named_kind k n e = rw e (named_row n)

@@ -3,17 +3,17 @@ use Rattle.std.proofs.Common.{◌≡◌, ℕ, ◌+◌, ◌<◌, ◌≤◌, Bool,
 use Rattle.std.proofs.Common.{Result, Ok, Err, refl, sym, ap, subst, ◌∙◌, arith, append_assoc, append-nil}
 use Rattle.std.proofs.lemmas.List.{drop_more, drop_all}
 use Rattle.xf_ir.specs.declared.op.Module.{Module}
-use Rattle.xf_ir.specs.Tree.{Tree, Body}
+use Rattle.xf_ir.specs.Tree.{Ops, Tree, Body}
 use Rattle.xf_ir.specs.View.{ops_of, regions_of, tree_size, ops_size}
 use Rattle.xf_ir.proofs.EraseLemmas.{size_at}
 use Rattle.xf_printed.specs.Names.{Names, no_names}
 use Rattle.xf_printed.specs.PrintedForm.{printed_form}
-use Rattle.xf_print.specs.Lines.{block_text, body_text, closed, closing, fed, function_text, functions_text, op_text}
-use Rattle.xf_print.specs.Lines.{opening, ops_text, rest_text, tail_text}
-use Rattle.xf_print.proofs.Docs.{first_op, first_function, form_text, no_function, no_op, no_rest, rest_first}
-use Rattle.xf_print.proofs.Fed.{both_fed, function_starts, functions_starts, op_starts, ops_starts}
+use Rattle.xf_print.specs.Lines.{block_text, body_text, closed, closing, fed, opening, rest_text, tail_text}
+use Rattle.xf_print.proofs.Docs.{form_text, no_rest, rest_first}
+use Rattle.xf_print.proofs.Fed.{OneByOne, all_start, both_fed}
 use Rattle.xf_host.specs.Writes.{Gains, GainsPrefix, WritesText}
-use Rattle.xf_host.proofs.WriteLemmas.{gains-append, prefix-append, gains-prefix, writes_same}
+use Rattle.xf_host.proofs.WriteLemmas.{gains_nothing, gains-append, prefix-append, gains-prefix, writes-append}
+use Rattle.xf_host.proofs.WriteLemmas.{writes_same}
 use Rattle.xf_host.specs.declared.sink.SinkFail.{SinkFail}
 
 -- a part of the text was written, and the rest is still to be written
@@ -23,55 +23,40 @@ pub record Going (old : Option (List ℕ)) (text rest : List ℕ) (now : Option 
   pub gains : Gains old done now
 
 -- one more part
-pub going_on : (old now new : Option (List ℕ)) (text part rest : List ℕ) → Going old text (part ++ rest) now
-    → Gains now part new → Going old text rest new
-going_on old now new text part rest g h =
-    record {
-      done = g.done ++ part;
-      is = g.is
-          ∙ sym (append_assoc g.done part rest);
-      gains = gains-append old now new g.done part g.gains h;
-    }
+pub going_on : {old now new : Option (List ℕ)} {text rest more : List ℕ} (part : List ℕ) → rest ≡ part ++ more
+    → Going old text rest now → Gains now part new → Going old text more new
+going_on {old = old} {now = now} {new = new} {more = more} part e g h = record {
+  done = g.done ++ part;
+  is = g.is ∙ (ap (λ x. g.done ++ x) e ∙ sym (append_assoc g.done part more));
+  gains = gains-append old now new g.done part g.gains h;
+}
 
--- the rest, said in another way
-pub going_same : (old now : Option (List ℕ)) (text rest rest' : List ℕ) → rest ≡ rest' → Going old text rest now
-    → Going old text rest' now
-going_same old now text rest rest' e g = subst (λ x. Going old text x now) e g
+pub going_starts : (old : Option (List ℕ)) (text : List ℕ) → Going old text text old
+going_starts old text = record { done = []; is = refl; gains = gains_nothing old }
 
--- a part that failed
-pub going_fails : (old now new : Option (List ℕ)) (text part rest : List ℕ) → Going old text (part ++ rest) now
-    → GainsPrefix now part new → GainsPrefix old text new
-going_fails old now new text part rest g f =
-    subst (λ t. GainsPrefix old t new) (sym g.is)
-    (gains-prefix old now new g.done (part ++ rest) g.gains (prefix-append now new part rest f))
+-- the rest failed
+pub going_stops : {old now new : Option (List ℕ)} {text rest : List ℕ} → Going old text rest now
+    → GainsPrefix now rest new → GainsPrefix old text new
+going_stops {old = old} {now = now} {new = new} {rest = rest} g f =
+    subst (λ t. GainsPrefix old t new) (sym g.is) (gains-prefix old now new g.done rest g.gains f)
+
+-- a part failed
+pub going_fails : {old now new : Option (List ℕ)} {text rest : List ℕ} (part more : List ℕ) → rest ≡ part ++ more
+    → Going old text rest now → GainsPrefix now part new → GainsPrefix old text new
+going_fails {now = now} {new = new} part more e g f =
+    going_stops g (subst (λ t. GainsPrefix now t new) (sym e) (prefix-append now new part more f))
+
+-- the rest is written last
+pub going_last : {T : Type 0} (r : Result T SinkFail) {old now : Option (List ℕ)} (new : Option (List ℕ))
+    {text rest : List ℕ} → Going old text rest now → WritesText r rest now new → WritesText r text old new
+going_last r {old = old} {now = now} new {rest = rest} g w =
+    subst (λ t. WritesText r t old new) (sym g.is) (writes-append r old now new g.done rest g.gains w)
 
 -- nothing is left
-pub going_ends : (old now : Option (List ℕ)) (text : List ℕ) → Going old text [] now → Gains old text now
-going_ends old now text g = subst (λ t. Gains old t now) (sym (g.is ∙ append-nil g.done)) g.gains
-
--- ---- a text of two parts
-
--- the first part failed
-pub first_fails : (old new : Option (List ℕ)) (text a b : List ℕ) → text ≡ a ++ b → GainsPrefix old a new
-    → GainsPrefix old text new
-first_fails old new text a b e f = subst (λ t. GainsPrefix old t new) (sym e) (prefix-append old new a b f)
-
--- the first part was written, and the second is written last
-pub second_last : {T : Type 0} (r : Result T SinkFail) (old mid new : Option (List ℕ)) (text a b : List ℕ)
-    → text ≡ a ++ b → Gains old a mid → WritesText r b mid new → WritesText r text old new
-second_last (Ok x) old mid new text a b e g w = subst (λ t. Gains old t new) (sym e) (gains-append old mid new a b g w)
-second_last (Err y) old mid new text a b e g w =
-    subst (λ t. GainsPrefix old t new) (sym e) (gains-prefix old mid new a b g w)
-
--- both parts were written
-pub both_gained : (old mid new : Option (List ℕ)) (text a b : List ℕ) → text ≡ a ++ b → Gains old a mid
-    → Gains mid b new → Gains old text new
-both_gained old mid new text a b e g h = subst (λ t. Gains old t new) (sym e) (gains-append old mid new a b g h)
-
--- the first part was written, and the second failed
-pub second_fails : (old mid new : Option (List ℕ)) (text a b : List ℕ) → text ≡ a ++ b → Gains old a mid
-    → GainsPrefix mid b new → GainsPrefix old text new
-second_fails old mid new text a b e g f = subst (λ t. GainsPrefix old t new) (sym e) (gains-prefix old mid new a b g f)
+pub going_ends : {old now : Option (List ℕ)} {text rest : List ℕ} → rest ≡ [] → Going old text rest now
+    → Gains old text now
+going_ends {old = old} {now = now} e g =
+    subst (λ t. Gains old t now) (sym (g.is ∙ (ap (λ x. g.done ++ x) e ∙ append-nil g.done))) g.gains
 
 -- a call that fails behind all of a text
 pub all_gained : (old new : Option (List ℕ)) (text : List ℕ) → Gains old text new → GainsPrefix old text new
@@ -84,66 +69,17 @@ item_at : {A : Type 0} (xs : List A) (i : ℕ) (x : A) → i < length xs → x �
     → drop i xs ≡ x ∷ drop (i + 1) xs
 item_at xs i x lt is = drop_more xs i x lt ∙ ap (λ y. y ∷ drop (i + 1) xs) (sym is)
 
-first_tree : (names : Names) (margin : ℕ) (ts : List Tree) (i : ℕ) (t : Tree) → i < length ts → t ≡ get_or ts i t
-    → fed (ops_text names margin (ops_of (drop i ts)))
-    ≡ fed (op_text names margin t) ++ fed (ops_text names margin (ops_of (drop (i + 1) ts)))
-first_tree names margin ts i t lt is =
-    ap (λ xs. fed (ops_text names margin (ops_of xs))) (item_at ts i t lt is)
-    ∙ ap fed (first_op names margin t (ops_of (drop (i + 1) ts)))
-    ∙ both_fed (op_text names margin t) (ops_text names margin (ops_of (drop (i + 1) ts))) (op_starts names margin t)
-    (ops_starts names margin (ops_of (drop (i + 1) ts)))
+pub next_fed : {all : Ops → List ℕ} {one : Tree → List ℕ} → OneByOne all one → (ts : List Tree) (i : ℕ) (t : Tree)
+    → i < length ts → t ≡ get_or ts i t
+    → fed (all (ops_of (drop i ts))) ≡ fed (one t) ++ fed (all (ops_of (drop (i + 1) ts)))
+next_fed {all = all} {one = one} o ts i t lt is =
+    let rest = ops_of (drop (i + 1) ts) in
+    ap (λ xs. fed (all (ops_of xs))) (item_at ts i t lt is) ∙ ap fed (o.more t rest)
+    ∙ both_fed (one t) (all rest) (o.starts t) (all_start o rest)
 
-pub tree_written : (old now new : Option (List ℕ)) (text : List ℕ) (names : Names) (margin : ℕ) (ts : List Tree) (i : ℕ)
-    (t : Tree) → i < length ts → t ≡ get_or ts i t
-    → Going old text (fed (ops_text names margin (ops_of (drop i ts)))) now
-    → Gains now (fed (op_text names margin t)) new
-    → Going old text (fed (ops_text names margin (ops_of (drop (i + 1) ts)))) new
-tree_written old now new text names margin ts i t lt is g h =
-    going_on old now new text _ _ (going_same old now text _ _ (first_tree names margin ts i t lt is) g) h
-
-pub tree_failed : (old now new : Option (List ℕ)) (text : List ℕ) (names : Names) (margin : ℕ) (ts : List Tree) (i : ℕ)
-    (t : Tree) → i < length ts → t ≡ get_or ts i t
-    → Going old text (fed (ops_text names margin (ops_of (drop i ts)))) now
-    → GainsPrefix now (fed (op_text names margin t)) new → GainsPrefix old text new
-tree_failed old now new text names margin ts i t lt is g f =
-    going_fails old now new text _ _ (going_same old now text _ _ (first_tree names margin ts i t lt is) g) f
-
--- no operation is left
-pub trees_end : (old now : Option (List ℕ)) (text : List ℕ) (names : Names) (margin : ℕ) (ts : List Tree) (i : ℕ)
-    → length ts ≤ i
-    → Going old text (fed (ops_text names margin (ops_of (drop i ts)))) now → Gains old text now
-trees_end old now text names margin ts i le g =
-    going_ends old now text (going_same old now text _ _
-    (ap (λ xs. fed (ops_text names margin (ops_of xs))) (drop_all i ts le) ∙ ap fed (no_op names margin)) g)
-
-function_first : (fs : List Tree) (i : ℕ) (t : Tree) → i < length fs → t ≡ get_or fs i t
-    → fed (functions_text (ops_of (drop i fs)))
-    ≡ fed (function_text t) ++ fed (functions_text (ops_of (drop (i + 1) fs)))
-function_first fs i t lt is =
-    ap (λ xs. fed (functions_text (ops_of xs))) (item_at fs i t lt is)
-    ∙ ap fed (first_function t (ops_of (drop (i + 1) fs)))
-    ∙ both_fed (function_text t) (functions_text (ops_of (drop (i + 1) fs))) (function_starts t)
-    (functions_starts (ops_of (drop (i + 1) fs)))
-
-pub function_written : (old now new : Option (List ℕ)) (text : List ℕ) (fs : List Tree) (i : ℕ) (t : Tree)
-    → i < length fs → t ≡ get_or fs i t
-    → Going old text (fed (functions_text (ops_of (drop i fs)))) now → Gains now (fed (function_text t)) new
-    → Going old text (fed (functions_text (ops_of (drop (i + 1) fs)))) new
-function_written old now new text fs i t lt is g h =
-    going_on old now new text _ _ (going_same old now text _ _ (function_first fs i t lt is) g) h
-
-pub function_failed : (old now new : Option (List ℕ)) (text : List ℕ) (fs : List Tree) (i : ℕ) (t : Tree)
-    → i < length fs → t ≡ get_or fs i t
-    → Going old text (fed (functions_text (ops_of (drop i fs)))) now → GainsPrefix now (fed (function_text t)) new
-    → GainsPrefix old text new
-function_failed old now new text fs i t lt is g f =
-    going_fails old now new text _ _ (going_same old now text _ _ (function_first fs i t lt is) g) f
-
-pub functions_end : (old now : Option (List ℕ)) (text : List ℕ) (fs : List Tree) (i : ℕ) → length fs ≤ i
-    → Going old text (fed (functions_text (ops_of (drop i fs)))) now → Gains old text now
-functions_end old now text fs i le g =
-    going_ends old now text (going_same old now text _ _
-    (ap (λ xs. fed (functions_text (ops_of xs))) (drop_all i fs le) ∙ ap fed no_function) g)
+pub none_fed : {all : Ops → List ℕ} {one : Tree → List ℕ} → OneByOne all one → (ts : List Tree) (i : ℕ)
+    → length ts ≤ i → fed (all (ops_of (drop i ts))) ≡ []
+none_fed {all = all} o ts i le = ap (λ xs. fed (all (ops_of xs))) (drop_all i ts le) ∙ ap fed o.none
 
 -- a block behind the line so far, and then the line that ends it
 block_split : (line block c rest : List ℕ)
@@ -154,7 +90,7 @@ closing_is : (margin : ℕ) → closing margin ≡ 10 ∷ closed margin
 unfolding closing
 closing_is margin = refl
 
-block_first : (names : Names) (margin : ℕ) (t : Tree) (first : Bool) (bs : List Body) (i : ℕ) (b : Body)
+pub block_first : (names : Names) (margin : ℕ) (t : Tree) (first : Bool) (bs : List Body) (i : ℕ) (b : Body)
     (line line' : List ℕ) → i < length bs → b ≡ get_or bs i b → line' ≡ closed margin
     → (line ++ rest_text names margin t first (regions_of (drop i bs))) ++ 10 ∷ []
     ≡ ((line ++ block_text names margin t first b.ops) ++ 10 ∷ []) ++ ((line' ++ rest_text names margin t false
@@ -168,37 +104,14 @@ block_first names margin t first bs i b line line' lt is e =
     ∙ block_split line block (closed margin) rest
     ∙ ap (λ c. ((line ++ block) ++ 10 ∷ []) ++ ((c ++ rest) ++ 10 ∷ [])) (sym e)
 
-pub block_goes : (old now new : Option (List ℕ)) (text : List ℕ) (names : Names) (margin : ℕ) (t : Tree) (first : Bool)
-    (bs : List Body) (i : ℕ) (b : Body) (line line' : List ℕ)
-    → i < length bs → b ≡ get_or bs i b → line' ≡ closed margin
-    → Going old text ((line ++ rest_text names margin t first (regions_of (drop i bs))) ++ 10 ∷ []) now
-    → Gains now ((line ++ block_text names margin t first b.ops) ++ 10 ∷ []) new
-    → Going old text ((line' ++ rest_text names margin t false (regions_of (drop (i + 1) bs))) ++ 10 ∷ []) new
-block_goes old now new text names margin t first bs i b line line' lt is e g h =
-    going_on old now new text _ _ (going_same old now text _ _
-    (block_first names margin t first bs i b line line' lt is e) g) h
-
-pub block_failed : (old now new : Option (List ℕ)) (text : List ℕ) (names : Names) (margin : ℕ) (t : Tree)
-    (first : Bool) (bs : List Body) (i : ℕ) (b : Body) (line : List ℕ)
-    → i < length bs → b ≡ get_or bs i b
-    → Going old text ((line ++ rest_text names margin t first (regions_of (drop i bs))) ++ 10 ∷ []) now
-    → GainsPrefix now ((line ++ block_text names margin t first b.ops) ++ 10 ∷ []) new
-    → GainsPrefix old text new
-block_failed old now new text names margin t first bs i b line lt is g f =
-    going_fails old now new text _ _ (going_same old now text _ _
-    (block_first names margin t first bs i b line (closed margin) lt is refl) g) f
-
 -- no block is left
-pub blocks_end : {T : Type 0} (r : Result T SinkFail) (old now new : Option (List ℕ)) (text line : List ℕ)
-    (names : Names) (margin : ℕ) (t : Tree) (first : Bool) (bs : List Body) (i : ℕ) → length bs ≤ i
-    → Going old text ((line ++ rest_text names margin t first (regions_of (drop i bs))) ++ 10 ∷ []) now
-    → WritesText r ((line ++ tail_text names t) ++ 10 ∷ []) now new → WritesText r text old new
-blocks_end r old now new text line names margin t first bs i le g w =
-    let none_left : drop i bs ≡ [] = drop_all i bs le in
-    let h : Going old text ((line ++ tail_text names t) ++ 10 ∷ []) now =
-    going_same old now text _ _ (ap (λ xs. (line ++ rest_text names margin t first (regions_of xs)) ++ 10 ∷ [])
-    none_left ∙ ap (λ x. (line ++ x) ++ 10 ∷ []) (no_rest names margin t first)) g in
-    second_last r old now new text h.done ((line ++ tail_text names t) ++ 10 ∷ []) h.is h.gains w
+pub blocks_end : (names : Names) (margin : ℕ) (t : Tree) (first : Bool) (bs : List Body) (i : ℕ) (line : List ℕ)
+    → length bs ≤ i
+    → (line ++ rest_text names margin t first (regions_of (drop i bs))) ++ 10 ∷ [] ≡
+    (line ++ tail_text names t) ++ 10 ∷ []
+blocks_end names margin t first bs i line le =
+    ap (λ xs. (line ++ rest_text names margin t first (regions_of xs)) ++ 10 ∷ []) (drop_all i bs le)
+    ∙ ap (λ x. (line ++ x) ++ 10 ∷ []) (no_rest names margin t first)
 
 -- ---- the module
 

@@ -1,15 +1,12 @@
-//! What stands behind the words of linalg, appended to the line so far. They refuse for want of memory alone.
+//! What stands behind the word of `linalg.generic`, appended to the line so far. They refuse for want of memory alone.
 ghost use Rattle.std.specs.Prelude.{◌≡◌, ◌++◌, OnOk, map};
 ghost use Rattle.xf_print_base.specs.Index.{names_of};
-ghost use Rattle.xf_printed.specs.Unread.{attrs_text, dimension_texts, generic_text, given_text, ins_text, map_text};
-ghost use Rattle.xf_printed.specs.Unread.{marked_attrs, outs_text, results_text, structured_text, typed_text};
+ghost use Rattle.xf_printed.specs.Unread.{dimension_texts, generic_text, ins_text, map_text, marked_attrs, outs_text};
+ghost use Rattle.xf_printed.specs.Unread.{structured_text};
 ghost use Rattle.xf_printed.specs.Words.{listed, dimension_text, iterator_text};
 
 use xf_ir::{Attr, IteratorKind, Op, ValueName};
-use xf_print_base::{
-    Index, write_dictionary, write_number, write_op_attrs, write_op_results, write_operands,
-    write_use_types, write_uses,
-};
+use xf_print_base::{Index, write_dictionary, write_number, write_typed_uses};
 use xf_type::{AffineMap, NoMemory};
 
 /// Appends an iterator type with its quotes.
@@ -30,16 +27,7 @@ fn write_dimension(at: u32, line: &mut Vec<u8>) -> Result<(), NoMemory>
     write_number(u128::from(at), line)
 }
 
-/// Appends values and their types.
-fn write_typed(names: &Index<'_>, values: &[ValueName], line: &mut Vec<u8>) -> Result<(), NoMemory>
-    ensures { OnOk result (line.new.items
-        ≡ line.old.items ++ typed_text (names_of names.now) values.now) }
-{
-    write_uses(false, names, values, line)?;
-    line.extend_from_slice(b" :")?;
-    write_use_types(true, names, values, line)
-}
-
+#[tactic(auto, using(crate::proofs::SlotTexts::typed_uses, std::proofs::lemmas::Grind::common_steps))]
 fn write_ins(names: &Index<'_>, values: &[ValueName], line: &mut Vec<u8>) -> Result<(), NoMemory>
     ensures { OnOk result (line.new.items
         ≡ line.old.items ++ ins_text (names_of names.now) values.now) }
@@ -48,19 +36,16 @@ fn write_ins(names: &Index<'_>, values: &[ValueName], line: &mut Vec<u8>) -> Res
         return Ok(());
     }
     line.extend_from_slice(b" ins(")?;
-    write_typed(names, values, line)?;
-    line.push(b')')?;
-    Ok(())
+    write_typed_uses(names, values, line)
 }
 
+#[tactic(auto, using(crate::proofs::SlotTexts::typed_uses, std::proofs::lemmas::Grind::common_steps))]
 fn write_outs(names: &Index<'_>, values: &[ValueName], line: &mut Vec<u8>) -> Result<(), NoMemory>
     ensures { OnOk result (line.new.items
         ≡ line.old.items ++ outs_text (names_of names.now) values.now) }
 {
     line.extend_from_slice(b" outs(")?;
-    write_typed(names, values, line)?;
-    line.push(b')')?;
-    Ok(())
+    write_typed_uses(names, values, line)
 }
 
 /// Appends the operands: the last one is the out.
@@ -73,17 +58,6 @@ fn write_structured(names: &Index<'_>, op: &Op, line: &mut Vec<u8>) -> Result<()
     write_ins(names, ins, line)?;
     write_outs(names, outs, line)?;
     Ok(())
-}
-
-/// Appends what stands behind the word of an operation with a name.
-pub fn write_named(names: &Index<'_>, op: &Op, line: &mut Vec<u8>) -> Result<(), NoMemory>
-    ensures { OnOk result (line.new.items ≡ line.old.items
-        ++ (attrs_text op.now.attrs ++ (structured_text (names_of names.now) op.now.operands
-        ++ results_text op.now.results))) }
-{
-    write_op_attrs(op, line)?;
-    write_structured(names, op, line)?;
-    write_op_results(op, line)
 }
 
 /// Appends the dimensions of a map that has so many.
@@ -206,13 +180,4 @@ pub fn write_generic(
     write_traits(maps, iterators, line)?;
     write_structured(names, op, line)?;
     write_marked_attrs(op.attrs.as_slice(), line)
-}
-
-/// Appends what stands behind the word of an operation that ends a body.
-pub fn write_yield(names: &Index<'_>, op: &Op, line: &mut Vec<u8>) -> Result<(), NoMemory>
-    ensures { OnOk result (line.new.items ≡ line.old.items
-        ++ (attrs_text op.now.attrs ++ given_text (names_of names.now) op.now.operands)) }
-{
-    write_op_attrs(op, line)?;
-    write_operands(names, op.operands.as_slice(), line)
 }

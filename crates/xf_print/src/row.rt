@@ -39,16 +39,16 @@ fn row_of(kind: &Kind) -> Row
         Kind::For { .. } => Row::For,
         Kind::If => Row::If,
         Kind::Yield => Row::Yield,
-        Kind::Empty => Row::Other,
-        Kind::Dim => Row::Other,
-        Kind::Extract => Row::Other,
-        Kind::Insert => Row::Other,
+        Kind::Empty => Row::Empty,
+        Kind::Dim => Row::Dim,
+        Kind::Extract => Row::Extract,
+        Kind::Insert => Row::Insert,
         Kind::ExtractSlice { .. } => Row::Other,
         Kind::InsertSlice { .. } => Row::Other,
-        Kind::Cast => Row::Other,
-        Kind::Named { .. } => Row::Other,
+        Kind::Cast => Row::Cast,
+        Kind::Named { kind } => Row::Named(*kind),
         Kind::Generic { .. } => Row::Generic,
-        Kind::LinalgYield => Row::Other,
+        Kind::LinalgYield => Row::LinalgYield,
     }
 }
 

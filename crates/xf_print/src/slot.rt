@@ -8,19 +8,18 @@ ghost use Rattle.xf_printed.specs.Fills.{literal_fill, raw_fill, rule_text, slot
 ghost use Rattle.xf_printed.specs.Unread.{dense_text, rest_text};
 
 use crate::dense::write_dense;
-use crate::linalg_rows::{write_generic, write_named, write_yield};
-use crate::tensor_rows::{
-    write_cast, write_dim, write_empty, write_extract, write_extract_slice, write_insert,
-    write_insert_slice,
-};
+use crate::linalg_rows::write_generic;
+use crate::tensor_rows::{write_extract_slice, write_insert_slice};
 use xf_format::FormatElement;
 use xf_ir::{Kind, Op, first_args, returned_types};
 use xf_print_base::{
-    Index, write_attributes, write_call_results, write_dictionary, write_enclosed_params,
-    write_enclosed_types, write_enclosed_uses, write_first, write_function_name,
-    write_function_results, write_if_results, write_iter_args, write_keyword, write_loop_width,
-    write_mark, write_module_name, write_operand, write_operands, write_predicate, write_scalar,
-    write_symbol, write_width,
+    Index, ins_of, operand_type, operands_behind, write_arrow, write_attributes,
+    write_call_results, write_dictionary, write_enclosed_params, write_enclosed_types, write_first,
+    write_function_name, write_function_results, write_if_results, write_ins, write_iter_args,
+    write_keyword, write_loop_width, write_mark, write_module_name, write_operand, write_operands,
+    write_outs, write_predicate, write_result_tensor, write_result_type, write_scalar,
+    write_some_scalar, write_some_tensor, write_some_type, write_symbol, write_uses_until,
+    write_width,
 };
 use xf_type::NoMemory;
 
@@ -44,28 +43,21 @@ fn write_literal(kind: &Kind, line: &mut Vec<u8>) -> Result<(), NoMemory>
     }
 }
 
-/// Appends what stands behind the word of an operation of tensor or linalg, up to its body.
+/// Appends what stands behind the word of a slice or of `linalg.generic`, up to its body; nothing for other kinds.
 fn write_rest(names: &Index<'_>, op: &Op, line: &mut Vec<u8>) -> Result<(), NoMemory>
     ensures { OnOk result (line.new.items ≡ line.old.items ++ rest_text (names_of names.now)
         op.now.kind op.now.attrs op.now.operands op.now.results) }
 {
     match &op.kind {
-        Kind::Empty => write_empty(names, op, line),
-        Kind::Dim => write_dim(names, op, line),
-        Kind::Extract => write_extract(names, op, line),
-        Kind::Insert => write_insert(names, op, line),
         Kind::ExtractSlice { offsets, sizes } => {
             write_extract_slice(offsets.as_slice(), sizes.as_slice(), names, op, line)
         }
         Kind::InsertSlice { offsets, sizes } => {
             write_insert_slice(offsets.as_slice(), sizes.as_slice(), names, op, line)
         }
-        Kind::Cast => write_cast(names, op, line),
-        Kind::Named { .. } => write_named(names, op, line),
         Kind::Generic { maps, iterators } => {
             write_generic(maps.as_slice(), iterators.as_slice(), names, op, line)
         }
-        Kind::LinalgYield => write_yield(names, op, line),
         _ => Ok(()),
     }
 }
@@ -116,7 +108,24 @@ pub fn write_slot(
         FormatElement::Argument => write_first(first, line),
         FormatElement::Use(at) => write_operand(true, names, operands, usize::from(at), line),
         FormatElement::Width(at) => write_width(kind, at, line),
-        FormatElement::Uses => write_enclosed_uses(names, operands, line),
+        FormatElement::Uses(from, mark) => {
+            let behind = operands_behind(operands, usize::from(from));
+            write_uses_until(mark, names, behind, line)
+        }
+        FormatElement::TypeOf(at) => {
+            write_some_type(true, operand_type(names, operands, usize::from(at)), line)
+        }
+        FormatElement::TensorOf(at) => {
+            write_some_tensor(operand_type(names, operands, usize::from(at)), line)
+        }
+        FormatElement::WidthOf(at) => {
+            write_some_scalar(operand_type(names, operands, usize::from(at)), line)
+        }
+        FormatElement::ResultType => write_result_type(results, line),
+        FormatElement::ResultTensor => write_result_tensor(results, line),
+        FormatElement::Arrow => write_arrow(line),
+        FormatElement::Ins => write_ins(names, ins_of(operands), line),
+        FormatElement::Outs => write_outs(names, operands, line),
         FormatElement::Types => write_enclosed_types(names, operands, line),
         FormatElement::Params => {
             write_enclosed_params(first, first_args(op.regions.as_slice()), line)

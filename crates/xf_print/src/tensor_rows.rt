@@ -1,4 +1,5 @@
-//! What stands behind the words of tensor, appended to the line so far. They refuse for want of memory alone.
+//! What stands behind the words of slices of tensors, appended to the line so far. They refuse for want of memory
+//! alone.
 ghost use Rattle.std.specs.Prelude.{◌≡◌, ◌++◌, OnOk, IfOk, map, drop};
 ghost use Rattle.xf_ir.specs.declared.kind.Kind.TheVariants as kind;
 ghost use Rattle.xf_print_base.specs.Index.{names_of};
@@ -8,68 +9,10 @@ ghost use Rattle.xf_printed.specs.Words.{listed};
 
 use xf_ir::{Op, SliceIndex, ValueName};
 use xf_print_base::{
-    Index, operands_behind, write_behind, write_integer, write_nth, write_nth_type, write_op_attrs,
-    write_op_types, write_op_uses, write_operand,
+    Index, operands_behind, write_integer, write_nth, write_nth_type, write_op_attrs,
+    write_op_types, write_operand,
 };
 use xf_type::NoMemory;
-
-/// Appends an empty tensor.
-pub fn write_empty(names: &Index<'_>, op: &Op, line: &mut Vec<u8>) -> Result<(), NoMemory>
-    ensures { OnOk result (line.new.items ≡ line.old.items ++ rest_text (names_of names.now)
-        kind.Empty op.now.attrs op.now.operands op.now.results) }
-{
-    line.push(b'(')?;
-    write_op_uses(false, names, op, line)?;
-    line.push(b')')?;
-    write_op_attrs(op, line)?;
-    line.extend_from_slice(b" :")?;
-    write_op_types(op, line)?;
-    Ok(())
-}
-
-/// Appends the extent of a dimension.
-pub fn write_dim(names: &Index<'_>, op: &Op, line: &mut Vec<u8>) -> Result<(), NoMemory>
-    ensures { OnOk result (line.new.items ≡ line.old.items ++ rest_text (names_of names.now)
-        kind.Dim op.now.attrs op.now.operands op.now.results) }
-{
-    write_op_attrs(op, line)?;
-    write_op_uses(true, names, op, line)?;
-    line.extend_from_slice(b" :")?;
-    write_nth_type(names, op, 0, line)?;
-    Ok(())
-}
-
-/// Appends the reading of an element.
-pub fn write_extract(names: &Index<'_>, op: &Op, line: &mut Vec<u8>) -> Result<(), NoMemory>
-    ensures { OnOk result (line.new.items ≡ line.old.items ++ rest_text (names_of names.now)
-        kind.Extract op.now.attrs op.now.operands op.now.results) }
-{
-    write_nth(true, names, op, 0, line)?;
-    line.push(b'[')?;
-    write_behind(names, op, 1, line)?;
-    line.push(b']')?;
-    write_op_attrs(op, line)?;
-    line.extend_from_slice(b" :")?;
-    write_nth_type(names, op, 0, line)?;
-    Ok(())
-}
-
-/// Appends the change of an element.
-pub fn write_insert(names: &Index<'_>, op: &Op, line: &mut Vec<u8>) -> Result<(), NoMemory>
-    ensures { OnOk result (line.new.items ≡ line.old.items ++ rest_text (names_of names.now)
-        kind.Insert op.now.attrs op.now.operands op.now.results) }
-{
-    write_nth(true, names, op, 0, line)?;
-    line.extend_from_slice(b" into")?;
-    write_nth(true, names, op, 1, line)?;
-    line.push(b'[')?;
-    write_behind(names, op, 2, line)?;
-    line.push(b']')?;
-    write_op_attrs(op, line)?;
-    line.extend_from_slice(b" :")?;
-    write_nth_type(names, op, 1, line)?;
-    Ok(())
-}
 
 /// Appends an offset or a size, where the first operand is the next unknown one, and answers the operands
 /// that are left.
@@ -204,19 +147,5 @@ pub fn write_insert_slice(
     write_nth_type(names, op, 0, line)?;
     line.extend_from_slice(b" into")?;
     write_nth_type(names, op, 1, line)?;
-    Ok(())
-}
-
-/// Appends a cast.
-pub fn write_cast(names: &Index<'_>, op: &Op, line: &mut Vec<u8>) -> Result<(), NoMemory>
-    ensures { OnOk result (line.new.items ≡ line.old.items ++ rest_text (names_of names.now)
-        kind.Cast op.now.attrs op.now.operands op.now.results) }
-{
-    write_op_uses(true, names, op, line)?;
-    write_op_attrs(op, line)?;
-    line.extend_from_slice(b" :")?;
-    write_nth_type(names, op, 0, line)?;
-    line.extend_from_slice(b" to")?;
-    write_op_types(op, line)?;
     Ok(())
 }

@@ -1,3 +1,4 @@
 pub mod Texts
 pub mod Results
 pub mod ListLemmas
+pub mod InsAndOuts

@@ -23,14 +23,14 @@ use Rattle.xf_format.specs.declared.list.Item.{Item}
 use Rattle.xf_format.specs.Rules.{Rule, language, item_rule, argument_rule, attributes_rule, dictionary_rule}
 use Rattle.xf_format.specs.Rules.{entry_number_rule, entry_rule, entry_value_rule, entry_width_rule, kind_rule}
 use Rattle.xf_format.specs.Rules.{literal_rule, number_rule, operands_rule, pair_rule, param_rule, result_rule}
-use Rattle.xf_format.specs.Rules.{type_rule, until_rule, use_rule, width_rule}
+use Rattle.xf_format.specs.Rules.{result_tensor_rule, tensor_rule, type_rule, until_rule, use_rule, width_rule}
 use Rattle.xf_ir.specs.declared.kind.Attr.{Attr}
 use Rattle.xf_ir.specs.declared.name.ValueName.{ValueName}
 use Rattle.xf_printed.specs.Fills.{scalar_fill, signed_fill, truth_fill}
 use Rattle.xf_printed.specs.Items.{Pair, Param, attributes_fill, dictionary_fill, entry_fill, int_entry_fill, more_fill}
 use Rattle.xf_printed.specs.Items.{number_entry_fill, operands_fill, pair_fill, pairs, param_fill, params, rule_text}
-use Rattle.xf_printed.specs.Items.{some_fill, truth_entry_fill, type_fill, type_or_none, until_fill, no_use, use_fill}
-use Rattle.xf_printed.specs.Items.{value_fill, value_type_fill}
+use Rattle.xf_printed.specs.Items.{some_fill, tensor_or_none, truth_entry_fill, type_fill, type_or_none, until_fill}
+use Rattle.xf_printed.specs.Items.{no_use, use_fill, value_fill, value_type_fill}
 use Rattle.xf_printed.specs.Names.{Names, argument_text}
 use Rattle.xf_printed.specs.Numbers.{digits_of, has_minus, is_set, truth_word}
 use Rattle.xf_print_base.specs.Texts.{digits_text, literal_text, value_text}
@@ -107,6 +107,17 @@ pub same_result : (gap : Bool) (t : PayloadType)
 unfolding result_rule type_rule
 same_result gap (Scalar w) = refl
 same_result gap (Tensor s) = refl
+
+pub same_some_result : (t : Option PayloadType)
+    → rule_text (result_rule true) (type_or_none t) ≡ rule_text (type_rule true) (type_or_none t)
+unfolding result_rule type_rule
+same_some_result None = refl
+same_some_result (Some t) = same_result true t
+
+pub same_result_tensor : (t : Option PayloadType)
+    → rule_text (result_tensor_rule true) (tensor_or_none t) ≡ rule_text (tensor_rule true) (tensor_or_none t)
+unfolding result_tensor_rule tensor_rule
+same_result_tensor t = refl
 
 -- behind a comma, with a blank before it
 pub result_begun : (g : Bool) (t : PayloadType)

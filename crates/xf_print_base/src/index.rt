@@ -13,7 +13,7 @@ ghost use Rattle.xf_printed.specs.Items.{value_type_fill};
 ghost use Rattle.xf_printed.specs.Names.{no_names, with_op, with_ops, with_regions, first_args, next_number};
 ghost use Rattle.xf_printed.specs.Names.{argument_text, type_of, number_of, first_of};
 
-use crate::types::write_type;
+use crate::types::write_some_type;
 use crate::words::{write_gap, write_number};
 use std::alloc::{AllocError, Global};
 use std::collections::BTreeMap;
@@ -231,7 +231,7 @@ impl<'a> Index<'a> {
     }
 
     /// The type of a value.
-    fn type_of(&self, value: ValueName) -> Option<&'a PayloadType>
+    pub fn type_of(&self, value: ValueName) -> Option<&'a PayloadType>
         ensures { option_copied result ≡ type_of (names_of self.now) value }
     {
         match value {
@@ -242,7 +242,6 @@ impl<'a> Index<'a> {
     }
 
     /// Appends the type of a value. Refuses for want of memory alone.
-    #[tactic(auto, using(crate::proofs::Texts::no_type))]
     pub fn write_type_of(
         &self,
         gap: bool,
@@ -252,9 +251,6 @@ impl<'a> Index<'a> {
         ensures { OnOk result (line.new.items
             ≡ line.old.items ++ rule_text (type_rule gap) (value_type_fill (names_of self.now) value)) }
     {
-        match self.type_of(value) {
-            None => write_gap(gap, line),
-            Some(of) => write_type(gap, of, line),
-        }
+        write_some_type(gap, self.type_of(value), line)
     }
 }

@@ -1,14 +1,13 @@
 //! An operation's operands, their types, its results and attributes, appended to the line so far.
 //! They refuse for want of memory alone.
-ghost use Rattle.std.specs.Prelude.{◌≡◌, ◌++◌, OnOk, false, drop};
+ghost use Rattle.std.specs.Prelude.{◌≡◌, ◌++◌, OnOk};
 ghost use Rattle.xf_print_base.specs.Index.{names_of};
-ghost use Rattle.xf_printed.specs.Unread.{attrs_text, operand, operand_type, results_text, types_text, uses_text};
+ghost use Rattle.xf_printed.specs.Unread.{attrs_text, operand, operand_type, types_text};
 
 use crate::attributes::write_dictionary;
 use crate::index::Index;
-use crate::slots::write_call_results;
-use crate::types::write_results;
-use crate::values::{operands_behind, write_operand, write_operand_type, write_uses};
+use crate::types::{write_results, write_some_type};
+use crate::values::{operand_type, write_operand};
 use xf_ir::Op;
 use xf_type::NoMemory;
 
@@ -43,38 +42,7 @@ pub fn write_nth_type(
     ensures { OnOk result (line.new.items
         ≡ line.old.items ++ operand_type (names_of names.now) op.now.operands at) }
 {
-    write_operand_type(names, op.operands.as_slice(), at, line)
-}
-
-/// Appends an operation's operands.
-pub fn write_op_uses(
-    gap: bool,
-    names: &Index<'_>,
-    op: &Op,
-    line: &mut Vec<u8>,
-) -> Result<(), NoMemory>
-    ensures { OnOk result (line.new.items
-        ≡ line.old.items ++ uses_text gap (names_of names.now) op.now.operands) }
-{
-    write_uses(gap, names, op.operands.as_slice(), line)
-}
-
-/// Appends an operation's operands behind the first ones.
-pub fn write_behind(
-    names: &Index<'_>,
-    op: &Op,
-    count: usize,
-    line: &mut Vec<u8>,
-) -> Result<(), NoMemory>
-    ensures { OnOk result (line.new.items
-        ≡ line.old.items ++ uses_text false (names_of names.now) (drop count op.now.operands)) }
-{
-    write_uses(
-        false,
-        names,
-        operands_behind(op.operands.as_slice(), count),
-        line,
-    )
+    write_some_type(true, operand_type(names, op.operands.as_slice(), at), line)
 }
 
 /// Appends the types of an operation's results, behind a blank.
@@ -82,11 +50,4 @@ pub fn write_op_types(op: &Op, line: &mut Vec<u8>) -> Result<(), NoMemory>
     ensures { OnOk result (line.new.items ≡ line.old.items ++ types_text op.now.results) }
 {
     write_results(true, op.results.as_slice(), line)
-}
-
-/// Appends an arrow and the types of an operation's results.
-pub fn write_op_results(op: &Op, line: &mut Vec<u8>) -> Result<(), NoMemory>
-    ensures { OnOk result (line.new.items ≡ line.old.items ++ results_text op.now.results) }
-{
-    write_call_results(op.results.as_slice(), line)
 }

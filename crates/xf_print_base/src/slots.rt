@@ -5,7 +5,8 @@ ghost use Rattle.xf_format.specs.declared.list.Item.TheVariants as item;
 ghost use Rattle.xf_format.specs.Rules.{argument_rule, call_results_rule, enclosed_rule, function_name_rule};
 ghost use Rattle.xf_format.specs.Rules.{function_results_rule, if_results_rule, iter_args_rule, kind_rule};
 ghost use Rattle.xf_format.specs.Rules.{listed_results_rule, literal_rule, loop_width_rule, module_name_rule};
-ghost use Rattle.xf_format.specs.Rules.{predicate_rule, result_types_rule, symbol_rule, width_rule, word_rule};
+ghost use Rattle.xf_format.specs.Rules.{predicate_rule, result_rule, result_tensor_rule, result_types_rule};
+ghost use Rattle.xf_format.specs.Rules.{symbol_rule, until_rule, width_rule, word_rule};
 ghost use Rattle.xf_format.specs.Words.{spelling};
 ghost use Rattle.xf_grammar.specs.Tokens.{close_paren};
 ghost use Rattle.xf_lex.specs.declared.token.TokenKind.TheVariants as token;
@@ -15,13 +16,13 @@ ghost use Rattle.xf_printed.specs.Fills.{predicate_or_none, scalar_fill, symbol_
 ghost use Rattle.xf_printed.specs.Fills.{width_or_none, widths_of};
 ghost use Rattle.xf_printed.specs.Items.{argument_fill, call_results_fill, function_results_fill, if_results_fill};
 ghost use Rattle.xf_printed.specs.Items.{iter_args_fill, listed_results_fill, mark_fill, param_fill, params};
-ghost use Rattle.xf_printed.specs.Items.{result_types_fill, rule_text, type_fill, until_fill, value_fill};
-ghost use Rattle.xf_printed.specs.Items.{value_type_fill, word_fill};
+ghost use Rattle.xf_printed.specs.Items.{result_types_fill, rule_text, tensor_or_none, type_fill, type_or_none};
+ghost use Rattle.xf_printed.specs.Items.{until_fill, value_fill, value_type_fill, word_fill};
 
 use crate::index::{Index, write_argument};
 use crate::kinds::{is_private, predicate_or_none, symbol_of, symbol_or_none, width_of};
 use crate::number::write_literal;
-use crate::types::{write_result, write_results};
+use crate::types::{write_result, write_results, write_some_tensor, write_some_type};
 use crate::values::{operands_behind, write_pairs, write_params, write_use_types, write_uses};
 use crate::words::{write_gap, write_word};
 use xf_format::Keyword;
@@ -39,16 +40,22 @@ pub fn write_mark(gap: bool, mark: u8, line: &mut Vec<u8>) -> Result<(), NoMemor
     Ok(())
 }
 
+/// Appends an arrow.
+#[tactic(auto, unfolding(xf_format::specs::Rules::kind_rule))]
+pub fn write_arrow(line: &mut Vec<u8>) -> Result<(), NoMemory>
+    ensures { OnOk result (line.new.items
+        ≡ line.old.items ++ rule_text (kind_rule true due.Other token.Arrow) (mark_fill token.Arrow)) }
+{
+    line.extend_from_slice(b" ->")
+}
+
 /// Appends a word of a row.
 #[tactic(auto, unfolding(xf_format::specs::Rules::word_rule))]
 pub fn write_keyword(word: Keyword, line: &mut Vec<u8>) -> Result<(), NoMemory>
     ensures { OnOk result (line.new.items
         ≡ line.old.items ++ rule_text (word_rule (spelling word)) (word_fill (spelling word))) }
 {
-    match word {
-        Keyword::To => line.extend_from_slice(b" to"),
-        Keyword::Step => line.extend_from_slice(b" step"),
-    }
+    write_word(true, word.spelling(), line)
 }
 
 // ---- symbols
@@ -149,18 +156,20 @@ pub fn write_first(first: u64, line: &mut Vec<u8>) -> Result<(), NoMemory>
     write_argument(true, u128::from(first), line)
 }
 
-/// Appends values up to a parenthesis.
+/// Appends values up to a mark.
 #[tactic(auto, using(crate::proofs::Texts::until_text, std::proofs::lemmas::Grind::common_steps))]
-pub fn write_enclosed_uses(
+pub fn write_uses_until(
+    mark: u8,
     names: &Index<'_>,
     values: &[ValueName],
     line: &mut Vec<u8>,
 ) -> Result<(), NoMemory>
-    ensures { OnOk result (line.new.items ≡ line.old.items ++ rule_text (enclosed_rule (item.Use false) due.Other)
-        (until_fill close_paren (value_fill (names_of names.now)) values.now)) }
+    ensures { OnOk result (line.new.items
+        ≡ line.old.items ++ rule_text (until_rule (token.Mark mark) due.Other (item.Use false))
+        (until_fill (token.Mark mark) (value_fill (names_of names.now)) values.now)) }
 {
     write_uses(false, names, values, line)?;
-    line.push(b')')?;
+    line.push(mark)?;
     Ok(())
 }
 
@@ -195,6 +204,25 @@ pub fn write_enclosed_params(
 }
 
 // ---- results
+
+/// Appends the type of the first result behind a blank, or the blank alone where there is none.
+#[tactic(auto, using(crate::proofs::Texts::same_some_result))]
+pub fn write_result_type(types: &[PayloadType], line: &mut Vec<u8>) -> Result<(), NoMemory>
+    ensures { OnOk result (line.new.items
+        ≡ line.old.items ++ rule_text (result_rule true) (type_or_none (slice_get types.now 0))) }
+{
+    write_some_type(true, types.first(), line)
+}
+
+/// Appends the type of the first result, a tensor type, behind a blank, or the blank alone for another type and for
+/// none.
+#[tactic(auto, using(crate::proofs::Texts::same_result_tensor))]
+pub fn write_result_tensor(types: &[PayloadType], line: &mut Vec<u8>) -> Result<(), NoMemory>
+    ensures { OnOk result (line.new.items
+        ≡ line.old.items ++ rule_text (result_tensor_rule true) (tensor_or_none (slice_get types.now 0))) }
+{
+    write_some_tensor(types.first(), line)
+}
 
 /// Appends types in parentheses.
 #[tactic(auto, using(crate::proofs::Results::listed_text, std::proofs::lemmas::Grind::common_steps))]

@@ -1,5 +1,5 @@
 //! Operands, their types and lists of them, appended to the line so far. They refuse for want of memory alone.
-ghost use Rattle.std.specs.Prelude.{◌≡◌, ◌+◌, suc, ◌++◌, OnOk, drop, slice_get};
+ghost use Rattle.std.specs.Prelude.{◌≡◌, ◌+◌, suc, ◌++◌, OnOk, drop, option_and_then, slice_get};
 ghost use Rattle.std.specs.Option.{option_copied};
 ghost use Rattle.xf_format.specs.Rules.{language, operands_rule, pair_rule, param_rule, type_rule, use_rule};
 ghost use Rattle.xf_grammar.specs.Grammar.{begun, gap_of, listed, written};
@@ -7,7 +7,7 @@ ghost use Rattle.xf_grammar.specs.Layout.{text};
 ghost use Rattle.xf_print_base.specs.Index.{names_of};
 ghost use Rattle.xf_printed.specs.Items.{operand_fill, operands_fill, pair_fill, pairs, param_fill, params, rule_text};
 ghost use Rattle.xf_printed.specs.Items.{some_fill, value_fill, value_type_fill};
-ghost use Rattle.xf_printed.specs.Unread.{operand_type};
+ghost use Rattle.xf_printed.specs.Names.{type_of};
 
 use crate::index::{Index, write_argument};
 use crate::types::write_type;
@@ -48,21 +48,15 @@ pub fn write_operand(
     }
 }
 
-/// Appends the type of the operand with that number, behind a blank.
-#[tactic(auto, using(crate::proofs::Texts::no_type))]
-pub fn write_operand_type(
-    names: &Index<'_>,
+/// The type of the operand with that number.
+pub fn operand_type<'a>(
+    names: &Index<'a>,
     operands: &[ValueName],
     at: usize,
-    line: &mut Vec<u8>,
-) -> Result<(), NoMemory>
-    ensures { OnOk result (line.new.items
-        ≡ line.old.items ++ operand_type (names_of names.now) operands.now at) }
+) -> Option<&'a PayloadType>
+    ensures { option_copied result ≡ option_and_then (type_of (names_of names.now)) (slice_get operands.now at) }
 {
-    match nth(operands, at) {
-        None => write_gap(true, line),
-        Some(value) => names.write_type_of(true, *value, line),
-    }
+    names.type_of(*nth(operands, at)?)
 }
 
 /// Appends values, with a comma between each two.

@@ -1,12 +1,10 @@
 -- As many operations are said as there are, but for terminators that are left out, which count too.
-use Rattle.std.proofs.Common.{◌≡◌, ◌⊎◌, inl, inr, ℕ, ◌+◌, ◌≤◌, Bool, true, false, List, length, refl, sym, ap, subst}
-use Rattle.std.proofs.Common.{◌∙◌, arith}
-use Rattle.std.specs.Prelude.{not, ◌==◌, ◌&&◌, ◌||◌, if◌then◌else◌}
-use Rattle.std.proofs.lemmas.Bool.{and_parts}
+use Rattle.std.proofs.Common.{◌≡◌, ℕ, ◌+◌, ◌≤◌, Bool, true, false, List, refl, sym, ap, ◌∙◌, arith}
+use Rattle.std.specs.Prelude.{not, ◌&&◌, ◌||◌, if◌then◌else◌}
+use Rattle.xf_grammar.proofs.Basics.{both_true}
 use Rattle.xf_type.specs.declared.payload_type.PayloadType.{PayloadType}
 use Rattle.xf_grammar.specs.Tree.{SaidNodes, no_nodes_said, node_said, SaidBodies}
 use Rattle.xf_grammar.specs.Tree.{said_ends_in, operations, operations_inside}
-use Rattle.xf_format.specs.declared.row.Row.{Row}
 use Rattle.xf_format.specs.Format.{ends_open, format}
 use Rattle.xf_format.specs.Parts.{Said}
 use Rattle.xf_format.specs.Rows.{is_yield}
@@ -26,51 +24,40 @@ use Rattle.xf_print_laws.specs.SaidPrinted.{row_of, head_printed, ops_printed, r
 use Rattle.xf_print_laws.specs.SaidPrinted.{printed_said}
 use Rattle.xf_print_laws.proofs.Needs.{tree, names_in, OpsFit, RegionsFit, FunctionsFit, ModuleFits}
 
--- ---- blocks that end in a yield, or where one is left out
+-- ---- blocks
 
-abbrev ends_in_yield : SaidNodes Said → Bool
-ends_in_yield ns = said_ends_in (λ (t : Said). t.row) is_yield ns
+-- whether a yield is left out of a block that may lack it
+abbrev left : Bool → SaidNodes Said → ℕ
+left b ns = if b && not (said_ends_in (λ (t : Said). t.row) is_yield ns) then 1 else 0
 
-ends_more : (t : Said) (bs : SaidBodies Said) (ns : SaidNodes Said) → ends_in_yield ns ≡ true
-    → ends_in_yield (node_said t bs ns) ≡ true
-ends_more t bs no_nodes_said e = absurd cc
-ends_more t bs (node_said u cs ns) e = e
+-- what is said of a block, with the yield that is left out
+abbrev all_of : Bool → SaidNodes Said → ℕ
+all_of b ns = operations format ns + left b ns
 
--- a block of which so many operations are said
-abbrev Ends : SaidNodes Said → ℕ → Type 0
-Ends ns count = (ends_in_yield ns ≡ true) ⊎ (operations format ns + 1 ≤ count)
+one_at_most : (c : Bool) → (if c then 1 else 0) ≤ 1
+one_at_most true = omega arith
+one_at_most false = omega arith
 
-last_yield : (b : Bool) (t : Said) (bs : SaidBodies Said) (count : ℕ) → is_yield t.row ≡ true → 1 ≤ count
-    → Ends (if b then no_nodes_said else node_said t bs no_nodes_said) count
-last_yield true t bs count y le = inr (omega (arith, le))
-last_yield false t bs count y le = inl y
+left_less : (b : Bool) (t : Said) (bs : SaidBodies Said) (ns : SaidNodes Said) → left b (node_said t bs ns) ≤ left b ns
+left_less false t bs ns = omega arith
+left_less true t bs no_nodes_said = one_at_most (not (is_yield t.row))
+left_less true t bs (node_said u cs ns) = omega arith
 
-later_yield : (b : Bool) (t : Said) (bs : SaidBodies Said) (ns : SaidNodes Said) (inner rest : ℕ)
-    → operations_inside format t bs ≤ inner → Ends ns rest
-    → Ends (if b then ns else node_said t bs ns) (1 + inner + rest)
-later_yield true t bs ns inner rest le (inl e) = inl e
-later_yield true t bs ns inner rest le (inr e) = inr (omega (arith, e))
-later_yield false t bs ns inner rest le (inl e) = inl (ends_more t bs ns e)
-later_yield false t bs ns inner rest le (inr e) = inr (omega (arith, e, le))
+-- an operation that is left out or not, before others, and at the end of a block
+first_few : (out b : Bool) (t : Said) (bs : SaidBodies Said) (ns : SaidNodes Said) (inner rest : ℕ)
+    → operations_inside format t bs ≤ inner → all_of b ns ≤ rest
+    → all_of b (if out then ns else node_said t bs ns) ≤ 1 + inner + rest
+first_few true b t bs ns inner rest le e = omega (arith, e)
+first_few false b t bs ns inner rest le e = omega (arith, e, le, left_less b t bs ns)
 
--- with the one that is left out they are no more than so many
-left_few : (omits : Bool) (ns : SaidNodes Said) (count : ℕ) → operations format ns ≤ count → Ends ns count
-    → operations format ns + (if omits && not (ends_in_yield ns) then 1 else 0) ≤ count
-left_few false ns count le e = omega (arith, le)
-left_few true ns count le (inl e) = rw e (omega (arith, le))
-left_few true ns count le (inr e) = added (ends_in_yield ns) (operations format ns) count e
-  where
-    added : (b : Bool) (a count : ℕ) → a + 1 ≤ count → a + (if not b then 1 else 0) ≤ count
-    added true a count e = omega (arith, e)
-    added false a count e = e
+last_few : (out b : Bool) (t : Said) (bs : SaidBodies Said) (inner : ℕ) → operations_inside format t bs ≤ inner
+    → (b ≡ true → is_yield t.row ≡ true)
+    → all_of b (if out then no_nodes_said else node_said t bs no_nodes_said) ≤ 1 + inner + 0
+last_few true b t bs inner le y = omega (arith, one_at_most (b && true))
+last_few false false t bs inner le y = omega (arith, le)
+last_few false true t bs inner le y = let z = y refl in rw z (omega (arith, le))
 
 -- ---- operations
-
-one_few : (b : Bool) (t : Said) (bs : SaidBodies Said) (ns : SaidNodes Said) (inner rest : ℕ)
-    → operations_inside format t bs ≤ inner → operations format ns ≤ rest
-    → operations format (if b then ns else node_said t bs ns) ≤ 1 + inner + rest
-one_few true t bs ns inner rest le e = omega (arith, e)
-one_few false t bs ns inner rest le e = omega (arith, e, le)
 
 -- the row of a kind that ends a block of scf
 yield_row : (k : Kind) → is_yield_kind k ≡ true → is_yield (row_of k) ≡ true
@@ -80,50 +67,34 @@ yield_row k e = absurd cc
 -- a kind whose blocks end in a yield
 record EndsInYield (holder : Kind) : Type 0 where
   some : is_endless holder ≡ false
-  yields : (k : Kind) → (is_endless holder || ends_for holder k) ≡ true → is_yield_kind k ≡ true
+  yields : (k : Kind) → (is_endless holder || ends_for holder k) ≡ true → is_yield (row_of k) ≡ true
 
--- the terminator that is left out of a block of an operation of this row
-abbrev LeftFew : Row → List PayloadType → SaidNodes Said → ℕ → Type 0
-LeftFew r results ns count =
-    operations format ns + (if ends_open r results && not (ends_in_yield ns) then 1 else 0) ≤ count
-
-block_few : (results : List PayloadType) (k : Kind) (ns : SaidNodes Said) (count : ℕ) → operations format ns ≤ count
-    → (EndsInYield k → Ends ns count) → LeftFew (row_of k) results ns count
-block_few results (kind.For width) ns count le e =
-    left_few (length results == 0) ns count le (e (record { some = refl; yields = λ k y. y }))
-block_few results kind.If ns count le e =
-    left_few (length results == 0) ns count le (e (record { some = refl; yields = λ k y. y }))
-block_few results k ns count le e = omega (arith, le)
+ends_in_yield : (k : Kind) (ts : List PayloadType) → ends_open (row_of k) ts ≡ true → EndsInYield k
+ends_in_yield (kind.For width) ts e = record { some = refl; yields = λ k y. yield_row k y }
+ends_in_yield kind.If ts e = record { some = refl; yields = λ k y. yield_row k y }
+ends_in_yield k ts e = absurd cc
 
 mutual
-  pub ops_few : (names : Names) (ops : Ops) → OpsFit names ops
-      → operations format (ops_printed names ops) ≤ ops_count ops
-  ops_few names no_ops f = omega arith
-  ops_few names (op n k ds os ts rs rest) f =
-      one_few (is_empty_yield k ds os) _ (regions_printed names rs) (ops_printed names rest) (regions_count rs)
-      (ops_count rest) (regions_few names _ k rs refl (f.1.0).ends f.1.1.0) (ops_few names rest f.1.1.1)
+  ops_few : (names : Names) (holder : Kind) (b : Bool) (ops : Ops) → (b ≡ true → EndsInYield holder)
+      → OpsFit names ops → block_ends holder ops ≡ true → all_of b (ops_printed names ops) ≤ ops_count ops
+  ops_few names holder true no_ops h f e = absurd (let z = sym (h refl).some ∙ e in cc)
+  ops_few names holder false no_ops h f e = omega arith
+  ops_few names holder b (op n k ds os ts rs no_ops) h f e =
+      last_few (is_empty_yield k ds os) b (head_printed names (tree n k ds os ts rs)) (regions_printed names rs)
+      (regions_count rs) (regions_few names _ k rs refl (f.1.0).ends f.1.1.0) (λ t. (h t).yields k e)
+  ops_few names holder b (op n k ds os ts rs (op n' k' ds' os' ts' rs' rest)) h f e =
+      first_few (is_empty_yield k ds os) b (head_printed names (tree n k ds os ts rs)) (regions_printed names rs) _
+      (regions_count rs) _ (regions_few names _ k rs refl (f.1.0).ends f.1.1.0)
+      (ops_few names holder b (op n' k' ds' os' ts' rs' rest) h f.1.1.1 e)
 
-  -- a block that is to end in a yield
-  ops_end : (names : Names) (holder : Kind) (ops : Ops) → EndsInYield holder → OpsFit names ops
-      → block_ends holder ops ≡ true → Ends (ops_printed names ops) (ops_count ops)
-  ops_end names holder no_ops h f e = absurd (let z = sym h.some ∙ e in cc)
-  ops_end names holder (op n k ds os ts rs no_ops) h f e =
-      last_yield (is_empty_yield k ds os) _ (regions_printed names rs) _ (yield_row k (h.yields k e)) (omega arith)
-  ops_end names holder (op n k ds os ts rs (op n' k' ds' os' ts' rs' rest)) h f e =
-      later_yield (is_empty_yield k ds os) _ (regions_printed names rs) _ (regions_count rs) _
-      (regions_few names _ k rs refl (f.1.0).ends f.1.1.0)
-      (ops_end names holder (op n' k' ds' os' ts' rs' rest) h f.1.1.1 e)
-
-  pub regions_few : (names : Names) (t : Said) (k : Kind) (rs : Regions) → t.row ≡ row_of k → blocks_end k rs ≡ true
+  regions_few : (names : Names) (t : Said) (k : Kind) (rs : Regions) → t.row ≡ row_of k → blocks_end k rs ≡ true
       → RegionsFit names rs → operations_inside format t (regions_printed names rs) ≤ regions_count rs
   regions_few names t k no_regions r e f = omega arith
   regions_few names t k (region args ops rest) r e f =
-      let p = and_parts (block_ends k ops) _ e in
-      let a = subst (λ x. LeftFew x t.results (ops_printed names ops) (ops_count ops)) (sym r)
-      (block_few t.results k (ops_printed names ops) (ops_count ops) (ops_few names ops f.0)
-      (λ h. ops_end names k ops h f.0 p.0)) in
-      let b = regions_few names t k rest r p.1 f.1 in
-      omega (arith, a, b)
+      let p = both_true (block_ends k ops) _ e in
+      let may = ends_open t.row t.results in
+      let open_ends = λ (o : may ≡ true). ends_in_yield k t.results (ap (λ x. ends_open x t.results) (sym r) ∙ o) in
+      omega (arith, ops_few names k may ops open_ends f.0 p.0, regions_few names t k rest r p.1 f.1)
 
 -- ---- functions and the module
 
@@ -131,9 +102,8 @@ functions_few : (fs : Ops) → FunctionsFit fs → operations format (functions_
 functions_few no_ops f = omega arith
 functions_few (op n k ds os ts rs rest) f =
     let names = names_in n k ds os ts rs in
-    let a = regions_few names (head_printed names (tree n k ds os ts rs)) k rs refl (f.1.1.0).ends f.1.1.1.0 in
-    let b = functions_few rest f.1.1.1.1 in
-    omega arith
+    let t = head_printed names (tree n k ds os ts rs) in
+    omega (arith, regions_few names t k rs refl (f.1.1.0).ends f.1.1.1.0, functions_few rest f.1.1.1.1)
 
 -- a module leaves no terminator out
 closed : (k : Kind) (ts : List PayloadType) → is_module k ≡ true → ends_open (row_of k) ts ≡ false

@@ -1,6 +1,6 @@
 -- A filling that fits a rule behind what is said: what is said then, and that its tokens are ones that the lexer reads
 -- as themselves. One rule behind the other, and lists of items.
-use Rattle.std.proofs.Common.{◌≡◌, ℕ, ◌^◌, ◌<◌, Bool, true, false, List, [], ◌∷◌, ◌++◌, length, refl, sym, ap, subst}
+use Rattle.std.proofs.Common.{◌≡◌, ℕ, ◌^◌, ◌<◌, Bool, true, false, List, [], ◌∷◌, ◌++◌, length, refl, sym, subst}
 use Rattle.std.proofs.Common.{◌∙◌, arith, length-append}
 use Rattle.std.specs.Prelude.{not, nat_lt, ◌&&◌}
 use Rattle.std.proofs.lemmas.Bool.{lt-ltb}
@@ -15,13 +15,17 @@ use Rattle.xf_grammar.specs.Grammar.{more_tells, more_fits}
 use Rattle.xf_grammar.proofs.Basics.{and_is, both_true}
 use Rattle.xf_format.specs.declared.expected.Expected.{Expected}
 use Rattle.xf_format.specs.declared.list.Item.{Item}
-use Rattle.xf_format.specs.Actions.{Saying, free_said}
+use Rattle.xf_format.specs.Actions.{free_said}
 use Rattle.xf_format.specs.Parts.{EntrySaid, UseSaid, Said}
 use Rattle.xf_format.specs.Rules.{Rule, language, kind_rule, item_rule, until_rule}
 use Rattle.xf_format.specs.Tests.{Test, allows}
 use Rattle.xf_ir.specs.Lists.{Each}
 use Rattle.xf_printed.specs.Fills.{mark_fill, more_fill, list_fill, until_fill}
 use Rattle.xf_print_laws.proofs.LayoutTokens.{mark_lexes}
+use Rattle.std.proofs.Common.{inl, inr}
+use Rattle.std.specs.Prelude.{◌==◌, ◌||◌}
+use Rattle.std.proofs.lemmas.Bool.{or_cases, eqb-true}
+use Rattle.xf_lex.specs.declared.token.TokenKind.TheVariants as token
 
 -- ---- what is said, with more entries in its lists
 
@@ -41,39 +45,29 @@ abbrev pub add_results : Said → List PayloadType → Said
 add_results d xs = record d { results = d.results ++ xs }
 
 -- none of these lists has 2 ^ 32 entries
-pub record FewIn (es : List EntrySaid) (xs : List (List ℕ)) (us : List UseSaid)
-    (ts rs : List PayloadType) : Type 0 where
-  pub entries : length es < 2 ^ 32
-  pub args : length xs < 2 ^ 32
-  pub uses : length us < 2 ^ 32
-  pub types : length ts < 2 ^ 32
-  pub results : length rs < 2 ^ 32
-
 abbrev pub FewSaid : Said → Type 0
-FewSaid d = FewIn d.entries d.args d.uses d.types d.results
+FewSaid d =
+    (length d.entries < 2 ^ 32)
+    × ((length d.args < 2 ^ 32)
+    × ((length d.uses < 2 ^ 32) × ((length d.types < 2 ^ 32) × (length d.results < 2 ^ 32))))
 
 cut : {A : Type 0} (xs ys : List A) → length (xs ++ ys) < 2 ^ 32 → length xs < 2 ^ 32
 cut xs ys few = let e = length-append xs ys in omega arith
 
 pub few_entries : (d : Said) (xs : List EntrySaid) → FewSaid (add_entries d xs) → FewSaid d
-few_entries d xs s =
-    record { entries = cut d.entries xs s.entries; args = s.args; uses = s.uses; types = s.types; results = s.results }
+few_entries d xs s = (cut d.entries xs s.0, s.1)
 
 pub few_args : (d : Said) (xs : List (List ℕ)) → FewSaid (add_args d xs) → FewSaid d
-few_args d xs s =
-    record { entries = s.entries; args = cut d.args xs s.args; uses = s.uses; types = s.types; results = s.results }
+few_args d xs s = (s.0, (cut d.args xs s.1.0, s.1.1))
 
 pub few_uses : (d : Said) (xs : List UseSaid) → FewSaid (add_uses d xs) → FewSaid d
-few_uses d xs s =
-    record { entries = s.entries; args = s.args; uses = cut d.uses xs s.uses; types = s.types; results = s.results }
+few_uses d xs s = (s.0, (s.1.0, (cut d.uses xs s.1.1.0, s.1.1.1)))
 
 pub few_types : (d : Said) (xs : List PayloadType) → FewSaid (add_types d xs) → FewSaid d
-few_types d xs s =
-    record { entries = s.entries; args = s.args; uses = s.uses; types = cut d.types xs s.types; results = s.results }
+few_types d xs s = (s.0, (s.1.0, (s.1.1.0, (cut d.types xs s.1.1.1.0, s.1.1.1.1))))
 
 pub few_results : (d : Said) (xs : List PayloadType) → FewSaid (add_results d xs) → FewSaid d
-few_results d xs s =
-    record { entries = s.entries; args = s.args; uses = s.uses; types = s.types; results = cut d.results xs s.results }
+few_results d xs s = (s.0, (s.1.0, (s.1.1.0, (s.1.1.1.0, cut d.results xs s.1.1.1.1))))
 
 -- where there are few with one more, there is room for it
 pub room : {A : Type 0} (xs : List A) (x : A) → length (xs ++ x ∷ []) < 2 ^ 32 → nat_lt (length xs) most_entries ≡ true
@@ -93,12 +87,13 @@ skips = record { fit = λ s. refl; say = refl; few = λ s. s; lex = tt }
 
 pub both_go : {g k : Rule} {f p : Fill} {y : Terminal} {d e s : Said}
     → Goes g f (first_seen (tokens language k p) y) d e → Goes k p y e s → Goes (both g k) (two f p) y d s
-both_go {k = k} {p = p} {y = y} a b = record {
-  fit = λ s. and_is _ _ (a.fit (b.few s)) (subst (λ t. fits language k p y t ≡ true) (sym a.say) (b.fit s));
-  say = ap (tells language k p) a.say ∙ b.say;
-  few = λ s. a.few (b.few s);
-  lex = (a.lex, b.lex);
-}
+both_go a b = let e = a.say in
+    record {
+      fit = λ s. and_is _ _ (a.fit (b.few s)) (rw e (b.fit s));
+      say = rw e b.say;
+      few = λ s. a.few (b.few s);
+      lex = (a.lex, b.lex);
+    }
 
 -- a token that is not held, and what follows it
 pub take_goes : {gap : Bool} {test : Test} {x : Terminal} {on off : Rule} {f : Fill} {y : Terminal} {d e : Said}
@@ -142,7 +137,7 @@ seen_both (p ∷ ps) qs y = refl
 
 -- no token that ends a list
 abbrev pub begins_item : Terminal → Bool
-begins_item y = not (is_kind close_paren y) && not (is_kind close_brace y)
+begins_item y = not (is_kind close_paren y) && (not (is_kind close_brace y) && not (is_kind (token.Mark 93) y))
 
 -- an item fits before each token that may stand behind it; what items say
 pub record Items {A : Type 0} (g : Rule) (fill : A → Fill) (put : List A → Said → Said) (Good : A → Type 0)
@@ -172,10 +167,10 @@ module _ {A : Type 0} {g : Rule} {fill : A → Fill} {put : List A → Said → 
       → Goes (listed g) (list_fill fill x xs) y d (put (x ∷ xs) d)
   step x xs y d h m b =
       let a = items.one x _ d h (may_follow xs y m) in
-      let k : Fill → Terminal → Saying → Bool = more_fits (written language g) (tells language g) (fits language g) in
+      let e = a.say in
       so_said (items.more x xs d h) (record {
-        fit = λ s. and_is _ _ (a.fit (b.few s)) (subst (λ t. k (more_fill fill xs) y t ≡ true) (sym a.say) (b.fit s));
-        say = ap (more_tells (tells language g) (more_fill fill xs)) a.say ∙ b.say;
+        fit = λ s. and_is _ _ (a.fit (b.few s)) (rw e (b.fit s));
+        say = rw e b.say;
         few = λ s. a.few (b.few s);
         lex = (a.lex, b.lex);
       })
@@ -207,7 +202,27 @@ paren_ends e =
 
 pub brace_ends : {may : Terminal → Bool} → may (terminal close_brace []) ≡ true → Ends may close_brace
 brace_ends e =
-    record { own = refl; may_end = e; comma = refl; lex = mark_lexes 125 refl; apart = λ y b. (both_true _ _ b).1 }
+    record {
+      own = refl;
+      may_end = e;
+      comma = refl;
+      lex = mark_lexes 125 refl;
+      apart = λ y b. (both_true _ _ (both_true _ _ b).1).0;
+    }
+
+-- ) or ]
+pub list_ends : {may : Terminal → Bool} → may (terminal close_paren []) ≡ true
+    → may (terminal (token.Mark 93) []) ≡ true → (b : ℕ) → ((b == 41) || (b == 93)) ≡ true → Ends may (token.Mark b)
+list_ends {may} e f b h = elim (or_cases (b == 41) _ h) [
+  | inl p ↦ subst (λ c. Ends may (token.Mark c)) (sym (eqb-true b 41 p)) (paren_ends e)
+  | inr p ↦ subst (λ c. Ends may (token.Mark c)) (sym (eqb-true b 93 p)) (record {
+    own = refl;
+    may_end = f;
+    comma = refl;
+    lex = mark_lexes 93 refl;
+    apart = λ y b. (both_true _ _ (both_true _ _ b).1).1;
+  })
+]
 
 -- items up to a token that ends them and begins none
 pub until_goes : {A : Type 0} {fill : A → Fill} {put : List A → Said → Said} {Good : A → Type 0}
@@ -225,4 +240,4 @@ until_goes {fill = fill} {put = put} i close due items ends (x ∷ xs) y d h =
     let more = more_written (written language (item_rule i)) (more_fill fill xs) in
     let end = written language (kind_rule false due close) (mark_fill close) in
     let seen = seen_both (first ++ more) end y ∙ seen_both first more (first_seen (tokens_of end) y) in
-    off_goes (subst (λ z. not (is_kind close z) ≡ true) (sym seen) (ends.apart _ (items.begins x _ h.0))) b
+    off_goes (rw seen (ends.apart _ (items.begins x _ h.0))) b

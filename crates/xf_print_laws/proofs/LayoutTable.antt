@@ -13,7 +13,7 @@ use Rattle.xf_grammar.proofs.Basics.{both_true}
 use Rattle.xf_grammar.proofs.LaidOut.{known_token}
 use Rattle.xf_format.specs.declared.row.Row.{Row}
 use Rattle.xf_format.specs.declared.row.Row.TheVariants as row
-use Rattle.xf_format.specs.Actions.{Action, tensor_type, unread_rest, Saying}
+use Rattle.xf_format.specs.Actions.{Action, unread_rest, Saying}
 use Rattle.xf_format.specs.Format.{format}
 use Rattle.xf_format.specs.Rules.{language, kind_rule, word_rule, symbol_rule, module_name_rule, function_name_rule}
 use Rattle.xf_format.specs.Rules.{argument_rule, use_rule, width_rule, type_rule, result_rule, predicate_rule}
@@ -23,9 +23,15 @@ use Rattle.xf_format.specs.Rules.{attributes_rule, result_types_rule, call_resul
 use Rattle.xf_format.specs.Rules.{listed_results_rule, if_results_rule, operands_rule, iter_args_rule, loop_width_rule}
 use Rattle.xf_format.specs.Rules.{row_rule, defines_rule, head_rule}
 use Rattle.xf_format.specs.Tests.{Test, of_kind, of_word, short_symbol, short_word, short_text, an_index, a_width}
+use Rattle.xf_format.specs.Tests.{a_shape}
 use Rattle.xf_format.specs.Tests.{a_predicate, integer_for, width_for, an_operation, an_unread, a_result, State}
-use Rattle.xf_format.specs.Words.{Table, lookup, widths, predicates, is_width, row_begun, opens, opens_unread}
+use Rattle.xf_format.specs.Words.{Table, lookup, widths, predicates, is_width, is_shape, row_begun, opens, opens_unread}
 use Rattle.xf_format.specs.Rows.{words, has_operations}
+use Rattle.xf_format.specs.Rules.{tensor_rule, result_tensor_rule, typed_rule, ins_rule, outs_rule}
+use Rattle.xf_format.specs.declared.row.Body.{Body}
+use Rattle.xf_format.specs.declared.row.Body.TheVariants as body
+use Rattle.xf_format.specs.Rows.{bodies}
+use Rattle.xf_format.specs.Format.{regions_of}
 
 -- ---- what the tokens that pass a test stand as
 
@@ -42,11 +48,11 @@ class short_text = kinds kind.Text
 class an_index = kinds kind.Hash
 class (integer_for negative w) = kinds kind.Integer
 class (a_result l) = kinds kind.Value
+class a_shape = kinds kind.Shape
 class x = kinds kind.Word
 
--- a later reader reads tensor types and the rest of some operations
+-- a later reader reads the rest of some operations
 abbrev never : Action → Bool
-never tensor_type = true
 never unread_rest = true
 never k = false
 
@@ -98,6 +104,10 @@ index_there : (y : Terminal) → is_index y ≡ true → Among (before y) (kinds
 index_there (terminal kind.Hash bytes) e = kind_there kind.Hash bytes
 index_there y e = absurd cc
 
+shape_there : (y : Terminal) → is_shape y ≡ true → Among (before y) (kinds kind.Shape)
+shape_there (terminal kind.Shape bytes) e = inl refl
+shape_there y e = absurd cc
+
 some_of : (p : Option Row → Bool) (r : Option Row) → p None ≡ false → p r ≡ true → is_some r ≡ true
 some_of p None n e = absurd cc
 some_of p (Some r) n e = refl
@@ -110,6 +120,7 @@ classed short_word y t e = of_kind_there kind.Word y (both_true (is_kind kind.Wo
 classed short_text y t e = of_kind_there kind.Text y (both_true (is_kind kind.Text y) _ e).0
 classed an_index y t e = index_there y e
 classed a_width y t e = found_there widths y refl e
+classed a_shape y t e = shape_there y e
 classed a_predicate y t e = found_there predicates y refl e
 classed (integer_for negative w) y t e = of_kind_there kind.Integer y (both_true (is_kind kind.Integer y) _ e).0
 classed (width_for negative) y t e = found_there widths y refl (both_true (is_width y) _ e).0
@@ -118,7 +129,6 @@ classed (an_unread l) y t e = found_there words y refl (some_of (opens_unread l)
 classed (a_result l) y t e = of_kind_there kind.Value y (both_true (has_operations l) _ e).1
 
 never_space : (k : Action) (t : Saying) → never k ≡ true → language.space k t ≡ false
-never_space tensor_type t e = refl
 never_space unread_rest t e = refl
 never_space k t e = absurd cc
 
@@ -132,14 +142,13 @@ unfolding kind_rule word_rule symbol_rule module_name_rule function_name_rule ar
     type_rule result_rule predicate_rule block_name_rule number_rule literal_rule entry_width_rule entry_number_rule
     entry_value_rule entry_rule param_rule pair_rule until_rule dictionary_rule attributes_rule result_types_rule
     call_results_rule function_results_rule listed_results_rule if_results_rule operands_rule iter_args_rule
-    loop_width_rule row_rule defines_rule head_rule
+    loop_width_rule tensor_rule result_tensor_rule typed_rule ins_rule outs_rule row_rule defines_rule head_rule
 rows_apart l row.Module = refl
 rows_apart l r = refl
 
+else_lexes : (b : Body) → ShapeLexes (regions_of b)
+else_lexes body.None = tt
+else_lexes b = known_token kind.Word (codes "else") refl refl refl
+
 pub shapes_lex : (r : Row) → ShapeLexes (format.shape r)
-shapes_lex row.Module = known_token kind.Word (codes "else") refl refl refl
-shapes_lex row.Function = known_token kind.Word (codes "else") refl refl refl
-shapes_lex row.For = known_token kind.Word (codes "else") refl refl refl
-shapes_lex row.If = known_token kind.Word (codes "else") refl refl refl
-shapes_lex row.Generic = known_token kind.Word (codes "else") refl refl refl
-shapes_lex r = tt
+shapes_lex r = else_lexes (bodies r)

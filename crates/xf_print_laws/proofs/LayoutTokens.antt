@@ -25,7 +25,7 @@ use Rattle.xf_ir.specs.Words.{is_word}
 use Rattle.xf_printed.specs.Attributes.{hex_digit, is_plain, byte_text, string_text}
 use Rattle.xf_printed.specs.Fills.{number_name}
 use Rattle.xf_printed.specs.Names.{argument_text}
-use Rattle.xf_print_laws.proofs.Strings.{hex_is}
+use Rattle.xf_print_laws.proofs.Strings.{hex_is, plain_apart}
 
 -- ---- bytes that pass a test
 
@@ -141,10 +141,31 @@ abbrev pub is_mark : ℕ → Bool
 is_mark b = some (λ m. m == b) marks
 
 abbrev IsAlone : ℕ → Type 0
-IsAlone b = token_at false (b ∷ []) ≡ front.Token (kind.Mark b) 1
+IsAlone b = (token_at false (b ∷ []) ≡ front.Token (kind.Mark b) 1) × (is_low b ≡ true)
 
 all_alone : Each IsAlone marks
-all_alone = (refl, (refl, (refl, (refl, (refl, (refl, (refl, (refl, (refl, (refl, tt))))))))))
+all_alone = (
+  (refl, refl),
+  (
+    (refl, refl),
+    (
+      (refl, refl),
+      (
+        (refl, refl),
+        (
+          (refl, refl),
+          (
+            (refl, refl),
+            (
+              (refl, refl),
+              ((refl, refl), ((refl, refl), ((refl, refl), tt))),
+            ),
+          ),
+        ),
+      ),
+    ),
+  ),
+)
 
 one_of : (P : ℕ → Type 0) (b : ℕ) (ms : List ℕ) → some (λ m. m == b) ms ≡ true → Each P ms → P b
 one_of P b [] e h = absurd cc
@@ -153,14 +174,10 @@ one_of P b (m ∷ ms) e h = elim (or_cases (m == b) _ e) [
   | inr later ↦ one_of P b ms later h.1
 ]
 
-mark_low : (b : ℕ) → is_mark b ≡ true → is_low b ≡ true
-mark_low b e =
-    one_of (λ m. is_low m ≡ true) b marks e
-    (refl, (refl, (refl, (refl, (refl, (refl, (refl, (refl, (refl, (refl, tt))))))))))
-
 pub mark_lexes : (b : ℕ) → is_mark b ≡ true → IsLexeme (terminal (kind.Mark b) [])
 mark_lexes b e =
-    known_token (kind.Mark b) [] (one_of IsAlone b marks e all_alone) refl (and_is (is_low b) true (mark_low b e) refl)
+    let m = one_of IsAlone b marks e all_alone in
+    known_token (kind.Mark b) [] m.0 refl (and_is (is_low b) true m.1 refl)
 
 -- ---- strings
 
@@ -168,11 +185,6 @@ mark_lexes b e =
 hex_apart : (d : ℕ) → is_hex d ≡ true
     → (is_low d ≡ true) × ((d == 10) ≡ false) × ((d == 34) ≡ false) × ((d == 92) ≡ false)
 hex_apart d h = (grind (arith, nat_tests), grind (arith, nat_tests), grind (arith, nat_tests), grind (arith, nat_tests))
-
-plain_apart : (b : ℕ) → is_plain b ≡ true
-    → (is_low b ≡ true) × ((b == 10) ≡ false) × ((b == 34) ≡ false) × ((b == 92) ≡ false)
-plain_apart b h =
-    (grind (arith, nat_tests), grind (arith, nat_tests), grind (arith, nat_tests), grind (arith, nat_tests))
 
 -- bytes that a string reads over whole, and that have only escapes
 record Over (text : List ℕ) : Type 0 where

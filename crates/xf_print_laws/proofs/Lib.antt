@@ -11,6 +11,7 @@ pub mod Numbers
 pub mod Operations
 pub mod Printed
 pub mod Rows
+pub mod Ruled
 pub mod Signed
 pub mod Single
 pub mod Slots

@@ -2,7 +2,7 @@
 use Rattle.std.specs.Prelude.{◌≡◌, ℕ, zero, suc, ◌+◌, ◌^◌, ◌<◌, List, [], ◌∷◌, length, drop, Option, Some, None, Bool}
 use Rattle.std.specs.Prelude.{true, false, not, ◌&&◌, ◌||◌}
 use Rattle.xf_type.specs.declared.payload_type.PayloadType.{PayloadType}
-use Rattle.xf_type.specs.declared.payload_type.PayloadType.TheVariants.{Scalar}
+use Rattle.xf_type.specs.declared.payload_type.PayloadType.TheVariants.{Scalar, Tensor}
 use Rattle.xf_ir.specs.declared.name.OpName.{OpName}
 use Rattle.xf_ir.specs.declared.name.ValueName.{ValueName}
 use Rattle.xf_ir.specs.declared.name.ValueName.TheVariants.{Result, Arg, Free}
@@ -17,11 +17,15 @@ use Rattle.xf_ir.specs.Placed.{functions_of}
 use Rattle.xf_ir.specs.RuleAttributes.{kind_fits, value_fits}
 use Rattle.xf_ir.specs.RuleBlocks.{is_end, blocks_end}
 use Rattle.xf_ir.specs.Tree.{Ops, no_ops, op, Regions, no_regions, region, Tree}
-use Rattle.xf_ir.specs.Types.{is_scalar}
 use Rattle.xf_ir.specs.Words.{is_word}
 use Rattle.xf_printed.specs.Names.{DefinedValues, Names, no_names, with_ops, first_args, number_of, first_of, type_of}
 use Rattle.xf_print_laws.specs.Core.{is_core}
 use Rattle.xf_print_laws.specs.Stored.{HasBytes}
+use Rattle.xf_printed.specs.Fills.{symbol_printed}
+use Rattle.xf_shape.specs.Laws.{AreStored}
+use Rattle.std.specs.Prelude.{option_and_then, slice_get}
+use Rattle.xf_ir.specs.RuleTypes.{is_one_tensor}
+use Rattle.xf_ir.specs.Types.{is_tensor_with}
 
 -- what is printed for a value of such an entry has numbers of 64 bits
 abbrev pub NamedResult : Option DefinedValues → ℕ → Type 0
@@ -37,12 +41,18 @@ Named names (Result o num) = NamedResult (names.entry o.0) num
 Named names (Arg o r num) = NamedArgument (names.entry o.0) num
 Named names (Free num) = ⊥
 
--- a value that has a scalar type and a name
-abbrev pub Known : Names → ValueName → Type 0
-Known names v = (is_scalar (type_of names v) ≡ true) × Named names v
+-- a type whose extents are numbers of 32 bits
+abbrev pub TypeFits : PayloadType → Type 0
+TypeFits (Scalar w) = Unit {0}
+TypeFits (Tensor s) = AreStored s.dims
 
-abbrev pub IsScalar : PayloadType → Type 0
-IsScalar t = is_scalar (Some t) ≡ true
+abbrev pub TypeKnown : Option PayloadType → Type 0
+TypeKnown None = ⊥
+TypeKnown (Some t) = TypeFits t
+
+-- a value that has such a type and a name
+abbrev pub Known : Names → ValueName → Type 0
+Known names v = TypeKnown (type_of names v) × Named names v
 
 -- a word that is short, where there is a symbol
 abbrev pub SymbolFits : Option (List ℕ) → Type 0
@@ -63,22 +73,40 @@ has_count zero (x ∷ xs) = false
 has_count (suc n) [] = false
 has_count (suc n) (x ∷ xs) = has_count n xs
 
+abbrev pub has_two_or_three : {A : Type 0} → List A → Bool
+has_two_or_three (a ∷ (b ∷ [])) = true
+has_two_or_three (a ∷ (b ∷ (c ∷ []))) = true
+has_two_or_three xs = false
+
 abbrev pub has_three : {A : Type 0} → List A → Bool
 has_three (a ∷ (b ∷ (c ∷ xs))) = true
 has_three xs = false
 
--- so many operands as the kind has in print
-abbrev pub counted : Kind → List ValueName → Bool
-counted (kind.Module symbol) os = has_count 0 os
-counted (kind.Func symbol private results) os = has_count 0 os
-counted (kind.Constant width bits) os = has_count 0 os
-counted (kind.Binary which width) os = has_count 2 os
-counted (kind.Compare which width) os = has_count 2 os
-counted (kind.Select width) os = has_count 3 os
-counted (kind.Convert which from to) os = has_count 1 os
-counted (kind.For width) os = has_three os
-counted kind.If os = has_count 1 os
-counted k os = true
+abbrev pub is_tensor : Option PayloadType → Bool
+is_tensor o = is_tensor_with (λ s. true) o
+
+-- the type of the operand with a number
+abbrev pub typed : Names → List ValueName → ℕ → Option PayloadType
+typed names os i = option_and_then (type_of names) (slice_get os i)
+
+-- operands and results as the kind has them in print: so many, and tensors where its row asks for some
+abbrev pub counted : Names → Kind → List ValueName → List PayloadType → Bool
+counted names (kind.Module symbol) os ts = has_count 0 os
+counted names (kind.Func symbol private results) os ts = has_count 0 os
+counted names (kind.Constant width bits) os ts = has_count 0 os
+counted names (kind.Binary which width) os ts = has_count 2 os
+counted names (kind.Compare which width) os ts = has_count 2 os
+counted names (kind.Select width) os ts = has_count 3 os
+counted names (kind.Convert which from to) os ts = has_count 1 os
+counted names (kind.For width) os ts = has_three os
+counted names kind.If os ts = has_count 1 os
+counted names kind.Empty os ts = is_one_tensor ts
+counted names kind.Dim os ts = has_count 2 os && is_tensor (typed names os 0)
+counted names kind.Extract os ts = is_tensor (typed names os 0)
+counted names kind.Insert os ts = is_tensor (typed names os 1)
+counted names kind.Cast os ts = has_count 1 os && has_count 1 ts
+counted names (kind.Named which) os ts = has_two_or_three os && has_count 1 ts
+counted names k os ts = true
 
 abbrev pub is_none : Regions → Bool
 is_none no_regions = true
@@ -111,15 +139,16 @@ tree n k ds os ts rs = record { name = n; kind = k; attrs = ds; operands = os; r
 pub record Fits (names : Names) (t : Tree) (rest : Ops) : Type 0 where
   pub core : is_core t.kind ≡ true
   pub kind_fit : kind_fits t.kind ≡ true
+  pub symbol : SymbolFits (symbol_printed t.kind)
   pub attrs : Each AttrFits t.attrs
   pub values : Each (Known names) t.operands
-  pub count : counted t.kind t.operands ≡ true
+  pub count : counted names t.kind t.operands t.results ≡ true
   pub regions : has_regions t.kind t.regions ≡ true
   pub arguments : first_args t.regions ≡ arguments_of t.kind t.results (first_args t.regions)
   pub carried : CarriedRight t.kind t.operands t.results
-  pub results : Each IsScalar t.results
-  pub args : Each IsScalar (first_args t.regions)
-  pub returned : Each IsScalar (returned_types t.kind)
+  pub results : Each TypeFits t.results
+  pub args : Each TypeFits (first_args t.regions)
+  pub returned : Each TypeFits (returned_types t.kind)
   pub number : number_of (names.entry t.name.0) < 2 ^ 64
   pub first : first_of (names.entry t.name.0) + length (first_args t.regions) < 2 ^ 64
   pub few : HasShortLists t

@@ -1,14 +1,14 @@
 -- Operations whose head, slots, bodies and tail fit one behind the other: those of a printed module fit the format, say
 -- what they are, and are written in tokens that the lexer reads.
-use Rattle.std.proofs.Common.{◌≡◌, ℕ, ◌+◌, ◌<◌, Bool, true, false, List, [], ◌∷◌, ◌++◌, refl, sym, ap, subst, ◌∙◌}
+use Rattle.std.proofs.Common.{◌≡◌, ℕ, ◌+◌, ◌<◌, Bool, true, false, List, [], ◌∷◌, ◌++◌, refl, sym, ap, subst}
 use Rattle.std.specs.Prelude.{not, nat_lt, codes, ◌&&◌, ◌||◌, if◌then◌else◌}
 use Rattle.std.proofs.lemmas.Bool.{lt-ltb, or_parts}
 use Rattle.xf_type.specs.declared.payload_type.PayloadType.{PayloadType}
-use Rattle.xf_grammar.specs.Tokens.{Terminal, the_end, terminal, is_kind, is_word, open_brace, close_brace}
-use Rattle.xf_grammar.specs.Grammar.{Fill, nothing, line, written, tells, fits}
+use Rattle.xf_grammar.specs.Tokens.{Terminal, the_end, terminal, is_word, close_brace}
+use Rattle.xf_grammar.specs.Grammar.{Fill, nothing, line, written}
 use Rattle.xf_grammar.specs.Tree.{Docs, no_docs, doc, Blocks, no_blocks, a_block, others_of, docs_written, follow}
 use Rattle.xf_grammar.specs.Tree.{docs_fit, SaidNodes, no_nodes_said, node_said, SaidBodies, no_bodies_said, body_said}
-use Rattle.xf_grammar.specs.Tree.{headers_say, tail_says, blocks_written, begins, blocks_fit, docs_say, blocks_say}
+use Rattle.xf_grammar.specs.Tree.{headers_say, blocks_written, begins, blocks_fit, docs_say, blocks_say}
 use Rattle.xf_grammar.specs.Tree.{row_of as row_written}
 use Rattle.xf_grammar.proofs.Basics.{and_is, both_true}
 use Rattle.xf_format.specs.declared.row.Level.{Level}
@@ -29,8 +29,7 @@ use Rattle.xf_ir.specs.Limits.{OpsNest, RegionsNest}
 use Rattle.xf_ir.specs.Placed.{functions_of}
 use Rattle.xf_ir.specs.RuleBlocks.{is_end}
 use Rattle.xf_ir.specs.Tree.{Ops, no_ops, op, Regions, no_regions, region, Tree}
-use Rattle.xf_printed.specs.Fills.{slots_fill}
-use Rattle.xf_printed.specs.Names.{Names, no_names, number_of, first_of}
+use Rattle.xf_printed.specs.Names.{Names, no_names, number_of}
 use Rattle.xf_printed.specs.PrintedForm.{is_empty_yield, word_of, head_of, slots_of, header_of, tail_of, ops_docs}
 use Rattle.xf_printed.specs.PrintedForm.{regions_blocks, functions_docs, module_docs}
 use Rattle.xf_print_laws.specs.Core.{is_core}
@@ -43,6 +42,9 @@ use Rattle.xf_print_laws.proofs.Rows.{after, untailed, row_goes, tail_goes, tail
 use Rattle.xf_print_laws.proofs.Words.{word_row, same_row, body_opens}
 use Rattle.xf_grammar.specs.Apart.{DocsLex, BlocksLex}
 use Rattle.xf_format.specs.Actions.{Saying, free_said}
+use Rattle.xf_ir.proofs.Lists.{at_cases}
+use Rattle.xf_format.specs.declared.row.FormatElement.{FormatElement}
+use Rattle.xf_print_laws.proofs.Slots.{filled}
 
 -- operations fit before a token, and say so much; their tokens are ones that the lexer reads
 pub record DocsGo (l : Level) (depth : ℕ) (ds : Docs) (y : Terminal) (ns : SaidNodes Said) : Type 0 where
@@ -50,175 +52,113 @@ pub record DocsGo (l : Level) (depth : ℕ) (ds : Docs) (y : Terminal) (ns : Sai
   pub say : docs_say format l ds ≡ ns
   pub lex : DocsLex ds
 
--- so do the bodies of an operation of a row, behind what it says
-pub record BlocksGo (r : Row) (depth others : ℕ) (bs : Blocks) (y : Terminal) (d : Said)
-    (ss : SaidBodies Said) : Type 0 where
-  pub fit : blocks_fit format r depth others true bs y (free_said d) ≡ true
-  pub headers : headers_say format r bs (free_said d) ≡ free_said d
-  pub say : blocks_say format r bs ≡ ss
-  pub lex : BlocksLex bs
+-- so do the bodies of an operation of a row, behind what it says, whose headers say nothing
+abbrev BlocksGo : Row → ℕ → Blocks → Terminal → Said → SaidBodies Said → Type 0
+BlocksGo r depth bs y d ss =
+    (blocks_fit format r depth (others_of (regions_of (bodies r))) true bs y (free_said d) ≡ true)
+    × ((headers_say format r bs (free_said d) ≡ free_said d) × ((blocks_say format r bs ≡ ss) × BlocksLex bs))
 
 -- what stands behind a head, behind its slots, and behind its bodies
-abbrev pub behind_bodies : Level → Row → Fill → Docs → Terminal → Terminal
+abbrev behind_bodies : Level → Row → Fill → Docs → Terminal → Terminal
 behind_bodies l r q rest y =
     follow (written language (slots_rule (tail r)) q ++ docs_written format (behind l) 0 rest) y
 
-abbrev pub behind_slots : Level → Row → Blocks → Fill → Docs → Terminal → Terminal
+abbrev behind_slots : Level → Row → Blocks → Fill → Docs → Terminal → Terminal
 behind_slots l r bs q rest y =
     follow (blocks_written format r 0 true bs ++
     (written language (slots_rule (tail r)) q ++ docs_written format (behind l) 0 rest)) y
 
-abbrev pub behind_head : Level → Row → Fill → Blocks → Fill → Docs → Terminal → Terminal
+abbrev behind_head : Level → Row → Fill → Blocks → Fill → Docs → Terminal → Terminal
 behind_head l r s bs q rest y =
     follow (written language (slots_rule (slots r)) s ++
     (blocks_written format r 0 true bs ++
     (written language (slots_rule (tail r)) q ++ docs_written format (behind l) 0 rest))) y
 
--- an operation of a row, behind what its head says
-abbrev parts_fit : Level → ℕ → Fill → Fill → Blocks → Fill → Docs → Terminal → Row → Saying → Bool
-parts_fit l depth p s bs q rest y r t =
-    begins (written language (head_rule l) p)
-    && (fits language (head_rule l) p (behind_head l r s bs q rest y) (free_said nothing_said)
-    && (fits language (slots_rule (slots r)) s (behind_slots l r bs q rest y) t
-    && (blocks_fit format r depth (others_of (regions_of (bodies r))) true bs (behind_bodies l r q rest y)
-    (tells language (slots_rule (slots r)) s t)
-    && (fits language (slots_rule (tail r)) q (follow (docs_written format (behind l) 0 rest) y)
-    (headers_say format r bs (tells language (slots_rule (slots r)) s t))
-    && docs_fit format (behind l) depth rest y))))
-
-abbrev parts_say : Level → Blocks → Fill → Fill → Docs → Row → Saying → SaidNodes Said
-parts_say l bs s q rest r t =
-    node_said (tail_says format r bs q (tells language (slots_rule (slots r)) s t)).said (blocks_say format r bs)
-    (docs_say format (behind l) rest)
-
-pub doc_goes : {l : Level} {depth : ℕ} {p s : Fill} {bs : Blocks} {q : Fill} {rest : Docs} {y : Terminal} (r : Row)
+doc_goes : {l : Level} {depth : ℕ} {p s : Fill} {bs : Blocks} {q : Fill} {rest : Docs} {y : Terminal}
     {d0 d1 d2 : Said} {ss : SaidBodies Said} {ns : SaidNodes Said} → FewSaid d2
     → begins (written language (head_rule l) p) ≡ true
-    → Goes (head_rule l) p (behind_head l r s bs q rest y) nothing_said d0 → d0.row ≡ r
-    → Goes (slots_rule (slots r)) s (behind_slots l r bs q rest y) d0 d1
-    → BlocksGo r depth (others_of (regions_of (bodies r))) bs (behind_bodies l r q rest y) d1 ss
-    → Goes (slots_rule (tail r)) q (follow (docs_written format (behind l) 0 rest) y) d1 d2
+    → Goes (head_rule l) p (behind_head l d0.row s bs q rest y) nothing_said d0
+    → Goes (slots_rule (slots d0.row)) s (behind_slots l d0.row bs q rest y) d0 d1
+    → BlocksGo d0.row depth bs (behind_bodies l d0.row q rest y) d1 ss
+    → Goes (slots_rule (tail d0.row)) q (follow (docs_written format (behind l) 0 rest) y) d1 d2
     → DocsGo (behind l) depth rest y ns → DocsGo l depth (doc p s bs q rest) y (node_said d2 ss ns)
-doc_goes {l} {depth} {p} {s} {bs} {q} {rest} {y} r few b head row_is filled blocks ending more =
-    let is : row_written format l p ≡ r = ap (λ (t : Saying). t.said.row) head.say ∙ row_is in
-    let told = ap (headers_say format r bs) filled.say ∙ blocks.headers in
+doc_goes {l} {p = p} {d0 = d0} few b head slots_go blocks ending more =
+    let e = head.say in
+    let is : row_written format l p ≡ d0.row = ap (λ (t : Saying). t.said.row) e in
+    let f = slots_go.say in
+    let h = blocks.1.0 in
     let few1 = ending.few few in
-    let after = follow (docs_written format (behind l) 0 rest) y in
     record {
-      fit =
-          (λ j. parts_fit l depth p s bs q rest y (is j) (head.say j))
-          ∙ and_is _ _ b (and_is _ _ (head.fit (filled.few few1)) (and_is _ _ (filled.fit few1) (and_is _ _
-          (subst (λ t. blocks_fit format r depth (others_of (regions_of (bodies r))) true bs
-          (behind_bodies l r q rest y) t ≡ true) (sym filled.say) blocks.fit)
-          (and_is _ _ (subst (λ t. fits language (slots_rule (tail r)) q after t ≡ true) (sym told)
-          (ending.fit few)) more.fit))));
-      say =
-          (λ j. parts_say l bs s q rest (is j) (head.say j))
-          ∙ (λ j. node_said ((ap (tells language (slots_rule (tail r)) q) told ∙ ending.say) j).said (blocks.say j)
-          (more.say j));
-      lex = (head.lex, (filled.lex, (blocks.lex, (ending.lex, more.lex))));
+      fit = rw (is, e, f, h)
+          (and_is _ _ b (and_is _ _ (head.fit (slots_go.few few1)) (and_is _ _ (slots_go.fit few1)
+          (and_is _ _ blocks.0 (and_is _ _ (ending.fit few) more.fit)))));
+      say = rw (is, e, f, h, ending.say, blocks.1.1.0, more.say) refl;
+      lex = (head.lex, (slots_go.lex, (blocks.1.1.1, (ending.lex, more.lex))));
     }
 
-pub docs_if : {l : Level} {depth : ℕ} {ds es : Docs} {y : Terminal} {ns ms : SaidNodes Said} (b : Bool)
+docs_if : {l : Level} {depth : ℕ} {ds es : Docs} {y : Terminal} {ns ms : SaidNodes Said} (b : Bool)
     → DocsGo l depth ds y ns → DocsGo l depth es y ms → DocsGo l depth (if b then ds else es) y (if b then ns else ms)
 docs_if true p q = p
 docs_if false p q = q
 
 -- ---- one operation
 
--- what it writes behind its bodies
-abbrev tail_by : Names → Tree → Fill
-tail_by names t = slots_fill names (first_of (names.entry t.name.0)) t (tail (row_of t.kind))
-
--- the bodies of a row fit, and say so much behind what the operation says
-abbrev BodiesGo : Names → Tree → Level → ℕ → Blocks → Docs → Terminal → SaidBodies Said → Type 0
-BodiesGo names t l depth bs more y ss =
-    BlocksGo (row_of t.kind) depth (others_of (regions_of (bodies (row_of t.kind)))) bs
-    (behind_bodies l (row_of t.kind) (tail_by names t) more y)
-    (untailed t.kind (head_printed names t)) ss
+-- a block has no header
+no_header : (k : Kind) → header (row_of k) ≡ []
+no_header kind.If = refl
+no_header k = refl
 
 -- an operation with its bodies, before others
-op_goes : {names : Names} {t : Tree} {rest : Ops} (w : Fits names t rest) (l : Level) {depth : ℕ} {bs : Blocks}
-    {more : Docs} {y : Terminal} (z : Terminal) {ss : SaidBodies Said} {ns : SaidNodes Said}
-    → OpensAt l t.results (row_of t.kind)
-    → behind_slots l (row_of t.kind) bs (tail_by names t) more y ≡ after t.kind z
-    → BodiesGo names t l depth bs more y ss
-    → not (is_kind open_brace (follow (docs_written format (behind l) 0 more) y)) ≡ true
+op_goes : {names : Names} {t : Tree} {rest : Ops} (w : Fits names t rest) (l : Level) {depth : ℕ} (bs : Fill → Blocks)
+    (more : Docs) (y : Terminal) {ss : SaidBodies Said} {ns : SaidNodes Said} → OpensAt l t.results (row_of t.kind)
+    → goes_on (follow (docs_written format (behind l) 0 more) y) ≡ true
+    → behind_slots l (row_of t.kind) (bs nothing) (filled names t (tail (row_of t.kind))) more y
+    ≡ after t.kind (behind_bodies l (row_of t.kind) (filled names t (tail (row_of t.kind))) more y)
+    → ((z : Terminal) → not (is_word (codes "else") z) ≡ true
+    → BlocksGo (row_of t.kind) depth (bs nothing) z (untailed t.kind (head_printed names t)) ss)
     → DocsGo (behind l) depth more y ns
-    → DocsGo l depth (doc (head_of names t) (slots_of names t) bs (tail_of names t) more) y
+    → DocsGo l depth (doc (head_of names t) (slots_of names t) (bs (header_of names t)) (tail_of names t) more) y
     (node_said (head_printed names t) ss ns)
-op_goes {names} {t} w l {depth} {bs} {more} {y} z {ss} {ns} o a blocks e later =
+op_goes {names} {t} w l {depth} bs more y {ss} {ns} o go a inside later =
     let i : ℕ = number_of (names.entry t.name.0) in
-    let first : ℕ = first_of (names.entry t.name.0) in
+    let fill : List FormatElement → Fill = filled names t in
     let d : Said = head_printed names t in
     let r : Row = row_of t.kind in
-    subst (λ x. DocsGo l depth
-    (doc (head_of names t) (slots_fill names first t (slots x)) bs (slots_fill names first t (tail x)) more) y
-    (node_said d ss ns)) (sym (same_row t.kind w.core))
-    (doc_goes r (head_few w) (head_begins l i t.results (word_of t.kind))
-    (head_goes l i t.results (word_of t.kind) r _ (word_row t.kind w.core) o w.number w.few.results) refl
-    (subst (λ x. Goes (slots_rule (slots r)) (slots_fill names first t (slots r)) x (begun r i t.results)
-    (untailed t.kind d)) (sym a) (row_goes w z))
-    blocks (tail_goes w _ e) later)
-
--- a block has no header
-header_none : (names : Names) (t : Tree) → is_core t.kind ≡ true → header_of names t ≡ nothing
-header_none names t c =
-    let first : ℕ = first_of (names.entry t.name.0) in ap (λ r. slots_fill names first t (header r))
-    (same_row t.kind c) ∙ ap (slots_fill names first t) (none t.kind)
-  where
-    none : (k : Kind) → header (row_of k) ≡ []
-    none kind.If = refl
-    none k = refl
+    let Made : Row → List FormatElement → Type 0 = λ x h. DocsGo l depth
+    (doc (head_of names t) (fill (slots x)) (bs (fill h)) (fill (tail x)) more) y (node_said d ss ns) in
+    let next = both_true _ _ go in
+    let seen = seen_both (written language (slots_rule (tail r)) (fill (tail r)))
+    (docs_written format (behind l) 0 more) y in
+    let none = subst (λ z. not (is_word (codes "else") z) ≡ true) (sym seen) (tail_seen w _ next.1) in
+    subst (λ x. Made x (header x)) (sym (same_row t.kind w.core)) (subst (Made r) (sym (no_header t.kind))
+    (doc_goes (head_few w) (head_begins l i t.results (word_of t.kind))
+    (head_goes l i t.results (word_of t.kind) r _ (word_row t.kind w.core) o w.number w.few.results)
+    (subst (λ x. Goes (slots_rule (slots r)) (fill (slots r)) x (begun r i t.results) (untailed t.kind d)) (sym a)
+    (row_goes w _)) (inside _ none) (tail_goes w _ next.0) later))
 
 -- ---- what stands behind it
 
-goes_on_if : (b : Bool) (ds es : Docs) (y : Terminal)
-    → goes_on (follow (docs_written format level.Body 0 ds) y) ≡ true
-    → goes_on (follow (docs_written format level.Body 0 es) y) ≡ true
-    → goes_on (follow (docs_written format level.Body 0 (if b then ds else es)) y) ≡ true
-goes_on_if true ds es y p q = p
-goes_on_if false ds es y p q = q
-
-ops_go_on : (names : Names) (ops : Ops) → OpsFit names ops
-    → goes_on (follow (docs_written format level.Body 0 (ops_docs names ops)) (terminal close_brace [])) ≡ true
-ops_go_on names no_ops f = refl
-ops_go_on names (op n k ds os ts rs rest) f =
-    goes_on_if (is_empty_yield k ds os) (ops_docs names rest) _ (terminal close_brace []) (ops_go_on names rest f.1.1.1)
-    (head_goes_on level.Body (line 0) (number_of (names.entry n.0)) ts (word_of k) (row_of k) _
-    (terminal close_brace []) (word_row k (f.1.0).core))
-
 -- the brace of a body, the one that closes a block behind its terminator, or what is behind the operation
-after_is : (names : Names) (k : Kind) (h q : Fill) (rs : Regions) (rest : Ops) → is_core k ≡ true
-    → has_regions k rs ≡ true → (not (is_terminator k) || is_end rest) ≡ true
-    → behind_slots level.Body (row_of k) (regions_blocks names h rs) q (ops_docs names rest)
-    (terminal close_brace []) ≡ after k
-    (behind_bodies level.Body (row_of k) q (ops_docs names rest) (terminal close_brace []))
-after_is names kind.Return h q no_regions no_ops c b last = refl
-after_is names kind.Yield h q no_regions no_ops c b last = refl
-after_is names k h q no_regions rest c b last = cc
-after_is names (kind.Module symbol) h q (region args ops rs) rest c b last = refl
-after_is names (kind.Func symbol private results) h q (region args ops rs) rest c b last = refl
-after_is names (kind.For width) h q (region args ops rs) rest c b last = refl
-after_is names kind.If h q (region args ops rs) rest c b last = refl
-after_is names k h q (region args ops rs) rest c b last = absurd cc
-
--- the bodies, behind which no else stands where none may stand behind the operation
-bodies_go : {names : Names} {t : Tree} {rest : Ops} (w : Fits names t rest) (l : Level) {depth : ℕ} (more : Docs)
-    (y : Terminal) {ss : SaidBodies Said}
-    → not (is_word (codes "else") (follow (docs_written format (behind l) 0 more) y)) ≡ true
-    → ((z : Terminal) → not (is_word (codes "else") z) ≡ true → BlocksGo (row_of t.kind) depth
-    (others_of (regions_of (bodies (row_of t.kind)))) (regions_blocks names nothing t.regions) z
-    (untailed t.kind (head_printed names t)) ss) → BodiesGo names t l depth (regions_blocks names
-    (header_of names t) t.regions) more y ss
-bodies_go {names} {t} w l {depth} more y {ss} e inside =
-    let seen = seen_both (written language (slots_rule (tail (row_of t.kind))) (tail_by names t))
-    (docs_written format (behind l) 0 more) y in
-    subst (λ h. BodiesGo names t l depth (regions_blocks names h t.regions) more y ss)
-    (sym (header_none names t w.core))
-    (inside _ (subst (λ z. not (is_word (codes "else") z) ≡ true) (sym seen) (tail_seen w _ e)))
+module _ (names : Names) (l : Level) (q : Fill) (more : Docs) (y : Terminal) where
+  after_is : (k : Kind) (rs : Regions) → is_core k ≡ true → has_regions k rs ≡ true
+      → (is_terminator k ≡ true → follow (docs_written format (behind l) 0 more) y ≡ terminal close_brace [])
+      → behind_slots l (row_of k) (regions_blocks names nothing rs) q more y
+      ≡ after k (behind_bodies l (row_of k) q more y)
+  after_is kind.Return no_regions c b e = e refl
+  after_is kind.Yield no_regions c b e = e refl
+  after_is k no_regions c b e = cc
+  after_is (kind.Module symbol) (region args ops rs) c b e = refl
+  after_is (kind.Func symbol private results) (region args ops rs) c b e = refl
+  after_is (kind.For width) (region args ops rs) c b e = refl
+  after_is kind.If (region args ops rs) c b e = refl
+  after_is k (region args ops rs) c b e = absurd cc
 
 -- ---- bodies, and the operations in them
+
+opens_inside : (k : Kind) (ts : List PayloadType) → is_core k ≡ true → is_container k ≡ false
+    → OpensAt level.Body ts (row_of k)
+opens_inside k [] c e = body_opens k c e
+opens_inside k (t ∷ ts) c e = (refl, body_opens k c e)
 
 -- a block within the limit of nesting, before others
 block_fits : (depth : ℕ) (ds : Docs) (others : Bool) → depth < most_open
@@ -226,89 +166,72 @@ block_fits : (depth : ℕ) (ds : Docs) (others : Bool) → depth < most_open
     → (nat_lt depth most_open && (docs_fit format level.Body (depth + 1) ds (terminal close_brace []) && others)) ≡ true
 block_fits depth ds others lt e o = and_is _ _ (lt-ltb depth most_open lt) (and_is _ _ e o)
 
-opens_inside : (k : Kind) (ts : List PayloadType) → is_core k ≡ true → is_container k ≡ false
-    → OpensAt level.Body ts (row_of k)
-opens_inside k [] c e = body_opens k c e
-opens_inside k (t ∷ ts) c e = (refl, body_opens k c e)
+alone : {ns ms : SaidNodes Said} → ns ≡ ms → body_said ns no_bodies_said ≡ body_said ms no_bodies_said
+alone e = ap (λ ns. body_said ns no_bodies_said) e
 
-mutual
-  pub ops_go : (names : Names) (ops : Ops) (depth : ℕ) → OpsFit names ops → OpsNest depth ops
-      → DocsGo level.Body depth (ops_docs names ops) (terminal close_brace []) (ops_printed names ops)
-  ops_go names no_ops depth f nest = record { fit = refl; say = refl; lex = tt }
-  ops_go names (op n k ds os ts rs rest) depth f nest =
-      let t : Tree = tree n k ds os ts rs in
-      let w : Fits names t rest = f.1.0 in
-      let later = ops_go names rest depth f.1.1.1 nest.1 in
-      let next = both_true _ _ (ops_go_on names rest f.1.1.1) in
-      let inner = bodies_go w level.Body (ops_docs names rest) (terminal close_brace []) next.1
-      (λ y. regions_go names k rs depth y _ w.core (or_parts (is_module k) _ f.0).0 w.regions f.1.1.0 nest.0) in
-      docs_if (is_empty_yield k ds os) later
-      (op_goes w level.Body
-      (behind_bodies level.Body (row_of k) (tail_by names t) (ops_docs names rest) (terminal close_brace []))
-      (opens_inside k ts w.core f.0)
-      (after_is names k (header_of names t) (tail_by names t) rs rest w.core w.regions w.last) inner next.0 later)
+module _ (names : Names) where
+  abbrev rest_seen : Ops → Terminal
+  rest_seen ops = follow (docs_written format level.Body 0 (ops_docs names ops)) (terminal close_brace [])
 
-  pub regions_go : (names : Names) (k : Kind) (rs : Regions) (depth : ℕ) (y : Terminal) (d : Said) → is_core k ≡ true
-      → is_module k ≡ false → has_regions k rs ≡ true → RegionsFit names rs → RegionsNest depth rs
-      → not (is_word (codes "else") y) ≡ true
-      → BlocksGo (row_of k) depth (others_of (regions_of (bodies (row_of k)))) (regions_blocks names nothing rs) y d
-      (regions_printed names rs)
-  regions_go names (kind.Func symbol private results) (region args ops no_regions) depth y d c m b f nest e =
-      let x = ops_go names ops (depth + 1) f.0 nest.1.0 in
-      record {
-        fit = block_fits depth _ true nest.0 x.fit refl;
-        headers = refl;
-        say = ap
-            (λ ns. body_said ns no_bodies_said) x.say;
-        lex = (tt, (x.lex, tt));
-      }
-  regions_go names (kind.For width) (region args ops no_regions) depth y d c m b f nest e =
-      let x = ops_go names ops (depth + 1) f.0 nest.1.0 in
-      record {
-        fit = block_fits depth _ true nest.0 x.fit refl;
-        headers = refl;
-        say = ap
-            (λ ns. body_said ns no_bodies_said) x.say;
-        lex = (tt, (x.lex, tt));
-      }
-  regions_go names kind.If (region args ops no_regions) depth y d c m b f nest e =
-      let x = ops_go names ops (depth + 1) f.0 nest.1.0 in
-      record {
-        fit = block_fits depth _ _ nest.0 x.fit e;
-        headers = refl;
-        say = ap
-            (λ ns. body_said ns no_bodies_said) x.say;
-        lex = (tt, (x.lex, tt));
-      }
-  regions_go names kind.If (region args ops (region args' ops' no_regions)) depth y d c m b f nest e =
-      let x = ops_go names ops (depth + 1) f.0 nest.1.0 in
-      let z = ops_go names ops' (depth + 1) f.1.0 nest.1.1.1.0 in
-      record {
-        fit = block_fits depth _ _ nest.0 x.fit (block_fits depth _ true nest.1.1.0 z.fit refl);
-        headers = refl;
-        say = λ j. body_said (x.say j) (body_said (z.say j) no_bodies_said);
-        lex = (tt, (x.lex, (tt, (z.lex, tt))));
-      }
-  regions_go names (kind.Generic maps iterators) rs depth y d c m b f nest e = absurd cc
-  regions_go names k no_regions depth y d c m b f nest e = record { fit = cc; headers = refl; say = refl; lex = tt }
-  regions_go names k (region args ops rs) depth y d c m b f nest e = absurd cc
+  ops_go_on : (ops : Ops) → OpsFit names ops → goes_on (rest_seen ops) ≡ true
+  ops_go_on no_ops f = refl
+  ops_go_on (op n k ds os ts rs rest) f =
+      at_cases (is_empty_yield k ds os) (ops_docs names rest) _
+      (λ ds. goes_on (follow (docs_written format level.Body 0 ds) (terminal close_brace [])) ≡ true)
+      (λ e. ops_go_on rest f.1.1.1)
+      (λ e. head_goes_on level.Body (line 0) (number_of (names.entry n.0)) ts (word_of k) (row_of k) _
+      (terminal close_brace []) (word_row k (f.1.0).core))
+
+  at_end : (b : Bool) (ops : Ops) → (not b || is_end ops) ≡ true → b ≡ true → rest_seen ops ≡ terminal close_brace []
+  at_end false ops e b = absurd cc
+  at_end true no_ops e b = refl
+  at_end true (op n k ds os ts rs rest) e b = absurd cc
+
+  mutual
+    ops_go : (ops : Ops) (depth : ℕ) → OpsFit names ops → OpsNest depth ops
+        → DocsGo level.Body depth (ops_docs names ops) (terminal close_brace []) (ops_printed names ops)
+    ops_go no_ops depth f nest = record { fit = refl; say = refl; lex = tt }
+    ops_go (op n k ds os ts rs rest) depth f nest =
+        let w : Fits names (tree n k ds os ts rs) rest = f.1.0 in
+        let later = ops_go rest depth f.1.1.1 nest.1 in
+        docs_if (is_empty_yield k ds os) later
+        (op_goes w level.Body (λ h. regions_blocks names h rs) (ops_docs names rest) (terminal close_brace [])
+        (opens_inside k ts w.core f.0) (ops_go_on rest f.1.1.1)
+        (after_is names level.Body _ _ _ k rs w.core w.regions (at_end (is_terminator k) rest w.last))
+        (λ y. regions_go k rs depth y _ w.core (or_parts (is_module k) _ f.0).0 w.regions f.1.1.0 nest.0) later)
+
+    regions_go : (k : Kind) (rs : Regions) (depth : ℕ) (y : Terminal) (d : Said) → is_core k ≡ true
+        → is_module k ≡ false → has_regions k rs ≡ true → RegionsFit names rs → RegionsNest depth rs
+        → not (is_word (codes "else") y) ≡ true
+        → BlocksGo (row_of k) depth (regions_blocks names nothing rs) y d (regions_printed names rs)
+    regions_go (kind.Func symbol private results) (region args ops no_regions) depth y d c m b f nest e =
+        let x = ops_go ops (depth + 1) f.0 nest.1.0 in
+        (block_fits depth _ true nest.0 x.fit refl, (refl, (alone x.say, (tt, (x.lex, tt)))))
+    regions_go (kind.For width) (region args ops no_regions) depth y d c m b f nest e =
+        let x = ops_go ops (depth + 1) f.0 nest.1.0 in
+        (block_fits depth _ true nest.0 x.fit refl, (refl, (alone x.say, (tt, (x.lex, tt)))))
+    regions_go kind.If (region args ops no_regions) depth y d c m b f nest e =
+        let x = ops_go ops (depth + 1) f.0 nest.1.0 in
+        (block_fits depth _ _ nest.0 x.fit e, (refl, (alone x.say, (tt, (x.lex, tt)))))
+    regions_go kind.If (region args ops (region args' ops' no_regions)) depth y d c m b f nest e =
+        let x = ops_go ops (depth + 1) f.0 nest.1.0 in
+        let z = ops_go ops' (depth + 1) f.1.0 nest.1.1.1.0 in (
+          block_fits depth _ _ nest.0 x.fit (block_fits depth _ true nest.1.1.0 z.fit refl),
+          (refl, (λ j. body_said (x.say j) (body_said (z.say j) no_bodies_said), (tt, (x.lex, (tt, (z.lex, tt)))))),
+        )
+    regions_go (kind.Generic maps iterators) rs depth y d c m b f nest e = absurd cc
+    regions_go k no_regions depth y d c m b f nest e = (cc, (refl, (refl, tt)))
+    regions_go k (region args ops rs) depth y d c m b f nest e = absurd cc
 
 -- ---- functions and the module
-
--- the brace of its body
-function_after : (names : Names) (k : Kind) (h q : Fill) (rs : Regions) (more : Docs) (z : Terminal)
-    → is_function k ≡ true → has_regions k rs ≡ true
-    → behind_slots level.Functions (row_of k) (regions_blocks names h rs) q more (terminal close_brace []) ≡ after k z
-function_after names (kind.Func symbol private results) h q (region args ops rs) more z i b = refl
-function_after names k h q rs more z i b = absurd cc
 
 opens_at : (k : Kind) (ts : List PayloadType) → is_function k ≡ true → ts ≡ [] → OpensAt level.Functions ts (row_of k)
 opens_at (kind.Func symbol private results) [] i e = refl
 opens_at k ts i e = absurd cc
 
-not_module : (k : Kind) → is_function k ≡ true → is_module k ≡ false
-not_module (kind.Module symbol) i = absurd cc
-not_module k i = refl
+function_alone : (k : Kind) → is_function k ≡ true → (is_module k ≡ false) × (is_terminator k ≡ false)
+function_alone (kind.Func symbol private results) i = (refl, refl)
+function_alone k i = absurd cc
 
 functions_first : (fs : Ops) → FunctionsFit fs
     → goes_on (follow (docs_written format level.Functions 0 (functions_docs fs)) (terminal close_brace [])) ≡ true
@@ -317,20 +240,18 @@ functions_first (op n k ds os ts rs rest) f =
     head_goes_on level.Functions (line 0) (number_of ((names_in n k ds os ts rs).entry n.0)) ts (word_of k)
     (row_of k) _ (terminal close_brace []) (word_row k (f.1.1.0).core)
 
-pub functions_go : (fs : Ops) (depth : ℕ) → FunctionsFit fs → OpsNest depth fs
+functions_go : (fs : Ops) (depth : ℕ) → FunctionsFit fs → OpsNest depth fs
     → DocsGo level.Functions depth (functions_docs fs) (terminal close_brace []) (functions_printed fs)
 functions_go no_ops depth f nest = record { fit = refl; say = refl; lex = tt }
 functions_go (op n k ds os ts rs rest) depth f nest =
     let names : Names = names_in n k ds os ts rs in
-    let t : Tree = tree n k ds os ts rs in
-    let w : Fits names t no_ops = f.1.1.0 in
-    let next = both_true _ _ (functions_first rest f.1.1.1.1) in
-    let inner = bodies_go w level.Functions (functions_docs rest) (terminal close_brace []) next.1
-    (λ y. regions_go names k rs depth y _ w.core (not_module k f.0) w.regions f.1.1.1.0 nest.0) in
-    op_goes w level.Functions (terminal close_brace []) (opens_at k ts f.0 f.1.0)
-    (function_after names k (header_of names t) (tail_by names t) rs (functions_docs rest)
-    (terminal close_brace []) f.0 w.regions)
-    inner next.0 (functions_go rest depth f.1.1.1.1 nest.1)
+    let w : Fits names (tree n k ds os ts rs) no_ops = f.1.1.0 in
+    let is = function_alone k f.0 in
+    op_goes w level.Functions (λ h. regions_blocks names h rs) (functions_docs rest) (terminal close_brace [])
+    (opens_at k ts f.0 f.1.0) (functions_first rest f.1.1.1.1)
+    (after_is names level.Functions _ _ _ k rs w.core w.regions (λ e. absurd (let n = is.1 in cc)))
+    (λ y. regions_go names k rs depth y _ w.core is.0 w.regions f.1.1.1.0 nest.0)
+    (functions_go rest depth f.1.1.1.1 nest.1)
 
 root_goes : (n : OpName) (k : Kind) (ds : List Attr) (os : List ValueName) (ts : List PayloadType) (rs : Regions)
     (fs : Ops) → is_module k ≡ true → ts ≡ [] → let t : Tree = tree n k ds os ts rs in Fits no_names t no_ops
@@ -341,13 +262,8 @@ root_goes : (n : OpName) (k : Kind) (ds : List Attr) (os : List ValueName) (ts :
     (body_said (functions_printed fs) no_bodies_said) no_nodes_said)
 root_goes n (kind.Module symbol) ds os [] rs fs i none w f nest =
     let x = functions_go fs 1 f nest in
-    op_goes w level.File the_end refl refl
-    (record {
-      fit = and_is _ _ x.fit refl;
-      headers = refl;
-      say = ap (λ ns. body_said ns no_bodies_said) x.say;
-      lex = (tt, (x.lex, tt));
-    }) refl
+    op_goes w level.File (λ h. a_block h (functions_docs fs) no_blocks) no_docs the_end refl refl refl
+    (λ z e. (and_is _ _ x.fit refl, (refl, (alone x.say, (tt, (x.lex, tt))))))
     (record { fit = refl; say = refl; lex = tt })
 root_goes n k ds os ts rs fs i none w f nest = absurd cc
 

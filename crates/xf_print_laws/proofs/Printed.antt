@@ -1,9 +1,8 @@
 -- The printed form of a valid module fits the format and says its heads.
-use Rattle.std.proofs.Common.{subst}
 use Rattle.xf_grammar.specs.Tokens.{the_end}
 use Rattle.xf_format.specs.declared.row.Level.TheVariants as level
 use Rattle.xf_ir.specs.declared.op.Module.{Module}
-use Rattle.xf_ir.specs.Limits.{IsWithinLimits, RegionsNest}
+use Rattle.xf_ir.specs.Limits.{IsWithinLimits}
 use Rattle.xf_ir.specs.Valid.{IsValid}
 use Rattle.xf_printed.specs.PrintedForm.{module_docs}
 use Rattle.xf_print_laws.specs.Core.{IsCore}
@@ -18,7 +17,7 @@ pub printed_goes : (m : Module) → IsValid m → IsCore m → IsStored m → Is
     → DocsGo level.File 0 (module_docs m) the_end (printed_said m)
 printed_goes m v core st within =
     let w = module_fits m v core st within.number in
-    module_goes m w (subst (RegionsNest 0) w.one within.nesting).1.0
+    module_goes m w (rw w.one at within.nesting).1.0
 
 pub printed_fits : PrintedFits
 printed_fits m v core st within = (printed_goes m v core st within).fit

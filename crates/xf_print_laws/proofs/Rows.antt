@@ -18,7 +18,7 @@ use Rattle.xf_ir.specs.declared.name.ValueName.{ValueName}
 use Rattle.xf_ir.specs.Kinds.{has_body, is_terminator, returned_types}
 use Rattle.xf_ir.specs.Lists.{every}
 use Rattle.xf_ir.specs.Tree.{Ops, Regions, Tree}
-use Rattle.xf_printed.specs.Fills.{slots_fill, word_fill, head_fill, number_name}
+use Rattle.xf_printed.specs.Fills.{word_fill, head_fill, number_name}
 use Rattle.xf_printed.specs.Names.{Names, first_args, number_of, first_of, type_of}
 use Rattle.xf_print_laws.specs.Core.{is_core}
 use Rattle.xf_print_laws.specs.Naming.{use_printed, arguments_printed, defines_printed}
@@ -39,6 +39,11 @@ use Rattle.xf_format.specs.Words.{lookup, the_row, opens}
 use Rattle.xf_print_laws.proofs.LayoutTokens.{number_lexes, integer_lexes, mark_lexes}
 use Rattle.xf_print_laws.proofs.Single.{count_is}
 use Rattle.xf_print_laws.proofs.Words.{row_lexes, another_word}
+use Rattle.xf_print_laws.proofs.Slots.{filled, first_in}
+use Rattle.std.proofs.Common.{zero}
+use Rattle.xf_type.specs.declared.payload_type.PayloadType.TheVariants.{Tensor}
+use Rattle.xf_print_laws.specs.SaidPrinted.{known_at}
+use Rattle.xf_ir.specs.declared.kind.NamedKind.{NamedKind}
 
 -- where an operation with such results stands
 abbrev pub OpensAt : Level → List PayloadType → Row → Type 0
@@ -127,99 +132,83 @@ untailed k d = d
 
 -- ---- the table of rows
 
--- the slots of a row say what an operation is
-abbrev RowSays : Names → ℕ → ℕ → Tree → Type 0
-RowSays names i first t =
-    slots_say names first t (slots (row_of t.kind)) (begun (row_of t.kind) i t.results)
-    ≡ untailed t.kind (head_by names i first t.kind t.attrs t.operands t.results
-    (arguments_of t.kind t.results (first_args t.regions)))
+-- the head of an operation with such block arguments, and what it says up to the slots
+abbrev head_with : Names → Tree → List PayloadType → Said
+head_with names t args =
+    head_by names (number_of (names.entry t.name.0)) (first_in names t) t.kind t.attrs t.operands t.results args
+
+abbrev begun_of : Names → Tree → Said
+begun_of names t = begun (row_of t.kind) (number_of (names.entry t.name.0)) t.results
 
 -- an operation has what its row asks for, and says itself by it
-record RowFits (names : Names) (i first : ℕ) (t : Tree) : Type 0 where
-  offered : every (offers t) (slots (row_of t.kind)) ≡ true
-  stand : (y : Terminal) → apart (slots (row_of t.kind)) (after t.kind y) ≡ true
-  says : RowSays names i first t
+abbrev RowFits : Names → Tree → Type 0
+RowFits names t =
+    (every (offers names t) (slots (row_of t.kind)) ≡ true)
+    × (((y : Terminal) → apart (slots (row_of t.kind)) (after t.kind y) ≡ true)
+    × (slots_say names t (slots (row_of t.kind)) (begun_of names t)
+    ≡ untailed t.kind (head_with names t (arguments_of t.kind t.results (first_args t.regions)))))
 
-by_table : {names : Names} {i first : ℕ} {t : Tree} → every (offers t) (slots (row_of t.kind)) ≡ true
-    → ((y : Terminal) → apart (slots (row_of t.kind)) (after t.kind y) ≡ true) → RowSays names i first t
-    → RowFits names i first t
-by_table o s e = record { offered = o; stand = s; says = e }
+-- types that are written in two places
+known_both : (xs ys : List (Option PayloadType)) → known_types xs ++ known_types ys ≡ known_types (xs ++ ys)
+known_both [] ys = refl
+known_both (None ∷ xs) ys = known_both xs ys
+known_both (Some t ∷ xs) ys = ap (λ ts. t ∷ ts) (known_both xs ys)
 
-module _ (names : Names) (i first : ℕ) (n : OpName) (ds : List Attr) where
+-- and what stands behind its bodies
+abbrev TailFits : Names → Tree → List PayloadType → Type 0
+TailFits names t args =
+    (every (offers names t) (tail (row_of t.kind)) ≡ true)
+    × (((y : Terminal) → not (is_kind open_brace y) ≡ true → apart (tail (row_of t.kind)) y ≡ true)
+    × (slots_say names t (tail (row_of t.kind)) (untailed t.kind (head_with names t args)) ≡ head_with names t args))
+
+module _ (names : Names) (n : OpName) (ds : List Attr) where
+  named_fits_two : (which : NamedKind) (a b : ValueName) (t : PayloadType) (rs : Regions)
+      → RowFits names (tree n (kind.Named which) ds (a ∷ (b ∷ [])) (t ∷ []) rs)
+  named_fits_two which a b t rs =
+      let x : Tree = tree n (kind.Named which) ds (a ∷ (b ∷ [])) (t ∷ []) rs in
+      let both = known_both (type_of names a ∷ []) (type_of names b ∷ []) in
+      (refl, (λ y. refl, λ i. record (head_with names x []) { types = both i }))
+
+  named_fits_three : (which : NamedKind) (a b v : ValueName) (t : PayloadType) (rs : Regions)
+      → RowFits names (tree n (kind.Named which) ds (a ∷ (b ∷ (v ∷ []))) (t ∷ []) rs)
+  named_fits_three which a b v t rs =
+      let x : Tree = tree n (kind.Named which) ds (a ∷ (b ∷ (v ∷ []))) (t ∷ []) rs in
+      let both = known_both (type_of names a ∷ (type_of names b ∷ [])) (type_of names v ∷ []) in
+      (refl, (λ y. refl, λ i. record (head_with names x []) { types = both i }))
+
   row_fits : (k : Kind) (os : List ValueName) (ts : List PayloadType) (rs : Regions) → is_core k ≡ true
-      → counted k os ≡ true → RowFits names i first (tree n k ds os ts rs)
-  row_fits (kind.Module None) [] ts rs c e = by_table refl (λ y. refl) refl
-  row_fits (kind.Module (Some s)) [] ts rs c e = by_table refl (λ y. refl) refl
-  row_fits (kind.Func s true rets) [] ts rs c e = by_table refl (λ y. refl) refl
-  row_fits (kind.Func s false rets) [] ts rs c e = by_table refl (λ y. refl) refl
-  row_fits kind.Return os ts rs c e = by_table refl (λ y. refl) refl
-  row_fits kind.Yield os ts rs c e = by_table refl (λ y. refl) refl
-  row_fits (kind.Call callee) os ts rs c e = by_table refl (λ y. refl) refl
-  row_fits (kind.Constant w bits) [] ts rs c e = by_table refl (λ y. refl) refl
-  row_fits (kind.Binary which w) (a ∷ (b ∷ [])) ts rs c e = by_table refl (λ y. refl) refl
-  row_fits (kind.Compare which w) (a ∷ (b ∷ [])) ts rs c e = by_table refl (λ y. refl) refl
-  row_fits (kind.Select w) (a ∷ (b ∷ (v ∷ []))) ts rs c e = by_table refl (λ y. refl) refl
-  row_fits (kind.Convert which from to) (a ∷ []) ts rs c e = by_table refl (λ y. refl) refl
-  row_fits (kind.For w) (a ∷ (b ∷ (v ∷ os))) ts rs c e = by_table refl (λ y. refl) refl
-  row_fits kind.If (a ∷ []) ts rs c e = by_table refl (λ y. refl) refl
+      → counted names k os ts ≡ true → RowFits names (tree n k ds os ts rs)
+  row_fits (kind.Module None) [] ts rs c e = (refl, (λ y. refl, refl))
+  row_fits (kind.Module (Some s)) [] ts rs c e = (refl, (λ y. refl, refl))
+  row_fits (kind.Func s true rets) [] ts rs c e = (refl, (λ y. refl, refl))
+  row_fits (kind.Func s false rets) [] ts rs c e = (refl, (λ y. refl, refl))
+  row_fits kind.Return os ts rs c e = (refl, (λ y. refl, refl))
+  row_fits kind.Yield os ts rs c e = (refl, (λ y. refl, refl))
+  row_fits (kind.Call callee) os ts rs c e = (refl, (λ y. refl, refl))
+  row_fits (kind.Constant w bits) [] ts rs c e = (refl, (λ y. refl, refl))
+  row_fits (kind.Binary which w) (a ∷ (b ∷ [])) ts rs c e = (refl, (λ y. refl, refl))
+  row_fits (kind.Compare which w) (a ∷ (b ∷ [])) ts rs c e = (refl, (λ y. refl, refl))
+  row_fits (kind.Select w) (a ∷ (b ∷ (v ∷ []))) ts rs c e = (refl, (λ y. refl, refl))
+  row_fits (kind.Convert which from to) (a ∷ []) ts rs c e = (refl, (λ y. refl, refl))
+  row_fits (kind.For w) (a ∷ (b ∷ (v ∷ os))) ts rs c e = (refl, (λ y. refl, refl))
+  row_fits kind.If (a ∷ []) ts rs c e = (refl, (λ y. refl, refl))
+  row_fits kind.Empty os (Tensor s ∷ []) rs c e = (refl, (λ y. refl, refl))
+  row_fits kind.Dim (a ∷ (b ∷ [])) ts rs c e = (and_is _ _ e refl, (λ y. refl, refl))
+  row_fits kind.Extract (a ∷ os) ts rs c e = (and_is _ _ e refl, (λ y. refl, refl))
+  row_fits kind.Insert (a ∷ (b ∷ os)) ts rs c e = (and_is _ _ e refl, (λ y. refl, refl))
+  row_fits kind.Cast (a ∷ []) (t ∷ []) rs c e = (refl, (λ y. refl, refl))
+  row_fits (kind.Named which) (a ∷ (b ∷ [])) (t ∷ []) rs c e = named_fits_two which a b t rs
+  row_fits (kind.Named which) (a ∷ (b ∷ (v ∷ []))) (t ∷ []) rs c e = named_fits_three which a b v t rs
   row_fits k os ts rs c e = absurd cc
 
-pub row_goes : {names : Names} {t : Tree} {rest : Ops} (w : Fits names t rest) (y : Terminal)
-    → let first : ℕ = first_of (names.entry t.name.0) in let i : ℕ = number_of (names.entry t.name.0) in Goes
-    (slots_rule (slots (row_of t.kind))) (slots_fill names first t (slots (row_of t.kind))) (after t.kind y)
-    (begun (row_of t.kind) i t.results) (untailed t.kind (head_printed names t))
-row_goes {names} {t} w y =
-    let first : ℕ = first_of (names.entry t.name.0) in
-    let i : ℕ = number_of (names.entry t.name.0) in
-    let r = row_fits names i first t.name t.attrs t.kind t.operands t.results t.regions w.core w.count in
-    so_said (r.says ∙ ap (λ args. untailed t.kind (head_by names i first t.kind t.attrs t.operands t.results args))
-    (sym w.arguments))
-    (slots_go w (slots (row_of t.kind)) (after t.kind y) (begun (row_of t.kind) i t.results) r.offered (r.stand y))
-
--- what stands behind the bodies
-record TailFits (names : Names) (first : ℕ) (t : Tree) (d : Said) : Type 0 where
-  offered : every (offers t) (tail (row_of t.kind)) ≡ true
-  stand : (y : Terminal) → not (is_kind open_brace y) ≡ true → apart (tail (row_of t.kind)) y ≡ true
-  says : slots_say names first t (tail (row_of t.kind)) (untailed t.kind d) ≡ d
-
-tail_fits : (names : Names) (i first : ℕ) (n : OpName) (k : Kind) (ds : List Attr) (os : List ValueName)
-    (ts args : List PayloadType) (rs : Regions) → is_core k ≡ true
-    → TailFits names first (tree n k ds os ts rs) (head_by names i first k ds os ts args)
-tail_fits names i first n (kind.For w) ds os ts args rs c =
-    record { offered = refl; stand = λ y e. and_is _ _ (and_is _ _ e refl) refl; says = refl }
-tail_fits names i first n kind.If ds os ts args rs c =
-    record { offered = refl; stand = λ y e. and_is _ _ (and_is _ _ e refl) refl; says = refl }
-tail_fits names i first n (kind.Generic maps iterators) ds os ts args rs c = absurd cc
-tail_fits names i first n k ds os ts args rs c = record { offered = refl; stand = λ y e. refl; says = refl }
-
-pub tail_goes : {names : Names} {t : Tree} {rest : Ops} (w : Fits names t rest) (y : Terminal)
-    → not (is_kind open_brace y) ≡ true
-    → let first : ℕ = first_of (names.entry t.name.0) in Goes (slots_rule (tail (row_of t.kind)))
-    (slots_fill names first t (tail (row_of t.kind))) y (untailed t.kind (head_printed names t)) (head_printed names t)
-tail_goes {names} {t} w y e =
-    let r = tail_fits names (number_of (names.entry t.name.0))
-    (first_of (names.entry t.name.0)) t.name t.kind t.attrs t.operands t.results
-    (first_args t.regions) t.regions w.core in
-    so_said r.says (slots_go w (tail (row_of t.kind)) y (untailed t.kind (head_printed names t)) r.offered
-    (r.stand y e))
-
--- the attributes of an operation stand behind its bodies, or what is behind them
-tail_clear : (k : Kind) (y : Terminal) → not (is_word (codes "else") y) ≡ true
-    → clear (a_word (codes "else") ∷ []) (tail (row_of k)) y ≡ true
-tail_clear kind.If y e = and_is _ _ e refl
-tail_clear k y e = and_is _ _ e refl
-
-pub tail_seen : {names : Names} {t : Tree} {rest : Ops} (w : Fits names t rest) (y : Terminal)
-    → not (is_word (codes "else") y) ≡ true
-    → let first : ℕ = first_of (names.entry t.name.0) in not
-    (is_word (codes "else")
-    (first_seen (tokens language (slots_rule (tail (row_of t.kind)))
-    (slots_fill names first t (tail (row_of t.kind)))) y)) ≡ true
-tail_seen {names} {t} w y e =
-    let first : ℕ = first_of (names.entry t.name.0) in
-    let r = tail_fits names 0 first t.name t.kind t.attrs t.operands t.results [] t.regions w.core in
-    (both_true _ true (clear_seen names first t (tail (row_of t.kind)) (a_word (codes "else") ∷ []) y r.offered
-    (tail_clear t.kind y e))).0
+  tail_fits : (k : Kind) (os : List ValueName) (ts args : List PayloadType) (rs : Regions) → is_core k ≡ true
+      → TailFits names (tree n k ds os ts rs) args
+  tail_fits (kind.For w) os ts args rs c =
+      (refl, (λ y e. and_is _ _ (and_is _ _ e refl) refl, refl))
+  tail_fits kind.If os ts args rs c =
+      (refl, (λ y e. and_is _ _ (and_is _ _ e refl) refl, refl))
+  tail_fits (kind.Generic maps iterators) os ts args rs c = absurd cc
+  tail_fits k os ts args rs c = (refl, (λ y e. refl, refl))
 
 -- ---- the lists of a head are short
 
@@ -232,34 +221,72 @@ known_few [] = omega arith
 known_few (None ∷ os) = let e = known_few os in omega arith
 known_few (Some t ∷ os) = let e = known_few os in omega arith
 
+at_few : (os : List (Option PayloadType)) (i : ℕ) → length (known_at os i) ≤ 1
+at_few [] i = omega arith
+at_few (None ∷ os) zero = omega arith
+at_few (Some t ∷ os) zero = omega arith
+at_few (o ∷ os) (suc i) = at_few os i
+
 types_few : (k : Kind) (args : List PayloadType) (os : List (Option PayloadType)) → length args < 2 ^ 32
     → length os < 2 ^ 32 → length (types_printed k args os) < 2 ^ 32
 types_few (kind.Func symbol private results) args os a o = a
-types_few kind.Return args os a o = let e = known_few os in omega arith
-types_few (kind.Call callee) args os a o = let e = known_few os in omega arith
-types_few kind.Yield args os a o = let e = known_few os in omega arith
-types_few k args os a o = omega arith
+types_few k args os a o = omega (arith, known_few os, at_few os 0, at_few os 1, o)
 
 results_few : (k : Kind) (ts : List PayloadType) → length ts < 2 ^ 32 → length (returned_types k) < 2 ^ 32
     → length (results_printed k ts) < 2 ^ 32
 results_few (kind.Func symbol private results) ts t r = r
-results_few (kind.Call callee) ts t r = t
-results_few (kind.For width) ts t r = t
-results_few kind.If ts t r = t
-results_few k ts t r = omega arith
+results_few k ts t r = omega (arith, t)
 
-pub head_few : {names : Names} {t : Tree} {rest : Ops} → Fits names t rest → FewSaid (head_printed names t)
-head_few {names} {t} w =
-    let few = w.few in
-    let args = first_short t.regions few.arguments in
-    let a = arguments_count (first_of (names.entry t.name.0)) (first_args t.regions) in
-    let e = length-map t.attrs entry_printed in
-    let u = length-map t.operands (use_printed names) in
-    let o = length-map t.operands (type_of names) in
-    record {
-      entries = omega arith;
-      args = omega arith;
-      uses = omega arith;
-      types = types_few t.kind (first_args t.regions) (map (type_of names) t.operands) args (omega arith);
-      results = results_few t.kind t.results few.results few.returned;
-    }
+-- the attributes of an operation stand behind its bodies, or what is behind them
+tail_clear : (k : Kind) (y : Terminal) → not (is_word (codes "else") y) ≡ true
+    → clear (a_word (codes "else") ∷ []) (tail (row_of k)) y ≡ true
+tail_clear kind.If y e = and_is _ _ e refl
+tail_clear k y e = and_is _ _ e refl
+
+module _ {names : Names} {t : Tree} {rest : Ops} (w : Fits names t rest) where
+  tail_of : TailFits names t (first_args t.regions)
+  tail_of =
+      tail_fits names t.name t.attrs t.kind t.operands t.results (first_args t.regions) t.regions w.core
+
+  pub row_goes : (y : Terminal)
+      → Goes (slots_rule (slots (row_of t.kind))) (filled names t (slots (row_of t.kind))) (after t.kind y)
+      (begun_of names t) (untailed t.kind (head_printed names t))
+  row_goes y =
+      let r = row_fits names t.name t.attrs t.kind t.operands t.results t.regions w.core w.count in
+      so_said (r.1.1 ∙ ap (λ args. untailed t.kind (head_with names t args)) (sym w.arguments))
+      (slots_go w (slots (row_of t.kind)) (after t.kind y) (begun_of names t) r.0 (r.1.0 y))
+
+  pub tail_goes : (y : Terminal) → not (is_kind open_brace y) ≡ true → Goes (slots_rule (tail (row_of t.kind)))
+      (filled names t (tail (row_of t.kind))) y (untailed t.kind (head_printed names t)) (head_printed names t)
+  tail_goes y e =
+      let r = tail_of in
+      so_said r.1.1 (slots_go w (tail (row_of t.kind)) y (untailed t.kind (head_printed names t)) r.0
+      (r.1.0 y e))
+
+  pub tail_seen : (y : Terminal) → not (is_word (codes "else") y) ≡ true
+      → not (is_word (codes "else") (first_seen
+      (tokens language (slots_rule (tail (row_of t.kind))) (filled names t (tail (row_of t.kind)))) y)) ≡ true
+  tail_seen y e =
+      (both_true _ true (clear_seen names t (tail (row_of t.kind)) (a_word (codes "else") ∷ []) y tail_of.0
+      (tail_clear t.kind y e))).0
+
+  pub head_few : FewSaid (head_printed names t)
+  head_few =
+      let few = w.few in
+      let args = first_short t.regions few.arguments in
+      let a = arguments_count (first_of (names.entry t.name.0)) (first_args t.regions) in
+      let e = length-map t.attrs entry_printed in
+      let u = length-map t.operands (use_printed names) in
+      let o = length-map t.operands (type_of names) in (
+        omega arith,
+        (
+          omega arith,
+          (
+            omega arith,
+            (
+              types_few t.kind (first_args t.regions) (map (type_of names) t.operands) args (omega arith),
+              results_few t.kind t.results few.results few.returned,
+            ),
+          ),
+        ),
+      )

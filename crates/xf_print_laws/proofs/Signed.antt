@@ -1,5 +1,5 @@
 -- The sign and the digits of a number of a width, for which the width has room.
-use Rattle.std.proofs.Common.{◌≡◌, ◌⊎◌, inl, inr, ℕ, suc, ◌+◌, ◌-◌, ◌^◌, ◌<◌, ◌≤◌, true, refl, sym, subst, arith}
+use Rattle.std.proofs.Common.{◌≡◌, ℕ, suc, ◌+◌, ◌-◌, ◌^◌, ◌<◌, ◌≤◌, true, refl, arith}
 use Rattle.std.specs.Prelude.{ℤ, pos, negsuc, ◌-ℤ◌, nat_lt, if◌then◌else◌}
 use Rattle.std.proofs.lemmas.Bool.{le-leb, ltb-true}
 use Rattle.std.proofs.lemmas.Bool.Decides.{nat_tests}
@@ -16,6 +16,7 @@ use Rattle.xf_format.specs.Tests.{room_for}
 use Rattle.xf_ir.specs.RuleAttributes.{fits_bits}
 use Rattle.xf_printed.specs.Fills.{has_minus, digits_of}
 use Rattle.xf_print_laws.proofs.LayoutTokens.{integer_lexes}
+use Rattle.xf_ir.proofs.Lists.{at_cases}
 
 -- the digits of a number below 2 ^ 64 write it
 pub number_is : (n : ℕ) → n < 2 ^ 64 → number_of (decimal n) ≡ n
@@ -26,46 +27,22 @@ abbrev InRange : ℕ → ℕ → ℤ → Type 0
 InRange half full (pos n) = n < full
 InRange half full (negsuc n) = suc n ≤ half
 
-low_or_high : (n half : ℕ) → (n < half) ⊎ (half ≤ n)
-low_or_high n half = grind arith
+minus_is : (n full : ℕ) → n < full → (pos n -ℤ pos full) ≡ negsuc (full - 1 - n)
+minus_is n full h = grind (arith, nat_tests, ints)
 
 signed_by : ℕ → ℕ → ℕ → ℤ
 signed_by half full n = if nat_lt n half then pos n else (pos n -ℤ pos full)
 
-signed_low : (n half full : ℕ) → n < half → signed_by half full n ≡ pos n
-unfolding signed_by
-signed_low n half full h = grind (arith, nat_tests)
-
-signed_high : (n half full : ℕ) → half ≤ n → n < full → signed_by half full n ≡ negsuc (full - 1 - n)
-unfolding signed_by
-signed_high n half full l h = grind (arith, nat_tests, ints)
-
 in_range : (n half full : ℕ) → n < full → half + half ≡ full → InRange half full (signed_by half full n)
-in_range n half full h e = elim (low_or_high n half) [
-  | inl l ↦ subst (InRange half full) (sym (signed_low n half full l)) h
-  | inr l ↦ subst (InRange half full) (sym (signed_high n half full l h)) (omega arith)
-]
-
--- with its sign and digits, a width of that many bits or more has room for it
-room : (w : Width) (half full : ℕ) (z : ℤ) → InRange half full z → half ≤ 2 ^ (bits_of w - 1) → full ≤ 2 ^ bits_of w
-    → full ≤ 2 ^ 64 → half ≤ 2 ^ 63 → room_for w (has_minus z) (terminal token.Integer (digits_of z)) ≡ true
-room w half full (pos n) h p q r s =
-    let e = number_is n (omega arith) in rw e (le-leb n (2 ^ bits_of w - 1) (omega arith))
-room w half full (negsuc n) h p q r s =
-    let e = number_is (suc n) (omega arith) in rw e (le-leb (suc n) (2 ^ (bits_of w - 1)) (omega arith))
+unfolding signed_by
+in_range n half full h e =
+    at_cases (nat_lt n half) (pos n) (pos n -ℤ pos full) (InRange half full) (λ l. h)
+    (λ l. let k : half ≤ n = grind (arith, nat_tests) in rw (minus_is n full h) (omega arith))
 
 -- the digits of an integer are those of a number below 2 ^ 64
 abbrev pub IsShort : ℤ → Type 0
 IsShort (pos n) = n < 2 ^ 64
 IsShort (negsuc n) = suc n < 2 ^ 64
-
-range_short : (half full : ℕ) (z : ℤ) → InRange half full z → full ≤ 2 ^ 64 → half ≤ 2 ^ 63 → IsShort z
-range_short half full (pos n) h p q = omega arith
-range_short half full (negsuc n) h p q = omega arith
-
-digits_lex : (z : ℤ) → IsShort z → IsLexeme (terminal token.Integer (digits_of z))
-digits_lex (pos n) h = integer_lexes n h
-digits_lex (negsuc n) h = integer_lexes (suc n) h
 
 -- a number of a width: there is room for it in the width and in 64 bits, and its digits are those of a number of 64
 -- bits
@@ -77,12 +54,22 @@ pub record Roomy (w : Width) (z : ℤ) : Type 0 where
 
 by_range : (w : Width) (half full : ℕ) (z : ℤ) → InRange half full z → half ≤ 2 ^ (bits_of w - 1)
     → full ≤ 2 ^ bits_of w → full ≤ 2 ^ 64 → half ≤ 2 ^ 63 → Roomy w z
-by_range w half full z h p q r s = record {
-  here = room w half full z h p q r s;
-  largest = room I64 half full z h s r r s;
-  short = range_short half full z h r s;
-  lex = digits_lex z (range_short half full z h r s);
-}
+by_range w half full (pos n) h p q r s =
+    let e = number_is n (omega arith) in
+    record {
+      here = rw e (le-leb n (2 ^ bits_of w - 1) (omega arith));
+      largest = rw e (le-leb n (2 ^ 64 - 1) (omega arith));
+      short = omega arith;
+      lex = integer_lexes n (omega arith);
+    }
+by_range w half full (negsuc n) h p q r s =
+    let e = number_is (suc n) (omega arith) in
+    record {
+      here = rw e (le-leb (suc n) (2 ^ (bits_of w - 1)) (omega arith));
+      largest = rw e (le-leb (suc n) (2 ^ 63) (omega arith));
+      short = omega arith;
+      lex = integer_lexes (suc n) (omega arith);
+    }
 
 pub roomy : (w : Width) (bits : ℕ) → fits_bits w bits ≡ true → Roomy w (signed_value w bits)
 unfolding signed_by

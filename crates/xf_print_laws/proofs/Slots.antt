@@ -1,7 +1,7 @@
 -- The slots of rows, one by one: what each of them says, and which tokens may not stand behind it; and rows of slots,
 -- by tests over the table.
 use Rattle.std.proofs.Common.{◌≡◌, ℕ, zero, suc, Bool, true, false, List, [], ◌∷◌, length, drop, Option}
-use Rattle.std.proofs.Common.{Some, None, refl, sym, ap, subst, arith, slice_get}
+use Rattle.std.proofs.Common.{Some, None, refl, ap, subst, arith, slice_get}
 use Rattle.std.specs.Prelude.{not, ◌&&◌, ◌||◌, codes, is_some}
 use Rattle.std.proofs.lemmas.Bool.{eq-eqb}
 use Rattle.xf_type.specs.declared.kind.CmpKind.{CmpKind}
@@ -18,14 +18,13 @@ use Rattle.xf_format.specs.declared.expected.Expected.TheVariants as due
 use Rattle.xf_format.specs.declared.row.FormatElement.{FormatElement}
 use Rattle.xf_format.specs.declared.row.FormatElement.TheVariants as slot
 use Rattle.xf_format.specs.declared.row.Keyword.TheVariants as key
-use Rattle.xf_format.specs.Parts.{Said, says_predicate, says_literal, says_width}
+use Rattle.xf_format.specs.Parts.{Said, says_predicate, says_literal, says_type}
 use Rattle.xf_format.specs.Rules.{Rule, language, slot_rule, slots_rule, kind_rule, word_rule, attributes_rule}
 use Rattle.xf_format.specs.Rules.{dictionary_rule, literal_rule, number_rule, predicate_rule, operands_rule, use_rule}
 use Rattle.xf_format.specs.Rules.{if_results_rule, iter_args_rule, loop_width_rule}
 use Rattle.xf_format.specs.Words.{spelling}
 use Rattle.xf_ir.specs.declared.kind.Kind.{Kind}
 use Rattle.xf_ir.specs.declared.kind.Kind.TheVariants as kind
-use Rattle.xf_ir.specs.Bounds.{HasShortSymbol}
 use Rattle.xf_ir.specs.Kinds.{returned_types}
 use Rattle.xf_ir.specs.declared.name.ValueName.{ValueName}
 use Rattle.xf_ir.specs.Lists.{Each, every, is_empty}
@@ -40,49 +39,87 @@ use Rattle.xf_print_laws.specs.SaidPrinted.{predicate_printed, constant_printed,
 use Rattle.xf_print_laws.proofs.Goes.{add_args, Goes, skips, both_go, silent_goes, seen_both}
 use Rattle.xf_print_laws.proofs.LayoutTokens.{is_mark, mark_lexes}
 use Rattle.xf_print_laws.proofs.Lists.{with_attrs, dictionary_goes, attributes_goes, with_values, with_types_of}
-use Rattle.xf_print_laws.proofs.Lists.{with_operands, with_results, with_arguments, with_carried, uses_go, types_go}
-use Rattle.xf_print_laws.proofs.Lists.{operands_go, params_go, call_results_go, function_results_go, if_results_go}
+use Rattle.xf_print_laws.proofs.Lists.{with_operands, with_results, with_arguments, with_carried}
+use Rattle.xf_print_laws.proofs.Lists.{operands_go, params_go, function_results_go, if_results_go}
 use Rattle.xf_print_laws.proofs.Lists.{iter_args_go}
-use Rattle.xf_print_laws.proofs.Needs.{Known, SymbolFits, arguments_of, CarriedRight, Fits}
-use Rattle.xf_print_laws.proofs.Single.{with_use, with_width, with_symbol, with_privacy, word_goes, predicate_goes}
+use Rattle.xf_print_laws.proofs.Needs.{Known, arguments_of, CarriedRight, Fits}
+use Rattle.xf_print_laws.proofs.Single.{with_use, with_width, with_symbol, with_privacy, word_goes}
 use Rattle.xf_print_laws.proofs.Single.{argument_goes, operand_goes, width_slot_goes, symbol_goes, module_name_goes}
 use Rattle.xf_print_laws.proofs.Single.{function_name_goes, literal_goes, loop_width_goes}
+use Rattle.xf_grammar.specs.Tokens.{close_paren}
+use Rattle.xf_format.specs.declared.list.Item.TheVariants as item
+use Rattle.xf_format.specs.Rules.{call_results_rule}
+use Rattle.xf_print_laws.proofs.Goes.{until_goes, paren_ends}
+use Rattle.xf_print_laws.proofs.Lists.{value_items, type_items, result_types_go, arrow_lexes}
+use Rattle.xf_print_laws.proofs.Words.{predicate_found, predicate_lexes}
+use Rattle.xf_type.specs.declared.payload_type.PayloadType.TheVariants.{Scalar}
+use Rattle.std.proofs.Common.{◌==◌}
+use Rattle.xf_ir.specs.Types.{is_scalar}
+use Rattle.xf_printed.specs.Fills.{operand_type}
+use Rattle.xf_print_laws.specs.SaidPrinted.{known_types}
+use Rattle.xf_print_laws.proofs.Goes.{add_types, list_ends}
+use Rattle.xf_print_laws.proofs.Needs.{TypeFits, TypeKnown, is_tensor, typed}
+use Rattle.xf_print_laws.proofs.Single.{type_goes, tensor_of_goes, width_of_goes, result_goes, tensor_result_goes}
+use Rattle.std.specs.Prelude.{option_and_then}
+use Rattle.xf_printed.specs.Names.{type_of}
+use Rattle.xf_printed.specs.Fills.{operand_fill, no_use}
+use Rattle.std.specs.Prelude.{◌-◌, take}
+use Rattle.xf_print_laws.proofs.Lists.{with_out, ins_goes, outs_goes}
+use Rattle.xf_format.specs.Rules.{ins_rule}
+use Rattle.std.proofs.Common.{◌++◌}
+use Rattle.std.proofs.lemmas.List.{take-append-drop}
+use Rattle.xf_ir.proofs.Lists.{each_left, each_right}
 
 -- ---- what slots say
 
 abbrev literal_says : Kind → Said → Said
-literal_says (kind.Constant w bits) d = says_width w (says_literal (literal_printed w bits) d)
+literal_says (kind.Constant w bits) d = says_type (Scalar w) (says_literal (literal_printed w bits) d)
 literal_says _ d = d
 
 abbrev predicate_says : Option CmpKind → Said → Said
 predicate_says None d = d
 predicate_says (Some which) d = says_predicate which d
 
-abbrev pub slot_says : Names → ℕ → Tree → FormatElement → Said → Said
-slot_says names first t slot.ModuleName d = with_symbol (symbol_printed t.kind) d
-slot_says names first t slot.FunctionName d = with_symbol (symbol_printed t.kind) (with_privacy (is_private t.kind) d)
-slot_says names first t slot.Symbol d = with_symbol (symbol_printed t.kind) d
-slot_says names first t slot.Attributes d = with_attrs t.attrs d
-slot_says names first t slot.Dictionary d = with_attrs t.attrs d
-slot_says names first t slot.Literal d = literal_says t.kind d
-slot_says names first t slot.Predicate d = predicate_says (predicate_printed t.kind) d
-slot_says names first t slot.Argument d = add_args d (argument_text first ∷ [])
-slot_says names first t (slot.Use i) d = with_use names (slice_get t.operands i) d
-slot_says names first t (slot.Width i) d = with_width (slice_get (widths_of t.kind) i) d
-slot_says names first t slot.Uses d = with_values names t.operands d
-slot_says names first t slot.Types d = with_types_of names t.operands d
-slot_says names first t slot.Params d = with_arguments first (first_args t.regions) d
-slot_says names first t slot.Operands d = with_operands names t.operands d
-slot_says names first t slot.CallResults d = with_results t.results d
-slot_says names first t slot.FunctionResults d = with_results (returned_types t.kind) d
-slot_says names first t slot.IfResults d = with_results t.results d
-slot_says names first t slot.IterArgs d = with_carried names (suc first) (drop 3 t.operands) t.results d
-slot_says names first t slot.LoopWidth d = with_width (slice_get (widths_of t.kind) 0) d
-slot_says names first t s d = d
+abbrev pub first_in : Names → Tree → ℕ
+first_in names t = first_of (names.entry t.name.0)
 
-abbrev pub slots_say : Names → ℕ → Tree → List FormatElement → Said → Said
-slots_say names first t [] d = d
-slots_say names first t (s ∷ ss) d = slots_say names first t ss (slot_says names first t s d)
+module _ (names : Names) (t : Tree) where
+  abbrev pub slot_says : FormatElement → Said → Said
+  slot_says slot.ModuleName d = with_symbol (symbol_printed t.kind) d
+  slot_says slot.FunctionName d = with_symbol (symbol_printed t.kind) (with_privacy (is_private t.kind) d)
+  slot_says slot.Symbol d = with_symbol (symbol_printed t.kind) d
+  slot_says slot.Attributes d = with_attrs t.attrs d
+  slot_says slot.Dictionary d = with_attrs t.attrs d
+  slot_says slot.Literal d = literal_says t.kind d
+  slot_says slot.Predicate d = predicate_says (predicate_printed t.kind) d
+  slot_says slot.Argument d = add_args d (argument_text (first_in names t) ∷ [])
+  slot_says (slot.Use i) d = with_use names (slice_get t.operands i) d
+  slot_says (slot.Width i) d = with_width (slice_get (widths_of t.kind) i) d
+  slot_says (slot.Uses k b) d = with_values names (drop k t.operands) d
+  slot_says (slot.TypeOf i) d = add_types d (known_types (operand_type names t i ∷ []))
+  slot_says (slot.TensorOf i) d = add_types d (known_types (operand_type names t i ∷ []))
+  slot_says (slot.WidthOf i) d = add_types d (known_types (operand_type names t i ∷ []))
+  slot_says slot.Ins d = with_operands names (take (length t.operands - 1) t.operands) d
+  slot_says slot.Outs d = with_out names (slice_get t.operands (length t.operands - 1)) d
+  slot_says slot.ResultType d = with_results (known_types (slice_get t.results 0 ∷ [])) d
+  slot_says slot.ResultTensor d = with_results (known_types (slice_get t.results 0 ∷ [])) d
+  slot_says slot.Types d = with_types_of names t.operands d
+  slot_says slot.Params d = with_arguments (first_in names t) (first_args t.regions) d
+  slot_says slot.Operands d = with_operands names t.operands d
+  slot_says slot.CallResults d = with_results t.results d
+  slot_says slot.FunctionResults d = with_results (returned_types t.kind) d
+  slot_says slot.IfResults d = with_results t.results d
+  slot_says slot.IterArgs d = with_carried names (suc (first_in names t)) (drop 3 t.operands) t.results d
+  slot_says slot.LoopWidth d = with_width (slice_get (widths_of t.kind) 0) d
+  slot_says s d = d
+
+  abbrev pub slots_say : List FormatElement → Said → Said
+  slots_say [] d = d
+  slots_say (s ∷ ss) d = slots_say ss (slot_says s d)
+
+  -- what they are filled with
+  abbrev pub filled : List FormatElement → Fill
+  filled ss = slots_fill names (first_in names t) t ss
 
 -- ---- which operations have them
 
@@ -90,19 +127,28 @@ abbrev is_loop : Kind → Bool
 is_loop (kind.For width) = true
 is_loop _ = false
 
-abbrev pub offers : Tree → FormatElement → Bool
-offers t (slot.Mark gap b) = is_mark b
-offers t slot.FunctionName = is_some (symbol_printed t.kind)
-offers t slot.Symbol = is_some (symbol_printed t.kind)
-offers t slot.Literal = is_some (constant_printed t.kind)
-offers t slot.Predicate = is_some (predicate_printed t.kind)
-offers t (slot.Use i) = is_some (slice_get t.operands i)
-offers t (slot.Width i) = is_some (slice_get (widths_of t.kind) i)
-offers t slot.IterArgs = is_loop t.kind
-offers t slot.LoopWidth = is_some (slice_get (widths_of t.kind) 0)
-offers t slot.BlockName = false
-offers t slot.Unread = false
-offers t s = true
+module _ (names : Names) (t : Tree) where
+  abbrev pub offers : FormatElement → Bool
+  offers (slot.Mark gap b) = is_mark b
+  offers slot.FunctionName = is_some (symbol_printed t.kind)
+  offers slot.Symbol = is_some (symbol_printed t.kind)
+  offers slot.Literal = is_some (constant_printed t.kind)
+  offers slot.Predicate = is_some (predicate_printed t.kind)
+  offers (slot.Use i) = is_some (slice_get t.operands i)
+  offers (slot.Width i) = is_some (slice_get (widths_of t.kind) i)
+  offers slot.IterArgs = is_loop t.kind
+  offers slot.LoopWidth = is_some (slice_get (widths_of t.kind) 0)
+  offers (slot.Uses k b) = (b == 41) || (b == 93)
+  offers (slot.TypeOf i) = is_some (slice_get t.operands i)
+  offers (slot.TensorOf i) = is_tensor (operand_type names t i)
+  offers slot.ResultType = is_some (slice_get t.results 0)
+  offers slot.ResultTensor = is_tensor (slice_get t.results 0)
+  offers (slot.WidthOf i) = is_scalar (operand_type names t i)
+  offers slot.Ins = not (is_empty (take (length t.operands - 1) t.operands))
+  offers slot.Outs = is_some (slice_get t.operands (length t.operands - 1))
+  offers slot.BlockName = false
+  offers slot.Unread = false
+  offers s = true
 
 -- ---- what stands behind them
 
@@ -136,6 +182,8 @@ firsts slot.Dictionary = terminal open_brace [] ∷ []
 firsts slot.Literal =
     terminal token.Word (codes "true") ∷
     (terminal token.Word (codes "false") ∷ (terminal minus [] ∷ (terminal token.Integer [] ∷ [])))
+firsts (slot.Use i) = terminal token.Value [] ∷ []
+firsts slot.Ins = terminal token.Word (codes "ins") ∷ []
 firsts slot.Operands = terminal token.Value [] ∷ []
 firsts slot.IfResults = terminal token.Arrow [] ∷ []
 firsts slot.IterArgs = terminal token.Word (codes "iter_args") ∷ []
@@ -219,55 +267,55 @@ loop_width_seen xs None z e f = f
 loop_width_seen xs (Some Index) z e f = f
 loop_width_seen xs (Some w) z e f = e
 
-slot_seen : (names : Names) (first : ℕ) (t : Tree) (s : FormatElement) (xs : List Stop) (z : Terminal)
-    → offers t s ≡ true → meets_none xs (firsts s) ≡ true → (may_skip s ≡ true → none_of xs z ≡ true)
-    → Seen xs z (slot_rule s) (slot_fill names first t s)
-unfolding kind_rule word_rule attributes_rule dictionary_rule operands_rule use_rule if_results_rule iter_args_rule
-slot_seen names first t (slot.Mark gap b) xs z o e f = e
-slot_seen names first t (slot.Word k) xs z o e f = e
-slot_seen names first t slot.Attributes xs z o e f =
-    elim t.attrs as (λ ds. Seen xs z attributes_rule (attributes_fill ds)) [ [] ↦ f refl | d ∷ ds ↦ e ]
-slot_seen names first t slot.Dictionary xs z o e f =
-    elim t.attrs as (λ ds. Seen xs z dictionary_rule (dictionary_fill ds)) [ [] ↦ f refl | d ∷ ds ↦ e ]
-slot_seen names first t slot.Literal xs z o e f = literal_seen xs t.kind z o e
-slot_seen names first t slot.Operands xs z o e f =
-    elim t.operands as (λ os. Seen xs z operands_rule
-    (operands_fill names os)) [ [] ↦ f refl | v ∷ os ↦ bytes_free token.Value (λ w b. refl) xs (use_of names v).name e ]
-slot_seen names first t slot.IfResults xs z o e f =
-    elim t.results as (λ ts. Seen xs z if_results_rule (if_results_fill ts)) [ [] ↦ f refl | r ∷ ts ↦ e ]
-slot_seen names first t slot.IterArgs xs z o e f =
-    elim t.results as (λ ts. Seen xs z iter_args_rule
-    (iter_args_fill names first t.operands ts)) [ [] ↦ f refl | r ∷ ts ↦ e ]
-slot_seen names first t slot.LoopWidth xs z o e f = loop_width_seen xs (slice_get (widths_of t.kind) 0) z e (f refl)
-slot_seen names first t s xs z o e f =
-    unknown xs (first_seen (tokens language (slot_rule s) (slot_fill names first t s)) z) e
+module _ (names : Names) (t : Tree) where
+  slot_seen : (s : FormatElement) (xs : List Stop) (z : Terminal)
+      → offers names t s ≡ true → meets_none xs (firsts s) ≡ true → (may_skip s ≡ true → none_of xs z ≡ true)
+      → Seen xs z (slot_rule s) (slot_fill names (first_in names t) t s)
+  unfolding kind_rule word_rule attributes_rule dictionary_rule operands_rule use_rule if_results_rule iter_args_rule
+      ins_rule
+  slot_seen (slot.Mark gap b) xs z o e f = e
+  slot_seen (slot.Word k) xs z o e f = e
+  slot_seen slot.Attributes xs z o e f =
+      elim t.attrs as (λ ds. Seen xs z attributes_rule (attributes_fill ds)) [ [] ↦ f refl | d ∷ ds ↦ e ]
+  slot_seen slot.Dictionary xs z o e f =
+      elim t.attrs as (λ ds. Seen xs z dictionary_rule (dictionary_fill ds)) [ [] ↦ f refl | d ∷ ds ↦ e ]
+  slot_seen slot.Literal xs z o e f = literal_seen xs t.kind z o e
+  slot_seen slot.Operands xs z o e f =
+      elim t.operands as (λ os. Seen xs z operands_rule (operands_fill names os)) [
+        | [] ↦ f refl
+        | v ∷ os ↦ bytes_free token.Value (λ w b. refl) xs (use_of names v).name e
+      ]
+  slot_seen (slot.Use i) xs z o e f =
+      elim (slice_get t.operands i) as (λ o. Seen xs z (use_rule true) (operand_fill names o)) [
+        | None ↦ bytes_free token.Value (λ w b. refl) xs no_use.name e
+        | Some v ↦ bytes_free token.Value (λ w b. refl) xs (use_of names v).name e
+      ]
+  slot_seen slot.Ins xs z o e f = e
+  slot_seen slot.IfResults xs z o e f =
+      elim t.results as (λ ts. Seen xs z if_results_rule (if_results_fill ts)) [ [] ↦ f refl | r ∷ ts ↦ e ]
+  slot_seen slot.IterArgs xs z o e f =
+      elim t.results as (λ ts. Seen xs z iter_args_rule
+      (iter_args_fill names (first_in names t) t.operands ts)) [ [] ↦ f refl | r ∷ ts ↦ e ]
+  slot_seen slot.LoopWidth xs z o e f = loop_width_seen xs (slice_get (widths_of t.kind) 0) z e (f refl)
+  slot_seen s xs z o e f =
+      unknown xs (first_seen (tokens language (slot_rule s) (slot_fill names (first_in names t) t s)) z) e
 
-pub clear_seen : (names : Names) (first : ℕ) (t : Tree) (ss : List FormatElement) (xs : List Stop) (y : Terminal)
-    → every (offers t) ss ≡ true → clear xs ss y ≡ true → Seen xs y (slots_rule ss) (slots_fill names first t ss)
-clear_seen names first t [] xs y o e = e
-clear_seen names first t (s ∷ ss) xs y o e =
-    let p = both_true (offers t s) _ o in
-    let q = both_true (meets_none xs (firsts s)) _ e in
-    let later = λ (k : may_skip s ≡ true). clear_seen names first t ss xs y p.1 (skipped (may_skip s) _ k q.1) in
-    let one = written language (slot_rule s) (slot_fill names first t s) in
-    let more = written language (slots_rule ss) (slots_fill names first t ss) in
-    subst (λ z. none_of xs z ≡ true) (sym (seen_both one more y)) (slot_seen names first t s xs _ p.0 q.0 later)
-  where
-    skipped : (a b : Bool) → a ≡ true → (not a || b) ≡ true → b ≡ true
-    skipped true b k e = e
-    skipped false b k e = absurd cc
+  pub clear_seen : (ss : List FormatElement) (xs : List Stop) (y : Terminal)
+      → every (offers names t) ss ≡ true → clear xs ss y ≡ true → Seen xs y (slots_rule ss) (filled names t ss)
+  clear_seen [] xs y o e = e
+  clear_seen (s ∷ ss) xs y o e =
+      let p = both_true (offers names t s) _ o in
+      let q = both_true (meets_none xs (firsts s)) _ e in
+      let later = λ (k : may_skip s ≡ true). clear_seen ss xs y p.1 (skipped (may_skip s) _ k q.1) in
+      let one = written language (slot_rule s) (slot_fill names (first_in names t) t s) in
+      let more = written language (slots_rule ss) (filled names t ss) in
+      rw (seen_both one more y) (slot_seen s xs _ p.0 q.0 later)
+    where
+      skipped : (a b : Bool) → a ≡ true → (not a || b) ≡ true → b ≡ true
+      skipped true b k e = e
+      skipped false b k e = absurd cc
 
 -- ---- what slots write
-
-kind_symbol_fits : (k : Kind) → kind_fits k ≡ true → HasShortSymbol k → SymbolFits (symbol_printed k)
-kind_symbol_fits (kind.Module None) f s = tt
-kind_symbol_fits (kind.Module (Some symbol)) f s = (f, s)
-kind_symbol_fits (kind.Func symbol private results) f s = (f, s)
-kind_symbol_fits (kind.Call callee) f s = (f, s)
-kind_symbol_fits k f s = tt
-
-symbol_fits : {names : Names} {t : Tree} {rest : Ops} → Fits names t rest → SymbolFits (symbol_printed t.kind)
-symbol_fits {t = t} w = kind_symbol_fits t.kind w.kind_fit w.few.symbol
 
 literal_slot_goes : (k : Kind) (y : Terminal) (d : Said) → kind_fits k ≡ true → is_some (constant_printed k) ≡ true
     → Goes literal_rule (literal_fill k) y d (literal_says k d)
@@ -276,7 +324,9 @@ literal_slot_goes k y d f o = absurd cc
 
 predicate_slot_goes : (k : Kind) (y : Terminal) (d : Said) → is_some (predicate_printed k) ≡ true
     → Goes predicate_rule (word_fill (predicate_or_none k)) y d (predicate_says (predicate_printed k) d)
-predicate_slot_goes (kind.Compare which w) y d o = predicate_goes which y d
+unfolding predicate_rule
+predicate_slot_goes (kind.Compare which w) y d o = let p = predicate_found which in
+    record { fit = λ s. rw p refl; say = rw p refl; few = λ s. s; lex = (predicate_lexes which, tt) }
 predicate_slot_goes k y d o = absurd cc
 
 -- a loop carries as many values as it has results, behind its number
@@ -285,58 +335,101 @@ loop_carries : (k : Kind) (os : List ValueName) (ts args : List PayloadType) →
 loop_carries (kind.For w) os ts args o c e = (c, ap length e)
 loop_carries k os ts args o c e = absurd cc
 
-known_behind : (names : Names) (n : ℕ) (os : List ValueName) → Each (Known names) os → Each (Known names) (drop n os)
-known_behind names zero os h = h
-known_behind names (suc n) [] h = tt
-known_behind names (suc n) (v ∷ os) h = known_behind names n os h.1
+known_parts : (names : Names) (n : ℕ) (os : List ValueName) → Each (Known names) os
+    → Each (Known names) (take n os) × Each (Known names) (drop n os)
+known_parts names n os h =
+    let p : Each (Known names) (take n os ++ drop n os) = rw (take-append-drop n os) h in
+    (each_left (Known names) (take n os) (drop n os) p, each_right (Known names) (take n os) (drop n os) p)
+
+-- the types of operands and of the first result are known
+typed_known : (names : Names) (os : List ValueName) (i : ℕ) → Each (Known names) os
+    → is_some (slice_get os i) ≡ true → TypeKnown (typed names os i)
+typed_known names [] i h o = absurd cc
+typed_known names (v ∷ os) zero h o = h.0.0
+typed_known names (v ∷ os) (suc i) h o = typed_known names os i h.1 o
+
+first_tensor : (ts : List PayloadType) → is_tensor (slice_get ts 0) ≡ true → is_some (slice_get ts 0) ≡ true
+first_tensor [] e = absurd cc
+first_tensor (t ∷ ts) e = refl
+
+first_fits : (ts : List PayloadType) → Each TypeFits ts → is_some (slice_get ts 0) ≡ true → TypeKnown (slice_get ts 0)
+first_fits [] h o = absurd cc
+first_fits (t ∷ ts) h o = h.0
+
+tensor_there : {A : Type 0} (f : A → Option PayloadType) (o : Option A) → is_tensor (option_and_then f o) ≡ true
+    → is_some o ≡ true
+tensor_there f None e = absurd cc
+tensor_there f (Some x) e = refl
 
 no_index : (y : Terminal) → not (is_kind token.Hash y) ≡ true → not (is_index y) ≡ true
 no_index (terminal token.Hash b) e = absurd cc
 no_index y e = refl
 
-slot_goes : {names : Names} {t : Tree} {rest : Ops} (w : Fits names t rest) (s : FormatElement) (y : Terminal)
-    (d : Said) → offers t s ≡ true → none_of (stops s) y ≡ true
-    → let first : ℕ = first_of (names.entry t.name.0) in Goes (slot_rule s) (slot_fill names first t s) y d
-    (slot_says names first t s d)
-slot_goes w (slot.Mark gap b) y d o e = silent_goes gap due.Other (token.Mark b) (mark_lexes b o) (eq-eqb b b refl)
-slot_goes w (slot.Word key.To) y d o e = word_goes (spelling key.To) y d refl refl
-slot_goes w (slot.Word k) y d o e = word_goes (spelling k) y d refl refl
-slot_goes {t = t} w slot.ModuleName y d o e =
-    module_name_goes (symbol_printed t.kind) y d (symbol_fits w) (both_true _ _ e).0
-slot_goes {t = t} w slot.FunctionName y d o e =
-    function_name_goes (is_private t.kind) (symbol_printed t.kind) y d (symbol_fits w) o
-slot_goes {t = t} w slot.Symbol y d o e = symbol_goes (symbol_printed t.kind) y d (symbol_fits w) o
-slot_goes {t = t} w slot.Attributes y d o e = attributes_goes t.attrs y d w.attrs (both_true _ _ e).0
-slot_goes {t = t} w slot.Dictionary y d o e = dictionary_goes t.attrs y d w.attrs (both_true _ _ e).0
-slot_goes {t = t} w slot.Literal y d o e = literal_slot_goes t.kind y d w.kind_fit o
-slot_goes {t = t} w slot.Predicate y d o e = predicate_slot_goes t.kind y d o
-slot_goes w slot.Argument y d o e = let few = w.first in argument_goes true _ y d (omega arith)
-slot_goes {names} {t} w (slot.Use i) y d o e =
-    operand_goes names t.operands i y d w.values o (no_index y (both_true _ _ e).0)
-slot_goes {t = t} w (slot.Width i) y d o e = width_slot_goes due.ArithWidth (slice_get (widths_of t.kind) i) y d o
-slot_goes {names} {t} w slot.Uses y d o e = uses_go names t.operands y d w.values
-slot_goes {names} {t} w slot.Types y d o e = types_go names t.operands y d w.values
-slot_goes {t = t} w slot.Params y d o e = params_go _ (first_args t.regions) y d w.args w.first
-slot_goes {names} {t} w slot.Operands y d o e =
-    let p = both_true _ _ e in operands_go names t.operands y d w.values p.0 (both_true _ _ p.1).0
-slot_goes {t = t} w slot.CallResults y d o e = call_results_go t.results y d w.results
-slot_goes {t = t} w slot.FunctionResults y d o e =
-    function_results_go (returned_types t.kind) y d w.returned (both_true _ _ e).0
-slot_goes {t = t} w slot.IfResults y d o e = if_results_go t.results y d w.results (both_true _ _ e).0
-slot_goes {names} {t} w slot.IterArgs y d o e =
-    let c = loop_carries t.kind t.operands t.results (first_args t.regions) o w.carried w.arguments in
-    let few = w.first in
-    iter_args_go names _ t.operands t.results y d (known_behind names 3 t.operands w.values) w.results c.0
-    (omega arith) (both_true _ _ e).0
-slot_goes {t = t} w slot.LoopWidth y d o e = loop_width_goes (slice_get (widths_of t.kind) 0) y d o (both_true _ _ e).0
-slot_goes w s y d o e = absurd cc
+module _ {names : Names} {t : Tree} {rest : Ops} (w : Fits names t rest) where
+  slot_goes : (s : FormatElement) (y : Terminal)
+      (d : Said) → offers names t s ≡ true → none_of (stops s) y ≡ true
+      → Goes (slot_rule s) (slot_fill names (first_in names t) t s) y d (slot_says names t s d)
+  unfolding call_results_rule
+  slot_goes (slot.Mark gap b) y d o e = silent_goes gap due.Other (token.Mark b) (mark_lexes b o) (eq-eqb b b refl)
+  slot_goes (slot.Word key.To) y d o e = word_goes (spelling key.To) y d refl refl
+  slot_goes (slot.Word k) y d o e = word_goes (spelling k) y d refl refl
+  slot_goes slot.ModuleName y d o e =
+      module_name_goes (symbol_printed t.kind) y d w.symbol (both_true _ _ e).0
+  slot_goes slot.FunctionName y d o e =
+      function_name_goes (is_private t.kind) (symbol_printed t.kind) y d w.symbol o
+  slot_goes slot.Symbol y d o e = symbol_goes (symbol_printed t.kind) y d w.symbol o
+  slot_goes slot.Attributes y d o e = attributes_goes t.attrs y d w.attrs (both_true _ _ e).0
+  slot_goes slot.Dictionary y d o e = dictionary_goes t.attrs y d w.attrs (both_true _ _ e).0
+  slot_goes slot.Literal y d o e = literal_slot_goes t.kind y d w.kind_fit o
+  slot_goes slot.Predicate y d o e = predicate_slot_goes t.kind y d o
+  slot_goes slot.Argument y d o e = let few = w.first in argument_goes true _ y d (omega arith)
+  slot_goes (slot.Use i) y d o e =
+      operand_goes names t.operands i y d w.values o (no_index y (both_true _ _ e).0)
+  slot_goes (slot.Width i) y d o e = width_slot_goes due.ArithWidth (slice_get (widths_of t.kind) i) y d o
+  slot_goes (slot.Uses k b) y d o e =
+      until_goes (item.Use false) (token.Mark b) due.Other (value_items names false) (list_ends refl refl b o)
+      (drop k t.operands) y d (known_parts names k t.operands w.values).1
+  slot_goes (slot.TypeOf i) y d o e =
+      type_goes true (operand_type names t i) y d (typed_known names t.operands i w.values o)
+  slot_goes (slot.TensorOf i) y d o e =
+      tensor_of_goes (operand_type names t i) y d o
+      (typed_known names t.operands i w.values (tensor_there (type_of names) (slice_get t.operands i) o))
+  slot_goes (slot.WidthOf i) y d o e = width_of_goes (operand_type names t i) y d o
+  slot_goes slot.ResultType y d o e = result_goes (slice_get t.results 0) y d (first_fits t.results w.results o)
+  slot_goes slot.ResultTensor y d o e =
+      tensor_result_goes (slice_get t.results 0) y d o
+      (first_fits t.results w.results (first_tensor t.results o))
+  slot_goes slot.Ins y d o e =
+      let n = length t.operands - 1 in
+      ins_goes names (take n t.operands) y d (known_parts names n t.operands w.values).0 o
+  slot_goes slot.Outs y d o e = outs_goes names t.operands (length t.operands - 1) y d w.values o
+  slot_goes slot.Arrow y d o e = silent_goes true due.Other token.Arrow arrow_lexes refl
+  slot_goes slot.Types y d o e =
+      until_goes (item.Type false) close_paren due.Other (type_items names false) (paren_ends refl) t.operands y d
+      w.values
+  slot_goes slot.Params y d o e = params_go _ (first_args t.regions) y d w.args w.first
+  slot_goes slot.Operands y d o e =
+      let p = both_true _ _ e in operands_go names t.operands y d w.values p.0 (both_true _ _ p.1).0
+  slot_goes slot.CallResults y d o e =
+      both_go (silent_goes true due.Other token.Arrow arrow_lexes refl)
+      (result_types_go due.Other t.results y d w.results)
+  slot_goes slot.FunctionResults y d o e =
+      function_results_go (returned_types t.kind) y d w.returned (both_true _ _ e).0
+  slot_goes slot.IfResults y d o e = if_results_go t.results y d w.results (both_true _ _ e).0
+  slot_goes slot.IterArgs y d o e =
+      let c = loop_carries t.kind t.operands t.results (first_args t.regions) o w.carried w.arguments in
+      let few = w.first in
+      iter_args_go names _ t.operands t.results y d (known_parts names 3 t.operands w.values).1 w.results c.0
+      (omega arith) (both_true _ _ e).0
+  slot_goes slot.LoopWidth y d o e = loop_width_goes (slice_get (widths_of t.kind) 0) y d o (both_true _ _ e).0
+  slot_goes s y d o e = absurd cc
 
-pub slots_go : {names : Names} {t : Tree} {rest : Ops} (w : Fits names t rest) (ss : List FormatElement) (y : Terminal)
-    (d : Said) → every (offers t) ss ≡ true → apart ss y ≡ true
-    → let first : ℕ = first_of (names.entry t.name.0) in Goes (slots_rule ss) (slots_fill names first t ss) y d
-    (slots_say names first t ss d)
-slots_go w [] y d o e = skips
-slots_go {names} {t} w (s ∷ ss) y d o e =
-    let p = both_true (offers t s) _ o in
-    let q = both_true (clear (stops s) ss y) _ e in
-    both_go (slot_goes w s _ d p.0 (clear_seen names _ t ss (stops s) y p.1 q.0)) (slots_go w ss y _ p.1 q.1)
+  pub slots_go : (ss : List FormatElement) (y : Terminal)
+      (d : Said) → every (offers names t) ss ≡ true → apart ss y ≡ true
+      → Goes (slots_rule ss) (filled names t ss) y d
+      (slots_say names t ss d)
+  slots_go [] y d o e = skips
+  slots_go (s ∷ ss) y d o e =
+      let p = both_true (offers names t s) _ o in
+      let q = both_true (clear (stops s) ss y) _ e in
+      both_go (slot_goes s _ d p.0 (clear_seen names t ss (stops s) y p.1 q.0)) (slots_go ss y _ p.1 q.1)

@@ -6,6 +6,7 @@ use Rattle.std.specs.Char.{digit_value}
 use Rattle.std.specs.List.{flat_map}
 use Rattle.std.proofs.lemmas.Bool.Decides.{nat_tests}
 use Rattle.xf_type.specs.Bytes.{is_hex}
+use Rattle.xf_grammar.specs.Apart.{is_low}
 use Rattle.xf_format.specs.Strings.{decoded}
 use Rattle.xf_ir.specs.Lists.{Each}
 use Rattle.xf_printed.specs.Attributes.{hex_digit, is_plain, byte_text, string_text}
@@ -16,8 +17,11 @@ hex_is d h = grind (arith, nat_tests)
 hex_value : (d : ℕ) → d < 16 → digit_value (hex_digit d) ≡ d
 hex_value d h = grind (arith, nat_tests)
 
-plain_apart : (b : ℕ) → is_plain b ≡ true → ((b == 34) ≡ false) × ((b == 92) ≡ false)
-plain_apart b h = (grind (arith, nat_tests), grind (arith, nat_tests))
+-- a plain byte is no line feed, quote or \
+pub plain_apart : (b : ℕ) → is_plain b ≡ true
+    → (is_low b ≡ true) × ((b == 10) ≡ false) × ((b == 34) ≡ false) × ((b == 92) ≡ false)
+plain_apart b h =
+    (grind (arith, nat_tests), grind (arith, nat_tests), grind (arith, nat_tests), grind (arith, nat_tests))
 
 -- the digits of a byte give the byte
 two_digits : (b : ℕ) → b < 256 → (digit_value (hex_digit (b / 16)) * 16 + digit_value (hex_digit (b % 16))) % 256 ≡ b
@@ -34,7 +38,7 @@ read_on bytes = decoded (34 ∷ bytes)
 
 one_byte : (plain : Bool) (b : ℕ) (rest : List ℕ) → is_plain b ≡ plain → b < 256
     → read_on (byte_text b ++ rest) ≡ b ∷ read_on rest
-one_byte true b rest e h = let p = plain_apart b e in let q = p.0 in let r = p.1 in rw (e, q, r) refl
+one_byte true b rest e h = let p = plain_apart b e in let q = p.2 in let r = p.3 in rw (e, q, r) refl
 one_byte false b rest e h =
     let high : b / 16 < 16 = omega arith in
     let p = hex_is (b / 16) high in

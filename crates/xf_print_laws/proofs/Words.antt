@@ -32,12 +32,19 @@ use Rattle.xf_printed.specs.PrintedForm.{row_of as row_of_word}
 use Rattle.xf_print_laws.specs.Core.{is_core}
 use Rattle.xf_print_laws.specs.SaidPrinted.{row_of}
 use Rattle.xf_print_laws.proofs.LayoutTokens.{word_lexes}
+use Rattle.xf_ir.specs.declared.kind.NamedKind.{NamedKind}
+use Rattle.xf_ir.specs.declared.kind.NamedKind.TheVariants.{Matmul}
+use Rattle.xf_ir.specs.Spelling.{named_spelling}
 
 -- ---- what they mean
 
 binary_row : (b : BinKind) → lookup words (binary_spelling b) ≡ Some (row.Binary b)
 binary_row Addi = refl
 binary_row b = refl
+
+named_row : (n : NamedKind) → lookup words (named_spelling n) ≡ Some (row.Named n)
+named_row Matmul = refl
+named_row n = refl
 
 conversion_row : (c : ConvKind) → lookup words (conversion_spelling c) ≡ Some (row.Convert c)
 conversion_row Extsi = refl
@@ -46,6 +53,7 @@ conversion_row c = refl
 pub word_row : (k : Kind) → is_core k ≡ true → lookup words (word_of k) ≡ Some (row_of k)
 word_row (kind.Binary which width) c = binary_row which
 word_row (kind.Convert which from to) c = conversion_row which
+word_row (kind.Named which) c = named_row which
 word_row k c = cc
 
 pub same_row : (k : Kind) → is_core k ≡ true → row_of_word k ≡ row_of k

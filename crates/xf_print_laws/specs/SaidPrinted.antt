@@ -1,5 +1,5 @@
--- What the printed heads of a module say, of the operations of builtin, func, arith and scf.
-use Rattle.std.specs.Prelude.{ℕ, List, [], ◌∷◌, map, Option, Some, None, Bool, option_map, if◌then◌else◌, ℤ}
+-- What the printed heads of a module say, of the operations that are rows of slots.
+use Rattle.std.specs.Prelude.{ℕ, zero, suc, List, [], ◌∷◌, map, Option, Some, None, Bool, option_map, if◌then◌else◌, ℤ}
 use Rattle.xf_type.specs.declared.attribute.AttrValue.{AttrValue}
 use Rattle.xf_type.specs.declared.attribute.AttrValue.TheVariants as attr
 use Rattle.xf_type.specs.declared.kind.CmpKind.{CmpKind}
@@ -65,6 +65,12 @@ row_of (kind.Convert which from to) = row.Convert which
 row_of (kind.For width) = row.For
 row_of kind.If = row.If
 row_of kind.Yield = row.Yield
+row_of kind.Empty = row.Empty
+row_of kind.Dim = row.Dim
+row_of kind.Extract = row.Extract
+row_of kind.Insert = row.Insert
+row_of kind.Cast = row.Cast
+row_of (kind.Named which) = row.Named which
 row_of _ = row.Module
 
 -- with its @
@@ -85,6 +91,12 @@ known_types [] = []
 known_types (None ∷ os) = known_types os
 known_types (Some t ∷ os) = t ∷ known_types os
 
+-- the one with a number
+abbrev pub known_at : List (Option PayloadType) → ℕ → List PayloadType
+known_at [] i = []
+known_at (o ∷ os) zero = known_types (o ∷ [])
+known_at (o ∷ os) (suc i) = known_at os i
+
 -- the types that stand in a head, but for those behind its arrow: for a function those of its arguments, else those of
 -- its operands or its widths
 abbrev pub types_printed : Kind → List PayloadType → List (Option PayloadType) → List PayloadType
@@ -98,6 +110,11 @@ types_printed (kind.Select width) args os = Scalar width ∷ []
 types_printed (kind.Convert which from to) args os = Scalar from ∷ (Scalar to ∷ [])
 types_printed (kind.For width) args os = Scalar width ∷ []
 types_printed kind.Yield args os = known_types os
+types_printed kind.Dim args os = known_at os 0
+types_printed kind.Extract args os = known_at os 0
+types_printed kind.Insert args os = known_at os 1
+types_printed kind.Cast args os = known_at os 0
+types_printed (kind.Named which) args os = known_types os
 types_printed _ args os = []
 
 -- the types behind the arrow
@@ -106,6 +123,9 @@ results_printed (kind.Func symbol private results) ts = results
 results_printed (kind.Call callee) ts = ts
 results_printed (kind.For width) ts = ts
 results_printed kind.If ts = ts
+results_printed kind.Empty ts = ts
+results_printed kind.Cast ts = ts
+results_printed (kind.Named which) ts = ts
 results_printed _ ts = []
 
 -- ---- heads

@@ -25,7 +25,8 @@ use Rattle.xf_format.specs.Rules.{block_name_rule, number_rule, literal_rule, en
 use Rattle.xf_format.specs.Rules.{entry_value_rule, entry_rule, param_rule, pair_rule, until_rule, dictionary_rule}
 use Rattle.xf_format.specs.Rules.{attributes_rule, result_types_rule, call_results_rule, function_results_rule}
 use Rattle.xf_format.specs.Rules.{listed_results_rule, if_results_rule, operands_rule, iter_args_rule, loop_width_rule}
-use Rattle.xf_format.specs.Rules.{row_rule, defines_rule, head_rule}
+use Rattle.xf_format.specs.Rules.{tensor_rule, result_tensor_rule, typed_rule, ins_rule, outs_rule, row_rule}
+use Rattle.xf_format.specs.Rules.{defines_rule, head_rule}
 use Rattle.xf_printed.specs.PrintedForm.{printed_form}
 
 abbrev op_name : ℕ → OpName
@@ -95,7 +96,7 @@ unfolding digits kind_rule word_rule symbol_rule module_name_rule function_name_
     type_rule result_rule predicate_rule block_name_rule number_rule literal_rule entry_width_rule entry_number_rule
     entry_value_rule entry_rule param_rule pair_rule until_rule dictionary_rule attributes_rule result_types_rule
     call_results_rule function_results_rule listed_results_rule if_results_rule operands_rule iter_args_rule
-    loop_width_rule row_rule defines_rule head_rule
+    loop_width_rule tensor_rule result_tensor_rule typed_rule ins_rule outs_rule row_rule defines_rule head_rule
 turns_printed = refl
 
 abbrev pair : PayloadType
@@ -147,7 +148,7 @@ unfolding digits kind_rule word_rule symbol_rule module_name_rule function_name_
     type_rule result_rule predicate_rule block_name_rule number_rule literal_rule entry_width_rule entry_number_rule
     entry_value_rule entry_rule param_rule pair_rule until_rule dictionary_rule attributes_rule result_types_rule
     call_results_rule function_results_rule listed_results_rule if_results_rule operands_rule iter_args_rule
-    loop_width_rule row_rule defines_rule head_rule
+    loop_width_rule tensor_rule result_tensor_rule typed_rule ins_rule outs_rule row_rule defines_rule head_rule
 structured_printed = refl
 
 -- a function with attributes, a call of it, and an empty yield
@@ -184,7 +185,7 @@ unfolding digits kind_rule word_rule symbol_rule module_name_rule function_name_
     type_rule result_rule predicate_rule block_name_rule number_rule literal_rule entry_width_rule entry_number_rule
     entry_value_rule entry_rule param_rule pair_rule until_rule dictionary_rule attributes_rule result_types_rule
     call_results_rule function_results_rule listed_results_rule if_results_rule operands_rule iter_args_rule
-    loop_width_rule row_rule defines_rule head_rule
+    loop_width_rule tensor_rule result_tensor_rule typed_rule ins_rule outs_rule row_rule defines_rule head_rule
 called_printed = refl
 
 abbrev grid : PayloadType
@@ -241,5 +242,5 @@ unfolding digits kind_rule word_rule symbol_rule module_name_rule function_name_
     type_rule result_rule predicate_rule block_name_rule number_rule literal_rule entry_width_rule entry_number_rule
     entry_value_rule entry_rule param_rule pair_rule until_rule dictionary_rule attributes_rule result_types_rule
     call_results_rule function_results_rule listed_results_rule if_results_rule operands_rule iter_args_rule
-    loop_width_rule row_rule defines_rule head_rule
+    loop_width_rule tensor_rule result_tensor_rule typed_rule ins_rule outs_rule row_rule defines_rule head_rule
 tensors_printed = refl

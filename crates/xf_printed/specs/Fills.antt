@@ -1,5 +1,6 @@
 -- How an operation fills the slots of its row.
-use Rattle.std.specs.Prelude.{ℕ, List, [], ◌∷◌, ◌++◌, length, codes, Option, Some, None, Bool, true, false, slice_get}
+use Rattle.std.specs.Prelude.{ℕ, ◌-◌, List, [], ◌∷◌, ◌++◌, length, take, drop, codes, Option, Some, None, Bool, true}
+use Rattle.std.specs.Prelude.{false, slice_get, option_and_then}
 use Rattle.std.specs.Fmt.{decimal}
 use Rattle.xf_type.specs.declared.payload_type.PayloadType.{PayloadType}
 use Rattle.xf_type.specs.declared.payload_type.Width.{Width}
@@ -14,6 +15,7 @@ use Rattle.xf_format.specs.declared.row.FormatElement.TheVariants as slot
 use Rattle.xf_format.specs.Words.{spelling}
 use Rattle.xf_ir.specs.declared.kind.Kind.{Kind}
 use Rattle.xf_ir.specs.declared.kind.Kind.TheVariants as kind
+use Rattle.xf_ir.specs.declared.name.ValueName.{ValueName}
 use Rattle.xf_ir.specs.Kinds.{returned_types}
 use Rattle.xf_ir.specs.Tree.{Tree}
 pub use Rattle.xf_printed.specs.Items.{rule_text, token_fill, mark_fill, word_fill, number_name, Use, part_digits}
@@ -24,9 +26,10 @@ pub use Rattle.xf_printed.specs.Items.{Param, Pair, params, pairs, param_fill, p
 pub use Rattle.xf_printed.specs.Items.{truth_entry_fill, number_entry_fill, int_entry_fill, entry_value_fill}
 pub use Rattle.xf_printed.specs.Items.{entry_fill, dictionary_fill, attributes_fill, listed_results_fill}
 pub use Rattle.xf_printed.specs.Items.{result_types_fill, call_results_fill, function_results_fill, if_results_fill}
-pub use Rattle.xf_printed.specs.Items.{operands_fill, iter_args_fill}
+pub use Rattle.xf_printed.specs.Items.{operands_fill, iter_args_fill, tensor_fill, tensor_or_none, scalar_or_none}
+pub use Rattle.xf_printed.specs.Items.{typed_uses_fill, ins_fill, outs_fill}
 pub use Rattle.xf_printed.specs.Numbers.{has_minus, digits_of, is_set, truth_word}
-use Rattle.xf_printed.specs.Names.{Names, first_args}
+use Rattle.xf_printed.specs.Names.{Names, first_args, type_of}
 use Rattle.xf_printed.specs.Unread.{rest_text, dense_text}
 
 -- ---- symbols
@@ -110,6 +113,11 @@ loop_width_fill None = other nothing
 loop_width_fill (Some Index) = other nothing
 loop_width_fill (Some w) = yes (terminal colon []) (width_fill w)
 
+-- ---- types of values
+
+abbrev pub operand_type : Names → Tree → ℕ → Option PayloadType
+operand_type names t i = option_and_then (type_of names) (slice_get t.operands i)
+
 -- ---- slots
 
 -- an operation, of whose block arguments `first` is the first number
@@ -126,7 +134,15 @@ slot_fill names first t slot.Predicate = word_fill (predicate_or_none t.kind)
 slot_fill names first t slot.Argument = argument_fill first
 slot_fill names first t (slot.Use i) = operand_fill names (slice_get t.operands i)
 slot_fill names first t (slot.Width i) = width_or_none (slice_get (widths_of t.kind) i)
-slot_fill names first t slot.Uses = until_fill close_paren (value_fill names) t.operands
+slot_fill names first t (slot.Uses k b) = until_fill (token.Mark b) (value_fill names) (drop k t.operands)
+slot_fill names first t (slot.TypeOf i) = type_or_none (operand_type names t i)
+slot_fill names first t (slot.TensorOf i) = tensor_or_none (operand_type names t i)
+slot_fill names first t (slot.WidthOf i) = scalar_or_none (operand_type names t i)
+slot_fill names first t slot.ResultType = type_or_none (slice_get t.results 0)
+slot_fill names first t slot.ResultTensor = tensor_or_none (slice_get t.results 0)
+slot_fill names first t slot.Arrow = mark_fill token.Arrow
+slot_fill names first t slot.Ins = ins_fill names (take (length t.operands - 1) t.operands)
+slot_fill names first t slot.Outs = outs_fill names (slice_get t.operands (length t.operands - 1))
 slot_fill names first t slot.Types = until_fill close_paren (value_type_fill names) t.operands
 slot_fill names first t slot.Params = until_fill close_paren param_fill (params first (first_args t.regions))
 slot_fill names first t slot.Operands = operands_fill names t.operands

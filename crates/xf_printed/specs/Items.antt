@@ -1,10 +1,12 @@
 -- How single tokens, names, types, lists and attributes fill their rules.
-use Rattle.std.specs.Prelude.{ℕ, suc, ◌+◌, List, [], ◌∷◌, ◌++◌, drop, codes, Option, Some, None, Bool, true, false}
+use Rattle.std.specs.Prelude.{ℕ, suc, ◌+◌, List, [], ◌∷◌, ◌++◌, drop, codes, Option, Some, None, option_and_then}
+use Rattle.std.specs.Prelude.{Bool, true, false}
 use Rattle.std.specs.Fmt.{decimal}
 use Rattle.xf_type.specs.declared.attribute.AttrValue.{AttrValue}
 use Rattle.xf_type.specs.declared.attribute.AttrValue.TheVariants as attr
 use Rattle.xf_type.specs.declared.payload_type.PayloadType.{PayloadType}
 use Rattle.xf_type.specs.declared.payload_type.PayloadType.TheVariants.{Scalar, Tensor}
+use Rattle.xf_type.specs.declared.payload_type.Shape.{Shape}
 use Rattle.xf_type.specs.declared.payload_type.Width.{Width}
 use Rattle.xf_type.specs.declared.payload_type.Width.TheVariants.{I1}
 use Rattle.xf_type.specs.Integers.{signed_value}
@@ -95,14 +97,26 @@ argument_fill k = here (token_fill token.Value (argument_text k))
 abbrev pub width_fill : Width → Fill
 width_fill w = here (word_fill (width_spelling w))
 
+abbrev pub tensor_fill : Shape → Fill
+tensor_fill s = here (yes (terminal token.Word (codes "tensor")) (token_fill token.Shape (shape_text s)))
+
 abbrev pub type_fill : PayloadType → Fill
 type_fill (Scalar w) = width_fill w
-type_fill (Tensor s) = other (here (yes (terminal token.Word (codes "tensor")) (token_fill token.Shape (shape_text s))))
+type_fill (Tensor s) = other (tensor_fill s)
 
 -- of a value that nothing defines, no type is known, and a word without bytes stands for it
 abbrev pub type_or_none : Option PayloadType → Fill
 type_or_none None = here (word_fill [])
 type_or_none (Some t) = type_fill t
+
+-- where another type stands than is due, too
+abbrev pub tensor_or_none : Option PayloadType → Fill
+tensor_or_none (Some (Tensor s)) = tensor_fill s
+tensor_or_none t = here (word_fill [])
+
+abbrev pub scalar_or_none : Option PayloadType → Fill
+scalar_or_none (Some (Scalar w)) = width_fill w
+scalar_or_none t = here (word_fill [])
 
 abbrev pub value_type_fill : Names → ValueName → Fill
 value_type_fill names v = type_or_none (type_of names v)
@@ -213,6 +227,24 @@ abbrev pub operands_fill : Names → List ValueName → Fill
 operands_fill names [] = other nothing
 operands_fill names (v ∷ vs) =
     here (two (list_fill (value_fill names) v vs) (two (mark_fill colon) (list_fill (value_type_fill names) v vs)))
+
+-- operands and their types, and the parenthesis behind them
+abbrev pub typed_uses_fill : Names → List ValueName → Fill
+typed_uses_fill names os =
+    two (some_fill (value_fill names) os)
+    (two (mark_fill colon) (two (some_fill (value_type_fill names) os) (mark_fill close_paren)))
+
+abbrev pub ins_fill : Names → List ValueName → Fill
+ins_fill names os = two (word_fill (codes "ins")) (two (mark_fill open_paren) (typed_uses_fill names os))
+
+-- the operand, and its type
+abbrev pub outs_fill : Names → Option ValueName → Fill
+outs_fill names o =
+    two (word_fill (codes "outs"))
+    (two (mark_fill open_paren)
+    (two (here (operand_fill names o))
+    (two (mark_fill colon)
+    (two (type_or_none (option_and_then (type_of names) o)) (mark_fill close_paren)))))
 
 -- what a loop with results carries: its arguments behind the first, and their first values
 abbrev pub iter_args_fill : Names → ℕ → List ValueName → List PayloadType → Fill

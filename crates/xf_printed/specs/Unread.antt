@@ -1,4 +1,4 @@
--- The text of the operations of tensor and linalg, and of dense constants, which are not rows of slots yet (MLIR: the
+-- The text of slices of tensors, of linalg.generic and of dense constants, which are not rows of slots yet (MLIR: the
 -- pages of tensor and linalg; DenseIntOrFPElementsAttr).
 use Rattle.std.specs.Prelude.{ℕ, zero, suc, ◌-◌, List, [], ◌∷◌, ◌++◌, length, take, drop, map, codes}
 use Rattle.std.specs.Prelude.{Bool, true, false, slice_get, option_and_then}
@@ -7,7 +7,7 @@ use Rattle.xf_type.specs.declared.payload_type.PayloadType.{PayloadType}
 use Rattle.xf_type.specs.declared.payload_type.PayloadType.TheVariants.{Tensor}
 use Rattle.xf_type.specs.declared.attribute.AffineMap.{AffineMap}
 use Rattle.xf_grammar.specs.Grammar.{listed}
-use Rattle.xf_format.specs.Rules.{call_results_rule, dictionary_rule, operands_rule, result_rule, type_rule, use_rule}
+use Rattle.xf_format.specs.Rules.{dictionary_rule, result_rule, type_rule, use_rule}
 use Rattle.xf_ir.specs.declared.name.ValueName.{ValueName}
 use Rattle.xf_ir.specs.declared.kind.Attr.{Attr}
 use Rattle.xf_ir.specs.declared.kind.Kind.{Kind}
@@ -20,7 +20,7 @@ use Rattle.xf_printed.specs.Words.{listed as joined}
 use Rattle.xf_printed.specs.Dense.{body_text}
 use Rattle.xf_printed.specs.Items.{rule_text, some_fill, operand_fill, value_fill, value_type_fill, type_fill}
 use Rattle.xf_printed.specs.Items.{type_or_none}
-use Rattle.xf_printed.specs.Items.{call_results_fill, dictionary_fill, operands_fill}
+use Rattle.xf_printed.specs.Items.{dictionary_fill}
 use Rattle.xf_printed.specs.Names.{Names, type_of}
 
 -- ---- operands, behind a blank or not, and types behind a blank
@@ -45,14 +45,6 @@ types_text ts = rule_text (listed (result_rule true)) (some_fill type_fill ts)
 -- ` {..}`, or nothing
 abbrev pub attrs_text : List Attr → List ℕ
 attrs_text ds = rule_text dictionary_rule (dictionary_fill ds)
-
--- ` -> i32`
-abbrev pub results_text : List PayloadType → List ℕ
-results_text ts = rule_text call_results_rule (call_results_fill ts)
-
--- ` %0, %1 : i32, i32`, or nothing
-abbrev pub given_text : Names → List ValueName → List ℕ
-given_text names os = rule_text operands_rule (operands_fill names os)
 
 -- ---- tensor
 
@@ -127,19 +119,8 @@ marked_attrs ds = codes " attrs =" ++ attrs_text ds
 
 -- ---- the rows
 
--- what stands behind the word of an operation of tensor or linalg, up to its first brace
+-- what stands behind the word of such an operation, up to its first brace
 abbrev pub rest_text : Names → Kind → List Attr → List ValueName → List PayloadType → List ℕ
-rest_text names kind.Empty ds os ts =
-    codes "(" ++ (uses_text false names os ++ (codes ")" ++ (attrs_text ds ++ (codes " :" ++ types_text ts))))
-rest_text names kind.Dim ds os ts =
-    attrs_text ds ++ (uses_text true names os ++ (codes " :" ++ operand_type names os 0))
-rest_text names kind.Extract ds os ts =
-    operand true names os 0 ++ (codes "[" ++ (uses_text false names (drop 1 os)
-    ++ (codes "]" ++ (attrs_text ds ++ (codes " :" ++ operand_type names os 0)))))
-rest_text names kind.Insert ds os ts =
-    operand true names os 0
-    ++ (codes " into" ++ (operand true names os 1 ++ (codes "[" ++ (uses_text false names (drop 2 os)
-    ++ (codes "]" ++ (attrs_text ds ++ (codes " :" ++ operand_type names os 1)))))))
 rest_text names (kind.ExtractSlice offsets sizes) ds os ts =
     operand true names os 0 ++ (window_text names offsets sizes (drop 1 os)
     ++ (attrs_text ds ++ (codes " :" ++ (operand_type names os 0 ++ (codes " to" ++ types_text ts)))))
@@ -147,13 +128,8 @@ rest_text names (kind.InsertSlice offsets sizes) ds os ts =
     operand true names os 0
     ++ (codes " into" ++ (operand true names os 1 ++ (window_text names offsets sizes (drop 2 os)
     ++ (attrs_text ds ++ (codes " :" ++ (operand_type names os 0 ++ (codes " into" ++ operand_type names os 1)))))))
-rest_text names kind.Cast ds os ts =
-    uses_text true names os
-    ++ (attrs_text ds ++ (codes " :" ++ (operand_type names os 0 ++ (codes " to" ++ types_text ts))))
-rest_text names (kind.Named which) ds os ts = attrs_text ds ++ (structured_text names os ++ results_text ts)
 rest_text names (kind.Generic maps iterators) ds os ts =
     generic_text maps iterators ++ (structured_text names os ++ marked_attrs ds)
-rest_text names kind.LinalgYield ds os ts = attrs_text ds ++ given_text names os
 rest_text names _ ds os ts = []
 
 -- the value of a dense constant, behind a blank

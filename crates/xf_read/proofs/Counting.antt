@@ -1,5 +1,5 @@
--- A text that is read has no more operations than a text may have; and a yield is left out by what is said where it is by
--- what is read.
+-- A text that is read has no more operations than a text may have; and a yield is left out by what is said where it is
+-- by what is read.
 use Rattle.std.proofs.Common.{◌≡◌, ◌≤◌, List, refl, ap, arith}
 use Rattle.std.specs.Prelude.{not, ◌&&◌}
 use Rattle.xf_lex.specs.declared.token.Token.{Token}
@@ -15,7 +15,8 @@ use Rattle.xf_syntax.specs.Telling.{lacks_yield as lacks_read}
 use Rattle.xf_syntax.proofs.Texts.{texts_are_written}
 use Rattle.xf_read.specs.Meant.{lacks_yield, file_count}
 
-pub lacks_is : (all : List Token) (p : Parts) (ns : Nodes) → lacks_yield (said all p) (nodes_said all ns) ≡ lacks_read p ns
+pub lacks_is : (all : List Token) (p : Parts) (ns : Nodes) → lacks_yield (said all p) (nodes_said all ns) ≡ lacks_read
+    p ns
 lacks_is all p ns =
     ap (λ b. ends_open p.row p.results && not b) (same_end (λ q. q.row) (λ t. t.row) (said all) (λ q. refl) is_yield ns)
 

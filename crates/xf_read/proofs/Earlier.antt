@@ -21,7 +21,10 @@ same_faults f g p q r = λ i. record { undefined = p i; twice = q i; mismatch = 
 
 pub faults_regrouped : (a b c : Faults) → with_faults (with_faults a b) c ≡ with_faults a (with_faults b c)
 faults_regrouped a b c =
-    same_faults (with_faults (with_faults a b) c) (with_faults a (with_faults b c)) (earlier_regrouped a.undefined b.undefined c.undefined) (earlier_regrouped a.twice b.twice c.twice) (earlier_regrouped a.mismatch b.mismatch c.mismatch)
+    same_faults (with_faults (with_faults a b) c) (with_faults a (with_faults b c))
+    (earlier_regrouped a.undefined b.undefined c.undefined) (earlier_regrouped a.twice b.twice c.twice)
+    (earlier_regrouped a.mismatch b.mismatch c.mismatch)
 
 pub faults_not : (a : Faults) → with_faults a no_faults ≡ a
-faults_not a = same_faults (with_faults a no_faults) a (earlier_none a.undefined) (earlier_none a.twice) (earlier_none a.mismatch)
+faults_not a = same_faults (with_faults a no_faults) a (earlier_none a.undefined) (earlier_none a.twice)
+    (earlier_none a.mismatch)

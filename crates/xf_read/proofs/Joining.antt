@@ -6,7 +6,8 @@ use Rattle.xf_ir.specs.View.{ops_of, regions_of}
 use Rattle.xf_read.specs.Meant.{joined, yield_tree}
 use Rattle.xf_read.specs.Walks.{joined_regions}
 
-pub ops_push : (os : List Tree) (o : Tree) (us : Ops) → joined (ops_of (os ++ o ∷ [])) us ≡ joined (ops_of os) (cons o us)
+pub ops_push : (os : List Tree) (o : Tree) (us : Ops) → joined (ops_of (os ++ o ∷ [])) us ≡ joined (ops_of os)
+    (cons o us)
 ops_push [] o us = refl
 ops_push (x ∷ os) o us = ap (cons x) (ops_push os o us)
 
@@ -17,7 +18,8 @@ joined_none (op n k ds os ts rs rest) = ap (op n k ds os ts rs) (joined_none res
 pub ops_more_one : (os : List Tree) (o : Tree) → ops_of (os ++ o ∷ []) ≡ joined (ops_of os) (cons o no_ops)
 ops_more_one os o = sym (joined_none (ops_of (os ++ o ∷ []))) ∙ ops_push os o no_ops
 
-pub regions_push : (bs : List Body) (b : Body) (us : Regions) → joined_regions (regions_of (bs ++ b ∷ [])) us ≡ joined_regions (regions_of bs) (region b.args b.ops us)
+pub regions_push : (bs : List Body) (b : Body) (us : Regions)
+    → joined_regions (regions_of (bs ++ b ∷ [])) us ≡ joined_regions (regions_of bs) (region b.args b.ops us)
 regions_push [] b us = refl
 regions_push (x ∷ bs) b us = ap (region x.args x.ops) (regions_push bs b us)
 
@@ -25,10 +27,12 @@ pub joined_regions_none : (us : Regions) → joined_regions us no_regions ≡ us
 joined_regions_none no_regions = refl
 joined_regions_none (region args ops rest) = ap (region args ops) (joined_regions_none rest)
 
-pub ended : (os us : List Tree) (n : ℕ) (b : Bool) → b ≡ true → us ≡ os ++ yield_tree n ∷ [] → ops_of us ≡ joined (ops_of os) (if b then cons (yield_tree n) no_ops else no_ops)
+pub ended : (os us : List Tree) (n : ℕ) (b : Bool) → b ≡ true → us ≡ os ++ yield_tree n ∷ []
+    → ops_of us ≡ joined (ops_of os) (if b then cons (yield_tree n) no_ops else no_ops)
 ended os us n true e p = ap ops_of p ∙ ops_more_one os (yield_tree n)
 ended os us n false e p = absurd (cc)
 
-pub not_ended : (os : List Tree) (n : ℕ) (b : Bool) → b ≡ false → ops_of os ≡ joined (ops_of os) (if b then cons (yield_tree n) no_ops else no_ops)
+pub not_ended : (os : List Tree) (n : ℕ) (b : Bool) → b ≡ false
+    → ops_of os ≡ joined (ops_of os) (if b then cons (yield_tree n) no_ops else no_ops)
 not_ended os n true e = absurd (cc)
 not_ended os n false e = sym (joined_none (ops_of os))

@@ -8,6 +8,6 @@ pub mod Meanings
 pub mod Scoping
 pub mod ShortLists
 pub mod ShortNames
-pub mod Steps
+pub mod LookUps
 pub mod Texts
 pub mod Walking

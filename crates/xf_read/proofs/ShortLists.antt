@@ -1,8 +1,9 @@
 -- A module that a text spells has no list of 2 ^ 32 entries.
-use Rattle.std.proofs.Common.{◌≡◌, ℕ, suc, ◌+◌, ◌<◌, ◌≤◌, ◌^◌, Bool, true, false, List, [], ◌∷◌, length, Option, Some, None, Ordering, Less, Equal, Greater, refl, ap, subst, arith}
-use Rattle.std.specs.Prelude.{if◌then◌else◌, map, slice_get}
+use Rattle.std.proofs.Common.{◌≡◌, ℕ, suc, ◌+◌, ◌<◌, ◌≤◌, ◌^◌, Bool, true, false, List, [], ◌∷◌, length, Option, Some}
+use Rattle.std.proofs.Common.{None, refl, ap, subst, arith}
+use Rattle.std.specs.Prelude.{if◌then◌else◌, map, option_map, slice_get}
 use Rattle.std.specs.Cmp.Lexicographic.{slice_cmp}
-use Rattle.std.specs.Ordering.{nat_cmp, match_ordering}
+use Rattle.std.specs.Ordering.{nat_cmp}
 use Rattle.std.proofs.lemmas.Bool.{and_parts, eqb-true}
 use Rattle.std.proofs.lemmas.List.{length-map}
 use Rattle.xf_type.specs.declared.payload_type.PayloadType.{PayloadType}
@@ -10,6 +11,9 @@ use Rattle.xf_lex.specs.declared.token.Token.{Token}
 use Rattle.xf_format.specs.declared.parts.Parts.{Parts}
 use Rattle.xf_format.specs.declared.row.Row.{Row}
 use Rattle.xf_format.specs.declared.row.Row.TheVariants as row
+use Rattle.xf_format.specs.declared.columns.ResultTypes.{ResultTypes}
+use Rattle.xf_format.specs.declared.columns.ResultTypes.TheVariants as given
+use Rattle.xf_format.specs.Columns.{result_types, types_given, element_of}
 use Rattle.xf_format.specs.Short.{HasShortParts}
 use Rattle.xf_format.specs.Parts.{EntrySaid, use_said, entry_said, arg_said, Said, said}
 use Rattle.xf_read_base.specs.Values.{attr_said, with_attr, with_said, kind_said}
@@ -20,61 +24,65 @@ use Rattle.xf_ir.specs.Kinds.{returned_types}
 use Rattle.xf_ir.specs.Lists.{Each}
 use Rattle.xf_ir.specs.RuleBlocks.{block_args}
 use Rattle.xf_ir.specs.Spots.{ops_length}
-use Rattle.xf_ir.specs.Tree.{Ops, no_ops, op, no_regions}
+use Rattle.xf_ir.specs.Count.{ops_count, regions_count}
+use Rattle.xf_ir.specs.Tree.{Ops, no_ops, op, Regions, no_regions, region}
 use Rattle.xf_read.specs.declared.faults.Faults.{Faults}
 use Rattle.xf_read.specs.Meant.{joined, lacks_yield, yield_said, ops_said, regions_said, tree_said}
 use Rattle.xf_read.specs.Names.{op_name, earlier, inside, behind, types_agree, nodes_faults, bodies_faults}
 use Rattle.xf_read.specs.Scopes.{Meanings, no_names, use_value}
 use Rattle.xf_read.specs.Short.{SpeltIsShort}
 use Rattle.xf_grammar.specs.Holding.{NodesHave, BodiesHave}
-use Rattle.xf_syntax.specs.Telling.{Nodes, no_nodes, node, Bodies, no_bodies, body, nodes_said, bodies_said, left_out, operations, operations_inside}
-use Rattle.xf_syntax.specs.Telling.{SaidNodes, no_nodes_said, node_said, SaidBodies, no_bodies_said, body_said}
+use Rattle.xf_syntax.specs.Telling.{Nodes, no_nodes, node, Bodies, no_bodies, body, nodes_said, bodies_said, left_out}
+use Rattle.xf_syntax.specs.Telling.{operations, operations_inside}
+use Rattle.xf_syntax.specs.Telling.{SaidNodes, SaidBodies, no_bodies_said, body_said}
 use Rattle.xf_grammar.proofs.TreesNest.{bodies_number, NodesNest, BodiesNest}
 use Rattle.xf_format.specs.Format.{most_open}
-use Rattle.xf_read.specs.Types.{one_type, results_by, argument_types}
+use Rattle.xf_read.specs.Types.{one_type, argument_types}
 use Rattle.xf_read.proofs.Counting.{few_operations}
+use Rattle.xf_read.proofs.Limits.{regions_counted}
 use Rattle.xf_format.proofs.OfKind.{Inside}
-use Rattle.xf_read.proofs.ShortNames.{entries_short, symbol_short}
+use Rattle.xf_read.proofs.ShortNames.{by_order, entries_short, symbol_short}
 use Rattle.xf_read.proofs.Texts.{Kept, text_kept, text_nests}
 
 -- ---- the lists of one operation
 
-by_order : (o : Ordering) (n : ℕ) (xs ys zs : List Attr) → length xs ≤ n → length ys ≤ n → length zs ≤ n → length (match_ordering o xs ys zs) ≤ n
-by_order Less n xs ys zs p q r = p
-by_order Equal n xs ys zs p q r = q
-by_order Greater n xs ys zs p q r = r
-
 -- an attribute takes a place of its own, or that of one of its name
 one_attr : (a : Attr) (xs : List Attr) → length (with_attr a xs) ≤ length xs + 1
 one_attr a [] = omega arith
-one_attr a (b ∷ bs) = let r = one_attr a bs in by_order (slice_cmp nat_cmp a.name b.name) (suc (length bs) + 1) _ _ _ (omega arith) (omega arith) (omega (arith, r))
+one_attr a (b ∷ bs) =
+    let r = one_attr a bs in
+    by_order (λ xs. length xs ≤ suc (length bs) + 1) (slice_cmp nat_cmp a.name b.name) _ _ _ (omega arith) (omega arith)
+    (omega (arith, r))
 
 entries_grow : (es : List EntrySaid) (xs : List Attr) → length (with_said es xs) ≤ length xs + length es
 entries_grow [] xs = omega arith
-entries_grow (e ∷ es) xs = let r = entries_grow es (with_attr (attr_said e) xs) in let o = one_attr (attr_said e) xs in omega (arith, r, o)
+entries_grow (e ∷ es) xs = let r = entries_grow es (with_attr (attr_said e) xs) in let o =
+    one_attr (attr_said e) xs in omega (arith, r, o)
 
 one_at_most : (t : Option PayloadType) → length (one_type t) ≤ 1
 one_at_most None = omega arith
 one_at_most (Some t) = omega arith
 
-results_short : (r : Row) (types results : List PayloadType) → length types < 2 ^ 32 → length results < 2 ^ 32 → length (results_by r types results) < 2 ^ 32
-results_short row.Call types results t s = s
-results_short row.Constant types results t s = t
-results_short (row.Binary k) types results t s = t
-results_short row.Compare types results t s = omega arith
-results_short row.Select types results t s = t
-results_short (row.Convert k) types results t s = let o = one_at_most (slice_get types 1) in omega (arith, o)
-results_short row.For types results t s = s
-results_short row.If types results t s = s
+results_short : (r : ResultTypes) (types results : List PayloadType) → length types < 2 ^ 32 → length results < 2 ^ 32
+    → length (types_given r types results) < 2 ^ 32
+results_short given.Listed types results t s = s
+results_short (given.Stated k) types results t s = let o = one_at_most (slice_get types k) in omega (arith, o)
+results_short given.Element types results t s =
+    let o = one_at_most (option_map element_of (slice_get types 0)) in omega (arith, o)
 results_short r types results t s = omega arith
 
 returned_short : (r : Row) (t : Said) → length t.results < 2 ^ 32 → length (returned_types (kind_said r t)) < 2 ^ 32
 returned_short row.Function t s = s
 returned_short r t s = omega arith
 
-arguments_short : (n : ℕ) (t : Said) (scope : Meanings) (bs : SaidBodies) → length (argument_types t) < 2 ^ 32 → Each (λ (ts : List PayloadType). length ts < 2 ^ 32) (block_args (regions_said n t scope bs))
+arguments_short : (n : ℕ) (t : Said) (scope : Meanings) (bs : SaidBodies) → length (argument_types t) < 2 ^ 32
+    → Each (λ (ts : List PayloadType). length ts < 2 ^ 32) (block_args (regions_said n t scope bs))
 arguments_short n t scope no_bodies_said lt = tt
-arguments_short n t scope (body_said ns rest) lt = (lt, arguments_short (n + (operations ns + left_out t ns)) t scope rest lt)
+arguments_short n t scope (body_said ns rest) lt = (
+  lt,
+  arguments_short (n + (operations ns + left_out t ns)) t scope
+      rest lt,
+)
 
 -- there are as many names of arguments as types of them
 agreed : (t : Said) (scope : Meanings) → types_agree t scope ≡ true → length t.args ≡ length (argument_types t)
@@ -82,32 +90,25 @@ agreed t scope e = eqb-true (length t.args) (length (argument_types t)) (and_par
 
 -- ---- regions and blocks
 
-regions_long : (n : ℕ) (t : Said) (scope : Meanings) (bs : SaidBodies) → regions_length (regions_said n t scope bs) ≡ bodies_number bs
+regions_long : (n : ℕ) (t : Said) (scope : Meanings) (bs : SaidBodies)
+    → regions_length (regions_said n t scope bs) ≡ bodies_number bs
 regions_long n t scope no_bodies_said = refl
-regions_long n t scope (body_said ns rest) = let e = regions_long (n + (operations ns + left_out t ns)) t scope rest in omega (arith, e)
+regions_long n t scope (body_said ns rest) = let e = regions_long (n + (operations ns + left_out t ns)) t scope rest in
+    omega (arith, e)
 
-ops_long : (n : ℕ) (scope : Meanings) (ns : SaidNodes) → ops_length (ops_said n scope ns) ≤ operations ns
-ops_long n scope no_nodes_said = omega arith
-ops_long n scope (node_said t bs rest) = let e = ops_long (n + (1 + operations_inside t bs)) (behind n t scope) rest in omega (arith, e)
+ops_long : (us : Ops) → ops_length us ≤ ops_count us
+ops_long no_ops = omega arith
+ops_long (op n k ds os ts rs rest) = let e = ops_long rest in omega (arith, e)
 
-joined_long : (us vs : Ops) → ops_length (joined us vs) ≡ ops_length us + ops_length vs
-joined_long no_ops vs = omega arith
-joined_long (op n k ds os ts rs rest) vs = let e = joined_long rest vs in omega (arith, e)
-
-yield_long : (b : Bool) (n : ℕ) → ops_length (if b then op (op_name n) kind.Yield [] [] [] no_regions no_ops else no_ops) ≡ (if b then 1 else 0)
-yield_long true n = refl
-yield_long false n = refl
-
-blocks_short : (n : ℕ) (t : Said) (scope : Meanings) (bs : SaidBodies) → operations_inside t bs < 2 ^ 32 → Each (λ ops. ops_length ops < 2 ^ 32) (blocks_of (regions_said n t scope bs))
-blocks_short n t scope no_bodies_said lt = tt
-blocks_short n t scope (body_said ns rest) lt =
-    let a = ops_long n scope ns in
-    let b = yield_long (lacks_yield t ns) (n + operations ns) in
-    let c = joined_long (ops_said n scope ns) (yield_said t ns (n + operations ns)) in
-    (omega (arith, lt, a, b, c), blocks_short (n + (operations ns + left_out t ns)) t scope rest (omega (arith, lt)))
+blocks_short : (rs : Regions) → regions_count rs < 2 ^ 32 → Each (λ ops. ops_length ops < 2 ^ 32) (blocks_of rs)
+blocks_short no_regions lt = tt
+blocks_short (region args ops rest) lt =
+    let e = ops_long ops in (omega (arith, e, lt), blocks_short rest (omega (arith, lt)))
 
 -- operation n of a text, where it agrees with its types
-head_lists : (all : List Token) (n : ℕ) (scope : Meanings) (p : Parts) (bs : SaidBodies) → HasShortParts p → Inside all p → bodies_number bs ≤ 2 → operations_inside (said all p) bs < 2 ^ 32 → types_agree (said all p) scope ≡ true
+head_lists : (all : List Token) (n : ℕ) (scope : Meanings) (p : Parts) (bs : SaidBodies) → HasShortParts p
+    → Inside all p → bodies_number bs ≤ 2 → operations_inside (said all p) bs < 2 ^ 32
+    → types_agree (said all p) scope ≡ true
     → HasShortLists (tree_said n scope (said all p) bs)
 head_lists all n scope p bs s i two few e =
     let t : Said = said all p in
@@ -125,10 +126,11 @@ head_lists all n scope p bs s i two few e =
       attributes = omega (arith, k, m, le);
       names = entries_short all p.entries [] i.entries tt;
       operands = omega (arith, u, v, us);
-      results = results_short p.row p.types p.results s.types s.results;
+      results = results_short (result_types p.row) p.types p.results s.types s.results;
       regions = let r = regions_long (n + 1) t (inside n t scope) bs in omega (arith, r, two);
       arguments = arguments_short (n + 1) t (inside n t scope) bs lt;
-      blocks = blocks_short (n + 1) t (inside n t scope) bs few;
+      blocks = let r = regions_counted (n + 1) t (inside n t scope) bs in
+          blocks_short (regions_said (n + 1) t (inside n t scope) bs) (omega (arith, r, few));
       symbol = symbol_short all p.row p i;
       returned = returned_short p.row t s.results;
     }
@@ -151,11 +153,26 @@ joined_short no_ops vs s t = t
 joined_short (op n k ds os ts rs rest) vs s t = (s.0, (s.1.0, joined_short rest vs s.1.1 t))
 
 yield_short : (b : Bool) (n : ℕ) → OpsShort (if b then op (op_name n) kind.Yield [] [] [] no_regions no_ops else no_ops)
-yield_short true n = (record { attributes = omega arith; names = tt; operands = omega arith; results = omega arith; regions = omega arith; arguments = tt; blocks = tt; symbol = tt; returned = omega arith }, (tt, tt))
+yield_short true n = (
+  record {
+    attributes = omega arith;
+    names = tt;
+    operands = omega arith;
+    results =
+        omega arith;
+    regions = omega arith;
+    arguments = tt;
+    blocks = tt;
+    symbol = tt;
+    returned = omega arith;
+  },
+  (tt, tt),
+)
 yield_short false n = tt
 
 mutual
-  nodes_lists : (all : List Token) (m depth n : ℕ) (scope : Meanings) (ns : Nodes) → NodesHave m (Kept all) ns → NodesNest most_open 2 depth (nodes_said all ns) → operations (nodes_said all ns) < 2 ^ 32
+  nodes_lists : (all : List Token) (m depth n : ℕ) (scope : Meanings) (ns : Nodes) → NodesHave m (Kept all) ns
+      → NodesNest most_open 2 depth (nodes_said all ns) → operations (nodes_said all ns) < 2 ^ 32
       → (nodes_faults all n scope ns).mismatch ≡ None → OpsShort (ops_said n scope (nodes_said all ns))
   nodes_lists all m depth n scope no_nodes w two few e = tt
   nodes_lists all m depth n scope (node first p bs rest) w two few e =
@@ -163,22 +180,29 @@ mutual
       let inner : SaidBodies = bodies_said all bs in
       let f = none_earlier _ _ e in
       let g = none_earlier _ _ f.0 in (
-        head_lists all n scope p inner w.1.0.0 w.1.0.1 two.0 (omega (arith, few)) (unless (types_agree t scope) first g.0),
+        head_lists all n scope p inner w.1.0.0 w.1.0.1 two.0 (omega (arith, few))
+            (unless (types_agree t scope) first g.0),
         (
           bodies_lists all m depth (n + 1) p (inside n t scope) bs w.1.1.0 two.1.0 (omega (arith, few)) g.1,
-          nodes_lists all m depth (n + (1 + operations_inside t inner)) (behind n t scope) rest w.1.1.1 two.1.1 (omega (arith, few)) f.1,
+          nodes_lists all m depth (n + (1 + operations_inside t inner)) (behind n t scope) rest w.1.1.1 two.1.1
+              (omega (arith, few)) f.1,
         ),
       )
 
-  bodies_lists : (all : List Token) (m depth n : ℕ) (p : Parts) (scope : Meanings) (bs : Bodies) → BodiesHave m (Kept all) bs → BodiesNest most_open 2 depth (bodies_said all bs)
-      → operations_inside (said all p) (bodies_said all bs) < 2 ^ 32 → (bodies_faults all n p scope bs).mismatch ≡ None → RegionsShort (regions_said n (said all p) scope (bodies_said all bs))
+  bodies_lists : (all : List Token) (m depth n : ℕ) (p : Parts) (scope : Meanings) (bs : Bodies)
+      → BodiesHave m (Kept all) bs → BodiesNest most_open 2 depth (bodies_said all bs)
+      → operations_inside (said all p) (bodies_said all bs) < 2 ^ 32 → (bodies_faults all n p scope bs).mismatch ≡ None
+      → RegionsShort (regions_said n (said all p) scope (bodies_said all bs))
   bodies_lists all m depth n p scope no_bodies w two few e = tt
   bodies_lists all m depth n p scope (body ns close rest) w two few e =
       let t : Said = said all p in
       let inner : SaidNodes = nodes_said all ns in
       let f = none_earlier _ _ e in (
-        joined_short (ops_said n scope inner) (yield_said t inner (n + operations inner)) (nodes_lists all m (depth + 1) n scope ns w.0 two.1.0 (omega (arith, few)) f.0) (yield_short (lacks_yield t inner) (n + operations inner)),
-        bodies_lists all m depth (n + (operations inner + left_out t inner)) p scope rest w.1.1 two.1.1 (omega (arith, few)) f.1,
+        joined_short (ops_said n scope inner) (yield_said t inner (n + operations inner))
+            (nodes_lists all m (depth + 1) n scope ns w.0 two.1.0 (omega (arith, few)) f.0)
+            (yield_short (lacks_yield t inner) (n + operations inner)),
+        bodies_lists all m depth (n + (operations inner + left_out t inner)) p scope rest w.1.1 two.1.1
+            (omega (arith, few)) f.1,
       )
 
 -- ---- texts
@@ -194,6 +218,8 @@ spelt_is_short bytes m s =
     let f = none_earlier _ _ (ap (λ (f : Faults). f.mismatch) s.no_fault) in
     let count : operations_inside (said all p) bs < 2 ^ 32 = omega (arith, few) in
     subst ListsAreShort s.means (record {
-      lists = head_lists all 0 no_names p bs w.1.0.0 w.1.0.1 two.0 count (unless (types_agree (said all p) no_names) s.file.root.first f.0);
-      inside = bodies_lists all (suc (length all)) 0 1 p (inside 0 (said all p) no_names) s.file.root.bodies w.1.1.0 two.1.0 count f.1;
+      lists = head_lists all 0 no_names p bs w.1.0.0 w.1.0.1 two.0 count
+          (unless (types_agree (said all p) no_names) s.file.root.first f.0);
+      inside = bodies_lists all (suc (length all)) 0 1 p (inside 0 (said all p) no_names) s.file.root.bodies w.1.1.0
+          two.1.0 count f.1;
     })

@@ -1,138 +1,168 @@
 -- The walk over the operations of a body and over the bodies of an operation, one step on.
-use Rattle.std.proofs.Common.{◌≡◌, ℕ, ◌+◌, ◌^◌, ◌<◌, List, [], ◌∷◌, ◌++◌, length, get_or, drop, sym, ap, ◌∙◌, append_assoc, arith}
-use Rattle.std.proofs.lemmas.List.{at_drop_more}
+use Rattle.std.proofs.Common.{◌≡◌, ℕ, ◌+◌, Bool, List, [], ◌∷◌, ◌++◌, length, refl, ap, sym, subst, ◌∙◌, append_assoc}
+use Rattle.std.proofs.Common.{append-nil, arith}
+use Rattle.std.specs.Prelude.{if◌then◌else◌}
 use Rattle.xf_span.specs.declared.place.Place.{Place}
 use Rattle.xf_lex.specs.declared.token.Token.{Token}
 use Rattle.xf_format.specs.declared.parts.Parts.{Parts}
-use Rattle.xf_ir.specs.Tree.{Ops, Regions, region, cons}
+use Rattle.xf_format.specs.Parts.{said}
+use Rattle.xf_grammar.specs.Tree.{Tree, Block}
+use Rattle.xf_ir.specs.Tree.{Ops, no_ops, cons}
 use Rattle.xf_ir.specs.Tree.{Tree as Op, Body as IrBlock}
 use Rattle.xf_ir.specs.View.{ops_of, regions_of}
-use Rattle.xf_read.specs.declared.faults.Faults.{Faults}
-use Rattle.xf_format.specs.Parts.{said}
-use Rattle.xf_syntax.specs.Telling.{SaidNodes, nodes_said, SaidBodies, bodies_said, left_out, operations, operations_inside}
-use Rattle.xf_read.specs.Meant.{joined, yield_said, ops_said, regions_said, tree_said, place_of, yield_places, nodes_places, bodies_places}
-use Rattle.xf_read.specs.Names.{with_faults, no_faults, tree_count, inside, behind, head_faults, nodes_faults, bodies_faults, tree_faults}
-use Rattle.xf_read.specs.Scopes.{Meanings}
-use Rattle.xf_grammar.specs.Tree.{Tree, Block}
-use Rattle.xf_read.specs.Types.{argument_types}
+use Rattle.xf_syntax.specs.Telling.{SaidNodes, nodes_said, SaidBodies, bodies_said, left_out, operations}
+use Rattle.xf_syntax.specs.Telling.{operations_inside}
 use Rattle.xf_syntax.specs.View.{nodes_of, bodies_of}
-use Rattle.xf_read.specs.Walks.{joined_regions}
+use Rattle.xf_read.specs.declared.faults.Faults.{Faults}
+use Rattle.xf_read.specs.declared.walk.Walk.{Walk}
+use Rattle.xf_read.specs.Meant.{lacks_yield, yield_tree, yield_said}
+use Rattle.xf_read.specs.Meant.{joined, ops_said, regions_said, tree_said, place_of, yield_places, nodes_places}
+use Rattle.xf_read.specs.Meant.{bodies_places}
+use Rattle.xf_read.specs.Names.{no_faults, with_faults, tree_count, behind, nodes_faults, bodies_faults, tree_faults}
+use Rattle.xf_read.specs.Types.{argument_types}
+use Rattle.xf_read.specs.Visible.{names_in, Grows}
+use Rattle.xf_read.specs.Walks.{Moved, Same, block_said, joined_regions}
 use Rattle.xf_read.proofs.Earlier.{faults_regrouped, faults_not}
-use Rattle.xf_read.proofs.Joining.{ops_push, regions_push}
+use Rattle.xf_read.proofs.Joining.{ops_push, regions_push, joined_none, joined_regions_none}
+use Rattle.xf_read.proofs.Scoping.{grows_on, same_on}
 
-module _ (all : List Token) (ts : List (Tree Parts)) (i : ℕ) (this : Tree Parts) (is : this ≡ get_or ts i this) (lt : i < length ts)
-  where
-    abbrev rest : List (Tree Parts)
-    rest = drop (i + 1) ts
+pub moved_on : (a b c : Walk) (m n : ℕ) (ps qs : List Place) (f g : Faults) → Moved a b m ps f → Moved b c n qs g
+    → Moved a c (m + n) (ps ++ qs) (with_faults f g)
+moved_on a b c m n ps qs f g x y = record {
+  next = let p = x.next in let q = y.next in omega (arith, p, q);
+  places_are = y.places_are ∙ ap (λ z. z ++ qs) x.places_are ∙ append_assoc a.places ps qs;
+  faults_are = y.faults_are ∙ ap (λ z. with_faults z g) x.faults_are ∙ faults_regrouped a.faults f g;
+}
 
-    abbrev trees_said : List (Tree Parts) → SaidNodes
-    trees_said xs = nodes_said all (nodes_of xs)
+-- ---- operations
 
-    abbrev this_said : ℕ → Meanings → Op
-    this_said n s = tree_said n s (said all this.parts) (bodies_said all this.bodies)
+abbrev pub trees_said : List Token → List (Tree Parts) → SaidNodes
+trees_said all xs = nodes_said all (nodes_of xs)
 
-    first_is : {Y : Type 0} (F : List (Tree Parts) → Y) → F (drop i ts) ≡ F (this ∷ rest)
-    first_is F = at_drop_more F ts i this lt ∙ ap (λ x. F (x ∷ rest)) (sym is)
+-- what was built from these nodes on, with what is left, is what they all mean
+pub record NodesLeft (all : List Token) (a : Walk) (ts : List (Tree Parts)) (w : Walk) (os : List Op)
+    (rest : List (Tree Parts)) : Type 0 where
+  pub next : w.next + operations (trees_said all rest) ≡ a.next + operations (trees_said all ts)
+  pub ops : joined (ops_of os) (ops_said w.next (names_in w.scope) (trees_said all rest))
+      ≡ ops_said a.next (names_in a.scope) (trees_said all ts)
+  pub places : w.places ++ nodes_places all (nodes_of rest) ≡ a.places ++ nodes_places all (nodes_of ts)
+  pub faults : with_faults w.faults (nodes_faults all w.next (names_in w.scope) (nodes_of rest))
+      ≡ with_faults a.faults (nodes_faults all a.next (names_in a.scope) (nodes_of ts))
+  pub grows : Grows a.scope w.scope
 
-    pub ops_more : (n m : ℕ) (s z : Meanings) (os us : List Op) (o : Op) (total : Ops) → o ≡ this_said n s → m ≡ n + tree_count all this → z ≡ behind n (said all this.parts) s → us ≡ os ++ o ∷ []
-        → joined (ops_of os) (ops_said n s (trees_said (drop i ts))) ≡ total → joined (ops_of us) (ops_said m z (trees_said rest)) ≡ total
-    ops_more n m s z os us o total e f g p h =
-        ap (λ xs. joined (ops_of xs) (ops_said m z (trees_said rest))) p
-        ∙ ops_push os o (ops_said m z (trees_said rest))
-        ∙ ap (λ x. joined (ops_of os) (cons x (ops_said m z (trees_said rest)))) e
-        ∙ ap (λ k. joined (ops_of os) (cons (this_said n s) (ops_said k z (trees_said rest)))) f
-        ∙ ap (λ y. joined (ops_of os) (cons (this_said n s) (ops_said (n + tree_count all this) y (trees_said rest)))) g
-        ∙ sym (first_is (λ xs. joined (ops_of os) (ops_said n s (trees_said xs)))) ∙ h
+module _ (all : List Token) (a : Walk) (ts : List (Tree Parts)) (w : Walk) (os : List Op) where
+  pub one_built : (this : Tree Parts) (rest : List (Tree Parts)) (v : Walk) (us : List Op) (o : Op)
+      → NodesLeft all a ts w os (this ∷ rest)
+      → o ≡ tree_said w.next (names_in w.scope) (said all this.parts) (bodies_said all this.bodies)
+      → Moved w v (tree_count all this) (place_of all this.first ∷ bodies_places all this.parts this.bodies)
+      (tree_faults all w.next (names_in w.scope) this)
+      → names_in v.scope ≡ behind w.next (said all this.parts) (names_in w.scope) → Grows w.scope v.scope
+      → us ≡ os ++ o ∷ [] → NodesLeft all a ts v us rest
+  one_built this rest v us o h e m z g p = record {
+    next = let x = m.next in let y = h.next in omega (arith, x, y);
+    ops = rw (p, e, m.next, z) (ops_push os (tree_said w.next (names_in w.scope) (said all this.parts)
+        (bodies_said all this.bodies)) _ ∙ h.ops);
+    places = rw m.places_are (append_assoc w.places (place_of all this.first ∷ bodies_places all this.parts
+        this.bodies) _ ∙ h.places);
+    faults = rw (m.faults_are, m.next, z) (faults_regrouped w.faults (tree_faults all w.next (names_in w.scope) this) _
+        ∙ h.faults);
+    grows = grows_on a.scope w.scope v.scope h.grows g;
+  }
 
-    pub faults_more : (n m : ℕ) (s z : Meanings) (f g total : Faults) → g ≡ with_faults f (tree_faults all n s this) → m ≡ n + tree_count all this → z ≡ behind n (said all this.parts) s
-        → with_faults f (nodes_faults all n s (nodes_of (drop i ts))) ≡ total → with_faults g (nodes_faults all m z (nodes_of rest)) ≡ total
-    faults_more n m s z f g total p e q h =
-        ap (λ x. with_faults x (nodes_faults all m z (nodes_of rest))) p
-        ∙ ap (λ k. with_faults (with_faults f (tree_faults all n s this)) (nodes_faults all k z (nodes_of rest))) e
-        ∙ ap (λ y. with_faults (with_faults f (tree_faults all n s this)) (nodes_faults all (n + tree_count all this) y (nodes_of rest))) q
-        ∙ faults_regrouped f (tree_faults all n s this) (nodes_faults all (n + tree_count all this) (behind n (said all this.parts) s) (nodes_of rest))
-        ∙ sym (first_is (λ xs. with_faults f (nodes_faults all n s (nodes_of xs)))) ∙ h
+  pub all_built : NodesLeft all a ts w os [] → (ops_of os ≡ ops_said a.next (names_in a.scope) (trees_said all ts))
+      × Moved a w (operations (trees_said all ts)) (nodes_places all (nodes_of ts))
+      (nodes_faults all a.next (names_in a.scope) (nodes_of ts))
+  all_built h = (
+    sym (joined_none (ops_of os)) ∙ h.ops,
+    record {
+      next = let x = h.next in omega (arith, x);
+      places_are = sym (append-nil w.places) ∙ h.places;
+      faults_are = sym (faults_not w.faults) ∙ h.faults;
+    },
+  )
 
-    pub places_more : (ps qs total : List Place) → qs ≡ ps ++ (place_of all this.first ∷ bodies_places all this.parts this.bodies) → ps ++ nodes_places all (nodes_of (drop i ts)) ≡ total → qs ++ nodes_places all (nodes_of rest) ≡ total
-    places_more ps qs total p h =
-        ap (λ x. x ++ nodes_places all (nodes_of rest)) p
-        ∙ append_assoc ps (place_of all this.first ∷ bodies_places all this.parts this.bodies) (nodes_places all (nodes_of rest))
-        ∙ sym (first_is (λ xs. ps ++ nodes_places all (nodes_of xs))) ∙ h
+-- ---- blocks
 
-    pub count_more : (n m total : ℕ) → m ≡ n + tree_count all this → n + operations (trees_said (drop i ts)) ≡ total → m + operations (trees_said rest) ≡ total
-    count_more n m total e h =
-        let c : operations (trees_said (drop i ts)) ≡ 1 + (operations_inside (said all this.parts) (bodies_said all this.bodies) + operations (trees_said rest)) = first_is (λ xs. operations (trees_said xs)) in
-        omega arith
+abbrev pub blocks_said : List Token → List (Block Parts) → SaidBodies
+blocks_said all xs = bodies_said all (bodies_of xs)
 
-    -- the operation that is next has a number
-    pub count_fits : (n : ℕ) → n + operations (trees_said (drop i ts)) < 2 ^ 64 → n + tree_count all this < 2 ^ 64
-    count_fits n h =
-        let c : operations (trees_said (drop i ts)) ≡ 1 + (operations_inside (said all this.parts) (bodies_said all this.bodies) + operations (trees_said rest)) = first_is (λ xs. operations (trees_said xs)) in
-        omega arith
+-- how many operations a body has
+abbrev pub body_count : List Token → Parts → Block Parts → ℕ
+body_count all p b = operations (nodes_said all b.nodes) + left_out (said all p) (nodes_said all b.nodes)
 
-module _ (all : List Token) (p : Parts) (bs : List (Block Parts)) (i : ℕ) (here : Block Parts) (is : here ≡ get_or bs i here) (lt : i < length bs)
-  where
-    abbrev later : List (Block Parts)
-    later = drop (i + 1) bs
+-- what was built from these bodies on, with what is left, is what they all mean
+pub record BodiesLeft (all : List Token) (p : Parts) (a : Walk) (bs : List (Block Parts)) (w : Walk)
+    (made : List IrBlock) (rest : List (Block Parts)) : Type 0 where
+  pub next : w.next + operations_inside (said all p) (blocks_said all rest) ≡ a.next + operations_inside (said all p)
+      (blocks_said all bs)
+  pub regions : joined_regions (regions_of made) (regions_said w.next (said all p) (names_in w.scope)
+      (blocks_said all rest))
+      ≡ regions_said a.next (said all p) (names_in a.scope) (blocks_said all bs)
+  pub places : w.places ++ bodies_places all p (bodies_of rest) ≡ a.places ++ bodies_places all p (bodies_of bs)
+  pub faults : with_faults w.faults (bodies_faults all w.next p (names_in w.scope) (bodies_of rest))
+      ≡ with_faults a.faults (bodies_faults all a.next p (names_in a.scope) (bodies_of bs))
+  pub scope : Same a.scope w.scope
 
-    next_is : {Y : Type 0} (F : List (Block Parts) → Y) → F (drop i bs) ≡ F (here ∷ later)
-    next_is F = at_drop_more F bs i here lt ∙ ap (λ x. F (x ∷ later)) (sym is)
+module _ (all : List Token) (p : Parts) (a : Walk) (bs : List (Block Parts)) (w : Walk) (made : List IrBlock) where
+  pub one_block : (this : Block Parts) (rest : List (Block Parts)) (v : Walk) (more : List IrBlock) (b : IrBlock)
+      → BodiesLeft all p a bs w made (this ∷ rest)
+      → b ≡ block_said w.next (said all p) (argument_types (said all p)) (names_in w.scope) (nodes_said all this.nodes)
+      → Moved w v (body_count all p this) (nodes_places all this.nodes ++ yield_places all p this.nodes this.close)
+      (nodes_faults all w.next (names_in w.scope) this.nodes)
+      → Same w.scope v.scope → more ≡ made ++ b ∷ [] → BodiesLeft all p a bs v more rest
+  one_block this rest v more b h e m s q = record {
+    next = let x = m.next in let y = h.next in omega (arith, x, y);
+    regions = rw (q, e, m.next, s.names) (regions_push made (block_said w.next (said all p)
+        (argument_types (said all p)) (names_in w.scope) (nodes_said all this.nodes)) _ ∙ h.regions);
+    places = rw m.places_are
+        (append_assoc w.places (nodes_places all this.nodes ++ yield_places all p this.nodes this.close) _
+        ∙ ap (λ x. w.places ++ x) (append_assoc (nodes_places all this.nodes)
+        (yield_places all p this.nodes this.close) _) ∙ h.places);
+    faults = rw (m.faults_are, m.next, s.names) (faults_regrouped w.faults
+        (nodes_faults all w.next (names_in w.scope) this.nodes) _ ∙ h.faults);
+    scope = same_on a.scope w.scope v.scope h.scope s;
+  }
 
-    abbrev nodes : SaidNodes
-    nodes = nodes_said all here.nodes
+  pub all_blocks : BodiesLeft all p a bs w made [] → (regions_of made ≡ regions_said a.next (said all p)
+      (names_in a.scope) (blocks_said all bs))
+      × Moved a w (operations_inside (said all p) (blocks_said all bs)) (bodies_places all p (bodies_of bs))
+      (bodies_faults all a.next p (names_in a.scope) (bodies_of bs))
+  all_blocks h = (
+    sym (joined_regions_none (regions_of made)) ∙ h.regions,
+    record {
+      next = let x = h.next in omega (arith, x);
+      places_are = sym (append-nil w.places) ∙ h.places;
+      faults_are = sym (faults_not w.faults) ∙ h.faults;
+    },
+  )
 
-    abbrev blocks_said : List (Block Parts) → SaidBodies
-    blocks_said xs = bodies_said all (bodies_of xs)
+-- a block of its operations and of the yield that is left out
+pub block_built : (all : List Token) (p : Parts) (b : Block Parts) (w v u : Walk) (os us : Ops) (lacks : Bool)
+    → lacks ≡ lacks_yield (said all p) (nodes_said all b.nodes)
+    → os ≡ ops_said w.next (names_in w.scope) (nodes_said all b.nodes)
+    → Moved w v (operations (nodes_said all b.nodes)) (nodes_places all b.nodes)
+    (nodes_faults all w.next (names_in w.scope) b.nodes)
+    → us ≡ joined os (if lacks then cons (yield_tree v.next) no_ops else no_ops)
+    → Moved v u (if lacks then 1 else 0) (if lacks then place_of all b.close ∷ [] else []) no_faults
+    → (us ≡ joined (ops_said w.next (names_in w.scope) (nodes_said all b.nodes))
+    (yield_said (said all p) (nodes_said all b.nodes) (w.next + operations (nodes_said all b.nodes))))
+    × Moved w u (body_count all p b) (nodes_places all b.nodes ++ yield_places all p b.nodes b.close)
+    (nodes_faults all w.next (names_in w.scope) b.nodes)
+block_built all p b w v u os us lacks l e m q n =
+    let ns : SaidNodes = nodes_said all b.nodes in
+    let f : Faults = nodes_faults all w.next (names_in w.scope) b.nodes in
+    let end : Moved v u (left_out (said all p) ns) (yield_places all p b.nodes b.close) no_faults =
+    subst (λ x. Moved v u (if x then 1 else 0) (if x then place_of all b.close ∷ [] else []) no_faults) l n in (
+      q ∙ ap (λ x. joined x (if lacks then cons (yield_tree v.next) no_ops else no_ops)) e
+          ∙ (λ i. joined (ops_said w.next (names_in w.scope) ns)
+          (if l i then cons (yield_tree (m.next i)) no_ops else no_ops)),
+      subst (Moved w u (body_count all p b) (nodes_places all b.nodes ++ yield_places all p b.nodes b.close))
+          (faults_not f)
+          (moved_on w v u _ _ _ _ f no_faults m end),
+    )
 
-    abbrev size : ℕ
-    size = operations nodes + left_out (said all p) nodes
+-- ---- what is left of a list
 
-    pub blocks_more : (n m : ℕ) (s : Meanings) (xs ys : List IrBlock) (b : IrBlock) (total : Regions) → b.args ≡ argument_types (said all p) → b.ops ≡ joined (ops_said n s nodes) (yield_said (said all p) nodes (n + operations nodes)) → m ≡ n + size
-        → ys ≡ xs ++ b ∷ [] → joined_regions (regions_of xs) (regions_said n (said all p) s (blocks_said (drop i bs))) ≡ total → joined_regions (regions_of ys) (regions_said m (said all p) s (blocks_said later)) ≡ total
-    blocks_more n m s xs ys b total e f g q h =
-        ap (λ x. joined_regions (regions_of x) (regions_said m (said all p) s (blocks_said later))) q
-        ∙ regions_push xs b (regions_said m (said all p) s (blocks_said later))
-        ∙ ap (λ a. joined_regions (regions_of xs) (region a b.ops (regions_said m (said all p) s (blocks_said later)))) e
-        ∙ ap (λ o. joined_regions (regions_of xs) (region (argument_types (said all p)) o (regions_said m (said all p) s (blocks_said later)))) f
-        ∙ ap (λ k. joined_regions (regions_of xs) (region (argument_types (said all p)) (joined (ops_said n s nodes) (yield_said (said all p) nodes (n + operations nodes))) (regions_said k (said all p) s (blocks_said later)))) g
-        ∙ sym (next_is (λ x. joined_regions (regions_of xs) (regions_said n (said all p) s (blocks_said x)))) ∙ h
-
-    pub block_faults_more : (n m : ℕ) (s : Meanings) (f g k total : Faults) → g ≡ with_faults f (nodes_faults all n s here.nodes) → k ≡ with_faults g no_faults → m ≡ n + size
-        → with_faults f (bodies_faults all n p s (bodies_of (drop i bs))) ≡ total → with_faults k (bodies_faults all m p s (bodies_of later)) ≡ total
-    block_faults_more n m s f g k total e q r h =
-        ap (λ x. with_faults x (bodies_faults all m p s (bodies_of later))) (q ∙ faults_not g ∙ e)
-        ∙ ap (λ j. with_faults (with_faults f (nodes_faults all n s here.nodes)) (bodies_faults all j p s (bodies_of later))) r
-        ∙ faults_regrouped f (nodes_faults all n s here.nodes) (bodies_faults all (n + size) p s (bodies_of later))
-        ∙ sym (next_is (λ x. with_faults f (bodies_faults all n p s (bodies_of x)))) ∙ h
-
-    pub block_places_more : (ps qs rs total : List Place) → qs ≡ ps ++ nodes_places all here.nodes → rs ≡ qs ++ yield_places all p here.nodes here.close
-        → ps ++ bodies_places all p (bodies_of (drop i bs)) ≡ total → rs ++ bodies_places all p (bodies_of later) ≡ total
-    block_places_more ps qs rs total e q h =
-        ap (λ x. x ++ bodies_places all p (bodies_of later)) q
-        ∙ append_assoc qs (yield_places all p here.nodes here.close) (bodies_places all p (bodies_of later))
-        ∙ ap (λ x. x ++ (yield_places all p here.nodes here.close ++ bodies_places all p (bodies_of later))) e
-        ∙ append_assoc ps (nodes_places all here.nodes) (yield_places all p here.nodes here.close ++ bodies_places all p (bodies_of later))
-        ∙ sym (next_is (λ x. ps ++ bodies_places all p (bodies_of x))) ∙ h
-
-    pub block_next_more : (n m k total : ℕ) → m ≡ n + operations nodes → k ≡ m + left_out (said all p) nodes → n + operations_inside (said all p) (blocks_said (drop i bs)) ≡ total → k + operations_inside (said all p) (blocks_said later) ≡ total
-    block_next_more n m k total e f h =
-        let c : operations_inside (said all p) (blocks_said (drop i bs)) ≡ operations nodes + (left_out (said all p) nodes + operations_inside (said all p) (blocks_said later)) =
-        next_is (λ x. operations_inside (said all p) (blocks_said x)) in
-        omega arith
-
--- ---- one operation, from its head and its bodies
-
-module _ (all : List Token) (s z : Meanings) (t : Tree Parts) (n m : ℕ) (e : m ≡ n + 1) (q : z ≡ inside n (said all t.parts) s)
-  where
-    pub tree_faults_are : (f g h : Faults) → g ≡ with_faults f (head_faults all n t.first t.parts s) → h ≡ with_faults g (bodies_faults all m t.parts z t.bodies) → h ≡ with_faults f (tree_faults all n s t)
-    tree_faults_are f g h a b =
-        b ∙ ap (λ x. with_faults x (bodies_faults all m t.parts z t.bodies)) a
-        ∙ ap (λ k. with_faults (with_faults f (head_faults all n t.first t.parts s)) (bodies_faults all k t.parts z t.bodies)) e
-        ∙ ap (λ y. with_faults (with_faults f (head_faults all n t.first t.parts s)) (bodies_faults all (n + 1) t.parts y t.bodies)) q
-        ∙ faults_regrouped f (head_faults all n t.first t.parts s) (bodies_faults all (n + 1) t.parts (inside n (said all t.parts) s) t.bodies)
-
-    pub tree_places_are : (ps qs rs : List Place) (place : Place) → qs ≡ ps ++ place ∷ [] → rs ≡ qs ++ bodies_places all t.parts t.bodies → rs ≡ ps ++ (place ∷ bodies_places all t.parts t.bodies)
-    tree_places_are ps qs rs place a b = b ∙ ap (λ x. x ++ bodies_places all t.parts t.bodies) a ∙ append_assoc ps (place ∷ []) (bodies_places all t.parts t.bodies)
-
-    pub tree_next_is : (k : ℕ) → k ≡ m + operations_inside (said all t.parts) (bodies_said all t.bodies) → k ≡ n + tree_count all t
-    tree_next_is k h = omega arith
+pub nothing_left : {X : Type 0} (xs : List X) → length xs ≡ 0 → xs ≡ []
+nothing_left [] e = refl
+nothing_left (x ∷ xs) e = absurd (omega arith)

@@ -18,7 +18,7 @@ use Rattle.xf_read.specs.declared.faults.Faults.{Faults}
 use Rattle.xf_read.specs.declared.scope.Definer.TheVariants.{Results, Argument, Symbol}
 use Rattle.xf_read.specs.declared.scope.Named.{Named}
 use Rattle.xf_read.specs.Scopes.{Meanings, named, has_values, with_name, use_means, use_type}
-use Rattle.xf_read.specs.Types.{one_type, result_types, argument_types, operands_number, stated_type, fits}
+use Rattle.xf_read.specs.Types.{one_type, result_types, argument_types, is_counted, stated_type, fits}
 
 abbrev pub op_name : ℕ → OpName
 op_name n = record { 0 = n }
@@ -146,7 +146,7 @@ defines_fit (d ∷ ds) ts = d.count == length ts
 
 abbrev pub types_agree : Said → Meanings → Bool
 types_agree t scope =
-    ((length t.uses == operands_number t) && uses_fit scope t 0 t.uses)
+    (is_counted t && uses_fit scope t 0 t.uses)
     && (defines_fit t.defines (result_types t) && (length t.args == length (argument_types t)))
 
 -- ---- all operations

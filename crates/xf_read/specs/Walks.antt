@@ -3,16 +3,18 @@ use Rattle.std.specs.Prelude.{◌≡◌, ℕ, ◌+◌, List, ◌++◌, map, if�
 use Rattle.xf_span.specs.declared.place.Place.{Place}
 use Rattle.xf_lex.specs.declared.token.Token.{Token}
 use Rattle.xf_format.specs.declared.parts.Parts.{Parts}
-use Rattle.xf_format.specs.Parts.{said}
+use Rattle.xf_format.specs.Parts.{Said, said}
+use Rattle.xf_type.specs.declared.payload_type.PayloadType.{PayloadType}
 use Rattle.xf_ir.specs.Tree.{Regions, no_regions, region}
-use Rattle.xf_ir.specs.Tree.{Tree as Op}
+use Rattle.xf_ir.specs.Tree.{Tree as Op, Body as Block}
 use Rattle.xf_read.specs.declared.faults.Faults.{Faults}
 use Rattle.xf_read.specs.declared.head.MeantHead.{MeantHead}
 use Rattle.xf_read.specs.declared.scope.VisibleNames.{VisibleNames as Visible}
 use Rattle.xf_read.specs.declared.walk.Walk.{Walk}
 use Rattle.xf_read.specs.declared.read.Built.{Built}
 use Rattle.xf_syntax.specs.declared.tree.File.{File}
-use Rattle.xf_read.specs.Meant.{meant, places_of, file_faults}
+use Rattle.xf_syntax.specs.Telling.{SaidNodes, operations}
+use Rattle.xf_read.specs.Meant.{meant, places_of, file_faults, joined, ops_said, yield_said}
 use Rattle.xf_read_base.specs.Attributes.{entries_twice}
 use Rattle.xf_read.specs.Names.{op_name, earlier, with_faults, undefined_in, names_twice}
 use Rattle.xf_read.specs.Names.{types_agree}
@@ -58,6 +60,13 @@ head_tree n h rs = record {
   operands = h.operands;
   results = h.results;
   regions = rs;
+}
+
+-- a block of these arguments, the first operation of which is operation n
+abbrev pub block_said : ℕ → Said → List PayloadType → Meanings → SaidNodes → Block
+block_said n t args scope ns = record {
+  args = args;
+  ops = joined (ops_said n scope ns) (yield_said t ns (n + operations ns));
 }
 
 -- what a file means, and its faults

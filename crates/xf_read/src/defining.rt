@@ -1,8 +1,9 @@
 //! What an operation lets names stand for.
-ghost use Rattle.std.specs.Prelude.{◌≡◌, IfOk, OnOk, map, min, option_map};
+ghost use Rattle.std.specs.Prelude.{◌≡◌, IfOk, OnOk, map, min, option_map, slice_get};
 ghost use Rattle.xf_format.specs.Parts.{text_at, arg_said, define_said, said};
 ghost use Rattle.xf_read.specs.Names.{earlier, argument_number, argument_named, results_named, symbol_named};
-ghost use Rattle.xf_read.specs.Names.{args_twice, with_arguments, with_defines, with_function, behind};
+ghost use Rattle.xf_read.specs.Names.{args_twice, visible_at, with_arguments, with_defines, with_function, behind};
+ghost use Rattle.xf_read.specs.Scopes.{with_name};
 ghost use Rattle.std.specs.Option.{option_copied};
 ghost use Rattle.xf_read.specs.Types.{result_types};
 ghost use Rattle.xf_read.specs.Visible.{names_in, Grows};
@@ -38,6 +39,27 @@ fn argument_named(
     Ok(Named::new(1, definer, types))
 }
 
+/// Lets an argument of an operation stand for its name, and answers that name where it was visible
+/// already. Refuses for want of memory alone.
+fn enter_arg<'a>(
+    alloc: Global,
+    tokens: &'a [Token],
+    scope: &mut VisibleNames<'a>,
+    number: u64,
+    types: &TypeList,
+    at: usize,
+    name: Ref,
+) -> Result<Option<usize>, NoMemory>
+    ensures twice { IfOk result (λ twice. twice ≡ visible_at tokens.now (names_in scope.old) name.token) }
+    ensures names { OnOk result (names_in scope.new ≡ with_name (text_at tokens.now name.token)
+        (argument_named number at (slice_get types.now at)) (names_in scope.old)) }
+    ensures grows { OnOk result (Grows scope.old scope.new) }
+{
+    let named = argument_named(alloc, number, at, types.get(at))?;
+    let seen = scope.enter(text(tokens, name.token), named)?;
+    Ok(token_if(seen, name.token))
+}
+
 /// Lets the arguments of an operation stand for their names, and answers the first whose name was
 /// visible already. Refuses for want of memory alone.
 pub fn enter_args<'a>(
@@ -56,9 +78,8 @@ pub fn enter_args<'a>(
 {
     let mut twice = None;
     for (at, name) in args.iter().enumerate() {
-        let named = argument_named(alloc, number, at, types.get(at))?;
-        let seen = scope.enter(text(tokens, name.token), named)?;
-        twice = earlier(twice, token_if(seen, name.token));
+        let seen = enter_arg(alloc, tokens, scope, number, types, at, *name)?;
+        twice = earlier(twice, seen);
     }
     Ok(twice)
 }

@@ -85,6 +85,13 @@ pub fn token_if(refused: bool, at: usize) -> Option<usize>
     if refused { Some(at) } else { None }
 }
 
+/// A token that is kept is not refused.
+pub fn token_unless(kept: bool, at: usize) -> Option<usize>
+    ensures { result ≡ (if kept then None else Some at) }
+{
+    if kept { None } else { Some(at) }
+}
+
 /// A token whose text is visible as a name.
 fn visible_at(tokens: &[Token], scope: &VisibleNames, at: usize) -> Option<usize>
     ensures { result ≡ visible_at tokens.now (names_in scope.now) at }

@@ -3,12 +3,12 @@ ghost use Rattle.std.specs.Prelude.{IfOk};
 ghost use Rattle.xf_read.specs.Visible.{names_in};
 ghost use Rattle.xf_read.specs.Walks.{IsHead};
 
-use crate::faults::{Faults, earlier, names_twice, token_if};
+use crate::faults::{Faults, earlier, names_twice, token_unless};
 use crate::scope::VisibleNames;
-use crate::types::{agrees, arg_types, result_types};
-use crate::uses::{operands, undefined};
+use crate::types::agrees;
+use crate::uses::look_up_all;
 use std::alloc::Global;
-use xf_format::Parts;
+use xf_format::{Parts, types_given, types_taken};
 use xf_ir::{AttrList, Kind, ValueList};
 use xf_lex::Token;
 use xf_read_base::{attributes, kind_of};
@@ -36,18 +36,19 @@ pub fn head_of(
 ) -> Result<MeantHead, NoMemory>
     ensures { IfOk result (λ head. IsHead tokens.now (names_in scope.now) first parts.now head) }
 {
-    let results = result_types(alloc, parts)?;
-    let args = arg_types(alloc, parts)?;
+    let results = types_given(alloc, parts)?;
+    let args = types_taken(alloc, parts)?;
     let (attrs, twice) = attributes(alloc, tokens, parts.entries.as_slice())?;
+    let used = look_up_all(alloc, tokens, scope, parts, parts.uses.as_slice())?;
     let faults = Faults {
-        undefined: undefined(tokens, scope, parts.uses.as_slice()),
+        undefined: used.undefined,
         twice: earlier(twice, names_twice(tokens, scope, parts)),
-        mismatch: token_if(!agrees(tokens, scope, parts, &results, &args), first),
+        mismatch: token_unless(agrees(parts, used.fit, &results, &args), first),
     };
     Ok(MeantHead {
         kind: kind_of(alloc, tokens, parts)?,
         attrs,
-        operands: operands(alloc, tokens, scope, parts.uses.as_slice())?,
+        operands: used.values,
         results,
         args,
         faults,

@@ -42,9 +42,9 @@ fn module_place(tokens: &[Token], file: &File) -> Place
 }
 
 /// What a file means. Refuses for want of memory alone.
-fn build(alloc: Global, tokens: &[Token], file: &File) -> Result<Built, NoMemory>
-    requires { file_count tokens.now file.now < 2 ^ 64 }
-    ensures { IfOk result (λ built. IsBuilt tokens.now file.now built) }
+fn build(alloc: Global, tokens: &[Token], file: File) -> Result<Built, NoMemory>
+    requires { file_count tokens.now file < 2 ^ 64 }
+    ensures { IfOk result (λ built. IsBuilt tokens.now file built) }
 {
     let mut walk = Walk {
         scope: VisibleNames::new(alloc),
@@ -52,8 +52,8 @@ fn build(alloc: Global, tokens: &[Token], file: &File) -> Result<Built, NoMemory
         places: PlaceOfList::new(alloc),
         next: 0,
     };
-    let place = module_place(tokens, file);
-    let root = operation(alloc, tokens, &mut walk, place, &file.root)?;
+    let place = module_place(tokens, &file);
+    let root = operation(alloc, tokens, &mut walk, place, file.root)?;
     let Walk {
         scope: _scope,
         faults,
@@ -84,7 +84,7 @@ pub fn read_module(alloc: Global, bytes: &[u8]) -> Result<ReadModule, ReadFault>
         Ok(file) => file,
         Err(fault) => return Err(unread(tokens, fault)),
     };
-    let built = build(alloc, tokens, &file)?;
+    let built = build(alloc, tokens, file)?;
     if let Some(fault) = first_fault(tokens, built.faults) {
         return Err(ReadFault::At(fault));
     }

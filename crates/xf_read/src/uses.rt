@@ -1,88 +1,117 @@
 //! The values that names stand for.
-ghost use Rattle.std.specs.Prelude.{◌≡◌, IfOk, map};
-ghost use Rattle.std.specs.Option.{option_copied};
-ghost use Rattle.xf_format.specs.Parts.{use_said};
-ghost use Rattle.xf_read.specs.Names.{undefined_in};
-ghost use Rattle.xf_read.specs.Scopes.{use_means, use_value, use_type};
+ghost use Rattle.std.specs.Prelude.{◌≡◌, ◌∷◌, ◌++◌, [], ◌&&◌, IfOk, OnOk, map, None, Some, if◌then◌else◌};
+ghost use Rattle.std.specs.Option.{option_copied, option_or};
+ghost use Rattle.xf_format.specs.Parts.{said, use_said};
+ghost use Rattle.xf_read.specs.Names.{undefined_in, uses_fit};
+ghost use Rattle.xf_read.specs.Scopes.{has_use, value_in, type_in, use_means, use_value, use_type};
+ghost use Rattle.xf_read.specs.Types.{fits};
 ghost use Rattle.xf_read.specs.Visible.{names_in};
 
-use crate::scope::{Definer, VisibleNames};
+use crate::faults::token_unless;
+use crate::scope::{Definer, Named, VisibleNames};
+use crate::types::fits;
 use std::alloc::Global;
-use xf_format::Use;
+use xf_format::{Parts, Use, operand_type};
 use xf_ir::{ValueList, ValueName};
 use xf_lex::Token;
 use xf_read_base::{count_used, text};
 use xf_type::{NoMemory, PayloadType};
 
-/// Whether a use stands for a value.
-fn means(tokens: &[Token], scope: &VisibleNames, name: Use) -> bool
-    ensures { result ≡ use_means (names_in scope.now) (use_said tokens.now name) }
+/// What uses stand for.
+#[derive(Drop)]
+pub struct Used {
+    /// Their values, any for a use that stands for none.
+    pub values: ValueList,
+    /// The first use that stands for no value.
+    pub undefined: Option<usize>,
+    /// Whether the values have the types that are stated for them.
+    pub fit: bool,
+}
+
+/// Whether a name has the value of a use with that number.
+fn has_use(number: Option<u32>, named: Option<&Named>) -> bool
+    ensures { result ≡ has_use number (option_copied named.entry) }
 {
-    match scope.look(text(tokens, name.token)) {
+    match named {
         None => false,
-        Some(named) => match name.number {
+        Some(named) => match number {
             Some(number) => number < named.most,
             None => named.single,
         },
     }
 }
 
-/// The first use that stands for no value.
-pub fn undefined(tokens: &[Token], scope: &VisibleNames, uses: &[Use]) -> Option<usize>
-    ensures { result ≡ undefined_in tokens.now (names_in scope.now) uses.now }
+/// The value of a name with that number, or any where the name stands for none.
+fn value_in(named: Option<&Named>, at: u32) -> ValueName
+    ensures { result ≡ value_in (option_copied named.entry) at }
 {
-    for name in uses {
-        if !means(tokens, scope, *name) {
-            return Some(name.token);
-        }
-    }
-    None
-}
-
-/// The value that a use stands for, or any where it stands for none.
-fn value_used(tokens: &[Token], scope: &VisibleNames, name: Use) -> ValueName
-    ensures { result ≡ use_value (names_in scope.now) (use_said tokens.now name) }
-{
-    match scope.look(text(tokens, name.token)) {
+    match named {
         None => ValueName::Free(0),
         Some(named) => match named.definer {
-            Definer::Results(op) => ValueName::Result {
-                op,
-                num: count_used(name.number),
-            },
+            Definer::Results(op) => ValueName::Result { op, num: at },
             Definer::Argument(op, num) => ValueName::Arg { op, region: 0, num },
             Definer::Symbol => ValueName::Free(0),
         },
     }
 }
 
-/// The values that uses stand for. Refuses for want of memory alone.
-pub fn operands(
+/// The type of that value, where it is known.
+fn type_in<'s>(named: Option<&'s Named>, at: u32) -> Option<&'s PayloadType>
+    ensures { option_copied result ≡ type_in (option_copied named.entry) at }
+{
+    match named {
+        None => None,
+        Some(named) => named.types.get(at as usize),
+    }
+}
+
+/// Adds what a use stands for to what those before it do; the type is the one that is stated for it.
+fn look_up(
+    tokens: &[Token],
+    scope: &VisibleNames,
+    name: Use,
+    stated: Option<&PayloadType>,
+    used: &mut Used,
+) -> Result<(), NoMemory>
+    ensures values { OnOk result (used.new.values ≡
+        used.old.values ++ use_value (names_in scope.now) (use_said tokens.now name) ∷ []) }
+    ensures undefined { OnOk result (used.new.undefined ≡ option_or used.old.undefined
+        (if use_means (names_in scope.now) (use_said tokens.now name) then None else Some name.token)) }
+    ensures fit { OnOk result (used.new.fit ≡ (used.old.fit
+        && fits (option_copied stated.entry) (use_type (names_in scope.now) (use_said tokens.now name)))) }
+{
+    let named = scope.look(text(tokens, name.token));
+    let at = count_used(name.number);
+    let defined = has_use(name.number, named);
+    used.values.push(value_in(named, at))?;
+    used.undefined = used.undefined.or(token_unless(defined, name.token));
+    used.fit = used.fit && fits(stated, type_in(named, at));
+    Ok(())
+}
+
+/// What the uses of an operation stand for, each of which is looked up once. Refuses for want of memory
+/// alone.
+pub fn look_up_all(
     alloc: Global,
     tokens: &[Token],
     scope: &VisibleNames,
+    parts: &Parts,
     uses: &[Use],
-) -> Result<ValueList, NoMemory>
-    ensures { IfOk result (λ values. values ≡
+) -> Result<Used, NoMemory>
+    ensures values { IfOk result (λ used. used.values ≡
         map (use_value (names_in scope.now)) (map (use_said tokens.now) uses.now)) }
+    ensures undefined { IfOk result (λ used. used.undefined ≡
+        undefined_in tokens.now (names_in scope.now) uses.now) }
+    ensures fit { IfOk result (λ used. used.fit ≡ uses_fit (names_in scope.now) (said tokens.now parts.now) 0
+        (map (use_said tokens.now) uses.now)) }
 {
-    let mut values = ValueList::new(alloc);
-    for name in uses {
-        values.push(value_used(tokens, scope, *name))?;
+    let mut used = Used {
+        values: ValueList::new(alloc),
+        undefined: None,
+        fit: true,
+    };
+    for (i, name) in uses.iter().enumerate() {
+        look_up(tokens, scope, *name, operand_type(parts, i), &mut used)?;
     }
-    Ok(values)
-}
-
-/// The type of the value that a use stands for, where it is known.
-pub fn type_used<'s>(
-    tokens: &[Token],
-    scope: &'s VisibleNames,
-    name: Use,
-) -> Option<&'s PayloadType>
-    ensures { option_copied result ≡ use_type (names_in scope.now) (use_said tokens.now name) }
-{
-    match scope.look(text(tokens, name.token)) {
-        None => None,
-        Some(named) => named.types.get(count_used(name.number) as usize),
-    }
+    Ok(used)
 }

@@ -1,17 +1,18 @@
 //! The walk over all operations of a text, which builds the module and finds the faults.
-ghost use Rattle.std.specs.Prelude.{◌≡◌, ◌+◌, ◌^◌, ◌<◌, ℕ, List, [], ◌∷◌, IfOk, OnOk};
+ghost use Rattle.std.specs.Prelude.{◌≡◌, ◌+◌, ◌^◌, ◌<◌, ℕ, List, [], ◌∷◌, ◌++◌, IfOk, OnOk, if◌then◌else◌};
+ghost use Rattle.xf_ir.specs.Tree.{no_ops, cons};
 ghost use Rattle.xf_ir.specs.View.{ops_of, regions_of};
 ghost use Rattle.xf_lex.specs.declared.token.Token.{Token as GhostToken};
 ghost use Rattle.xf_format.specs.Parts.{said};
 ghost use Rattle.xf_syntax.specs.Telling.{nodes_said, bodies_said, left_out, operations, operations_inside};
 ghost use Rattle.xf_syntax.specs.View.{nodes_of, bodies_of};
-ghost use Rattle.xf_read.specs.Meant.{joined, yield_tree, lacks_yield, yield_said, ops_said, regions_said, tree_said};
+ghost use Rattle.xf_read.specs.Meant.{joined, yield_tree, lacks_yield, ops_said, regions_said, tree_said};
 ghost use Rattle.xf_read.specs.Meant.{place_of, yield_places, nodes_places, bodies_places};
 ghost use Rattle.xf_read.specs.Names.{no_faults, tree_count, inside, behind};
 ghost use Rattle.xf_read.specs.Names.{head_faults, nodes_faults, bodies_faults, tree_faults};
 ghost use Rattle.xf_read.specs.Types.{argument_types};
 ghost use Rattle.xf_read.specs.Visible.{names_in, Grows};
-ghost use Rattle.xf_read.specs.Walks.{IsHead, Moved, Same, head_tree};
+ghost use Rattle.xf_read.specs.Walks.{IsHead, Moved, Same, block_said, head_tree};
 
 use crate::defining::{enter_args, enter_names};
 use crate::faults::Faults;
@@ -49,6 +50,13 @@ pub fn place_of(tokens: &[Token], at: usize) -> Place
     }
 }
 
+/// The place of a node.
+fn place_of_node(tokens: &[Token], node: &SyntaxNode) -> Place
+    ensures { result ≡ place_of tokens.now node.now.first }
+{
+    place_of(tokens, node.first)
+}
+
 /// A yield without operands.
 fn plain_yield(alloc: Global, number: u64) -> Op
     ensures { result ≡ yield_tree number }
@@ -71,27 +79,26 @@ fn lacks_yield(parts: &Parts, body: &Body) -> bool
     may_end_open(parts) && !ends_in_yield(&body.nodes)
 }
 
-/// Adds the yield that is left out at the end of a body.
+/// Adds the yield that is left out at the end of a body, where one is; this token closes the body.
 fn end_body(
     alloc: Global,
     tokens: &[Token],
     walk: &mut Walk,
-    parts: &Parts,
-    body: &Body,
+    lacks: bool,
+    close: usize,
     ops: &mut Vec<Op>,
 ) -> Result<(), NoMemory>
-    requires { walk.old.next + left_out (said tokens.now parts.now) (nodes_said tokens.now body.now.nodes) < 2 ^ 64 }
-    ensures ops { OnOk result (ops_of ops.new.items ≡ joined (ops_of ops.old.items)
-        (yield_said (said tokens.now parts.now) (nodes_said tokens.now body.now.nodes) walk.old.next)) }
-    ensures moved { OnOk result (Moved walk.old walk.new
-        (left_out (said tokens.now parts.now) (nodes_said tokens.now body.now.nodes))
-        (yield_places tokens.now parts.now body.now.nodes body.now.close) no_faults) }
+    requires { walk.old.next + (if lacks then 1 else 0) < 2 ^ 64 }
+    ensures ops { OnOk result (ops_of ops.new.items
+        ≡ joined (ops_of ops.old.items) (if lacks then cons (yield_tree walk.old.next) no_ops else no_ops)) }
+    ensures moved { OnOk result (Moved walk.old walk.new (if lacks then 1 else 0)
+        (if lacks then place_of tokens.now close ∷ [] else []) no_faults) }
     ensures scope { OnOk result (Same walk.old.scope walk.new.scope) }
 {
-    if lacks_yield(parts, body) {
+    if lacks {
         ops.reserve_exact(1)?;
         ops.push(plain_yield(alloc, walk.next))?;
-        walk.places.push(place_of(tokens, body.close))?;
+        walk.places.push(place_of(tokens, close))?;
         walk.next += 1;
     }
     Ok(())
@@ -139,58 +146,47 @@ fn with_regions(number: u64, head: MeantHead, regions: Vec<Block>) -> Op
     }
 }
 
-/// The operation of a node, with all that it holds; its place is this. Refuses for want of memory
-/// alone.
+/// The operation of a node, with all that it holds; its place is this. The node is freed on the way.
+/// Refuses for want of memory alone.
 #[cycle(walk)]
 pub fn operation<'a>(
     alloc: Global,
     tokens: &'a [Token],
     walk: &mut Walk<'a>,
     place: Place,
-    node: &SyntaxNode,
+    node: SyntaxNode,
 ) -> Result<Op, NoMemory>
-    requires { walk.old.next + tree_count tokens.now node.now < 2 ^ 64 }
+    requires { walk.old.next + tree_count tokens.now node < 2 ^ 64 }
     ensures op { IfOk result (λ op. op ≡ tree_said walk.old.next (names_in walk.old.scope)
-        (said tokens.now node.now.parts) (bodies_said tokens.now node.now.bodies)) }
-    ensures moved { OnOk result (Moved walk.old walk.new (tree_count tokens.now node.now)
-        (place ∷ bodies_places tokens.now node.now.parts node.now.bodies)
-        (tree_faults tokens.now walk.old.next (names_in walk.old.scope) node.now)) }
-    ensures scope { OnOk result (names_in walk.new.scope ≡ behind walk.old.next (said tokens.now node.now.parts)
+        (said tokens.now node.parts) (bodies_said tokens.now node.bodies)) }
+    ensures moved { OnOk result (Moved walk.old walk.new (tree_count tokens.now node)
+        (place ∷ bodies_places tokens.now node.parts node.bodies)
+        (tree_faults tokens.now walk.old.next (names_in walk.old.scope) node)) }
+    ensures scope { OnOk result (names_in walk.new.scope ≡ behind walk.old.next (said tokens.now node.parts)
         (names_in walk.old.scope)) }
     ensures grows { OnOk result (Grows walk.old.scope walk.new.scope) }
 {
+    let SyntaxNode {
+        first,
+        parts,
+        bodies,
+    } = node;
+    let parts = Box::into_inner(parts);
     let number = walk.next;
-    let parts = &node.parts;
-    let head = head_of(alloc, tokens, &walk.scope, node.first, parts)?;
+    let head = head_of(alloc, tokens, &walk.scope, first, &parts)?;
     let height = walk.scope.height();
-    enter_head(alloc, tokens, walk, place, parts, &head)?;
-    let regions = inner_blocks(alloc, tokens, walk, node, &head.args)?;
+    enter_head(alloc, tokens, walk, place, &parts, &head)?;
+    let regions = inner_blocks(alloc, tokens, walk, &parts, &head.args, bodies)?;
     walk.scope.leave(height)?;
-    enter_names(alloc, tokens, &mut walk.scope, number, &head.results, parts)?;
+    enter_names(
+        alloc,
+        tokens,
+        &mut walk.scope,
+        number,
+        &head.results,
+        &parts,
+    )?;
     Ok(with_regions(number, head, regions))
-}
-
-/// The blocks of a node, whose arguments have these types.
-#[cycle(walk)]
-fn inner_blocks<'a>(
-    alloc: Global,
-    tokens: &'a [Token],
-    walk: &mut Walk<'a>,
-    node: &SyntaxNode,
-    args: &TypeList,
-) -> Result<Vec<Block>, NoMemory>
-    requires room { walk.old.next + operations_inside (said tokens.now node.now.parts)
-        (bodies_said tokens.now node.now.bodies) < 2 ^ 64 }
-    requires args { args.now ≡ argument_types (said tokens.now node.now.parts) }
-    ensures blocks { IfOk result (λ blocks. regions_of blocks.items ≡ regions_said walk.old.next
-        (said tokens.now node.now.parts) (names_in walk.old.scope) (bodies_said tokens.now node.now.bodies)) }
-    ensures moved { OnOk result (Moved walk.old walk.new
-        (operations_inside (said tokens.now node.now.parts) (bodies_said tokens.now node.now.bodies))
-        (bodies_places tokens.now node.now.parts node.now.bodies)
-        (bodies_faults tokens.now walk.old.next node.now.parts (names_in walk.old.scope) node.now.bodies)) }
-    ensures scope { OnOk result (Same walk.old.scope walk.new.scope) }
-{
-    blocks(alloc, tokens, walk, &node.parts, args, &node.bodies)
 }
 
 /// The operations of nodes, in order.
@@ -199,20 +195,20 @@ fn operations<'a>(
     alloc: Global,
     tokens: &'a [Token],
     walk: &mut Walk<'a>,
-    nodes: &[SyntaxNode],
+    nodes: Vec<SyntaxNode>,
 ) -> Result<Vec<Op>, NoMemory>
-    requires { walk.old.next + operations (nodes_said tokens.now (nodes_of nodes.now)) < 2 ^ 64 }
+    requires { walk.old.next + operations (nodes_said tokens.now (nodes_of nodes.items)) < 2 ^ 64 }
     ensures ops { IfOk result (λ ops. ops_of ops.items ≡ ops_said walk.old.next (names_in walk.old.scope)
-        (nodes_said tokens.now (nodes_of nodes.now))) }
-    ensures moved { OnOk result (Moved walk.old walk.new (operations (nodes_said tokens.now (nodes_of nodes.now)))
-        (nodes_places tokens.now (nodes_of nodes.now))
-        (nodes_faults tokens.now walk.old.next (names_in walk.old.scope) (nodes_of nodes.now))) }
+        (nodes_said tokens.now (nodes_of nodes.items))) }
+    ensures moved { OnOk result (Moved walk.old walk.new (operations (nodes_said tokens.now (nodes_of nodes.items)))
+        (nodes_places tokens.now (nodes_of nodes.items))
+        (nodes_faults tokens.now walk.old.next (names_in walk.old.scope) (nodes_of nodes.items))) }
     ensures scope { OnOk result (Same walk.old.scope walk.new.scope) }
 {
     let height = walk.scope.height();
     let mut ops = Vec::with_capacity(alloc, nodes.len())?;
     for node in nodes {
-        let place = place_of(tokens, node.first);
+        let place = place_of_node(tokens, &node);
         let op = operation(alloc, tokens, walk, place, node)?;
         ops.push(op)?;
     }
@@ -220,33 +216,59 @@ fn operations<'a>(
     Ok(ops)
 }
 
-/// The blocks of bodies, in order, with the yields that are left out.
+/// The block of a body, with the yield that is left out; its arguments have these types.
 #[cycle(walk)]
-fn blocks<'a>(
+fn block<'a>(
     alloc: Global,
     tokens: &'a [Token],
     walk: &mut Walk<'a>,
     parts: &Parts,
     args: &TypeList,
-    bodies: &[Body],
+    body: Body,
+) -> Result<Block, NoMemory>
+    requires { walk.old.next + (operations (nodes_said tokens.now body.nodes)
+        + left_out (said tokens.now parts.now) (nodes_said tokens.now body.nodes)) < 2 ^ 64 }
+    ensures block { IfOk result (λ block. block ≡ block_said walk.old.next (said tokens.now parts.now) args.now
+        (names_in walk.old.scope) (nodes_said tokens.now body.nodes)) }
+    ensures moved { OnOk result (Moved walk.old walk.new (operations (nodes_said tokens.now body.nodes)
+        + left_out (said tokens.now parts.now) (nodes_said tokens.now body.nodes))
+        (nodes_places tokens.now body.nodes ++ yield_places tokens.now parts.now body.nodes body.close)
+        (nodes_faults tokens.now walk.old.next (names_in walk.old.scope) body.nodes)) }
+    ensures scope { OnOk result (Same walk.old.scope walk.new.scope) }
+{
+    let lacks = lacks_yield(parts, &body);
+    let Body { nodes, close } = body;
+    let mut ops = operations(alloc, tokens, walk, nodes)?;
+    end_body(alloc, tokens, walk, lacks, close, &mut ops)?;
+    let args = args.duplicate(alloc)?;
+    Ok(Block { args, ops })
+}
+
+/// The blocks of bodies, in order, whose arguments have these types.
+#[cycle(walk)]
+fn inner_blocks<'a>(
+    alloc: Global,
+    tokens: &'a [Token],
+    walk: &mut Walk<'a>,
+    parts: &Parts,
+    args: &TypeList,
+    bodies: Vec<Body>,
 ) -> Result<Vec<Block>, NoMemory>
     requires room { walk.old.next + operations_inside (said tokens.now parts.now)
-        (bodies_said tokens.now (bodies_of bodies.now)) < 2 ^ 64 }
+        (bodies_said tokens.now (bodies_of bodies.items)) < 2 ^ 64 }
     requires args { args.now ≡ argument_types (said tokens.now parts.now) }
     ensures blocks { IfOk result (λ blocks. regions_of blocks.items ≡ regions_said walk.old.next
-        (said tokens.now parts.now) (names_in walk.old.scope) (bodies_said tokens.now (bodies_of bodies.now))) }
+        (said tokens.now parts.now) (names_in walk.old.scope) (bodies_said tokens.now (bodies_of bodies.items))) }
     ensures moved { OnOk result (Moved walk.old walk.new
-        (operations_inside (said tokens.now parts.now) (bodies_said tokens.now (bodies_of bodies.now)))
-        (bodies_places tokens.now parts.now (bodies_of bodies.now))
-        (bodies_faults tokens.now walk.old.next parts.now (names_in walk.old.scope) (bodies_of bodies.now))) }
+        (operations_inside (said tokens.now parts.now) (bodies_said tokens.now (bodies_of bodies.items)))
+        (bodies_places tokens.now parts.now (bodies_of bodies.items))
+        (bodies_faults tokens.now walk.old.next parts.now (names_in walk.old.scope) (bodies_of bodies.items))) }
     ensures scope { OnOk result (Same walk.old.scope walk.new.scope) }
 {
     let mut made = Vec::with_capacity(alloc, bodies.len())?;
     for body in bodies {
-        let mut ops = operations(alloc, tokens, walk, &body.nodes)?;
-        end_body(alloc, tokens, walk, parts, body, &mut ops)?;
-        let args = args.duplicate(alloc)?;
-        made.push(Block { args, ops })?;
+        let block = block(alloc, tokens, walk, parts, args, body)?;
+        made.push(block)?;
     }
     Ok(made)
 }

@@ -1,12 +1,14 @@
 -- The head that is spelt at a token.
 use Rattle.std.specs.Prelude.{◌≡◌, ℕ, ◌<◌, ◌≤◌, List, [], length, map, ◌++◌, Option, Some, None, Result, Ok, Err}
-use Rattle.std.specs.Prelude.{Bool, if◌then◌else◌}
+use Rattle.std.specs.Prelude.{◌+◌, Bool, ◌&&◌, ◌||◌, codes, if◌then◌else◌}
 use Rattle.xf_type.specs.declared.payload_type.PayloadType.{PayloadType}
 use Rattle.xf_span.specs.declared.fault.Fault.{Fault}
 use Rattle.xf_span.specs.declared.fault.TextFault.{TextFault}
 use Rattle.xf_span.specs.declared.fault.TextFault.TheVariants as text_fault
 use Rattle.xf_lex.specs.declared.token.Token.{Token}
-use Rattle.xf_grammar.specs.Tokens.{Terminal, terminal_at}
+use Rattle.xf_lex.specs.declared.token.TokenKind.TheVariants as kind
+use Rattle.xf_shape.specs.TypeWords.{begins}
+use Rattle.xf_grammar.specs.Tokens.{Terminal, terminal_at, word_at, is_kind, colon}
 use Rattle.xf_grammar.specs.Reading.{Out}
 use Rattle.xf_format.specs.declared.expected.Expected.{Expected}
 use Rattle.xf_format.specs.declared.expected.Expected.TheVariants as due
@@ -25,6 +27,7 @@ use Rattle.xf_format.specs.Words.{row_begun, opens}
 use Rattle.xf_read_base.specs.declared.heads.Head.{Head}
 use Rattle.xf_read_base.specs.Stops.{due_fault}
 use Rattle.xf_read_base.specs.Values.{attrs_said, kind_said}
+use Rattle.xf_read_base.specs.Verdicts.{is_row}
 
 -- the types that are stated, in order: of a loop those of its results go before its width, and true and false state
 -- none
@@ -62,6 +65,17 @@ head_of all p next = record {
 abbrev pub begins_row : Terminal → Bool
 begins_row x = opens level.Any (row_begun x)
 
+-- where the word of the operation at a token stands: there, or behind the name of its results
+abbrev pub word_place : List Token → ℕ → ℕ
+word_place all at =
+    if is_kind kind.Value (terminal_at all at)
+    then (if is_kind colon (terminal_at all (at + 1)) then at + 4 else at + 2)
+    else at
+
+-- whether another reader reads the operation of this word: one of tensor or linalg
+abbrev pub is_shaped : List ℕ → Bool
+is_shaped w = is_row w && (begins (codes "tensor.") w || begins (codes "linalg.") w)
+
 -- the fault at the first token that fits no head; none where no operation of this reader begins
 abbrev pub stopped : List Token → ℕ → Expected → Option Fault
 stopped all at due.OtherReader = None
@@ -80,7 +94,9 @@ head_told all (Err e) = none_or (stopped all e.0 e.1)
 
 -- the head of the operation at a token, wherever it may stand
 abbrev pub head_spelt : List Token → ℕ → Result (Option Head) Fault
-head_spelt all at = head_told all (payload_head_at all level.Any at)
+head_spelt all at =
+    if is_shaped (word_at all (word_place all at)) then Ok None
+    else head_told all (payload_head_at all level.Any at)
 
 -- where a head ends: behind its first token, and not behind the last
 abbrev pub EndsWithin : List Token → ℕ → Option Head → Type 0

@@ -103,6 +103,13 @@ kind_said (row.Convert k) t = kind.Convert k (width_at t.types 0) (width_at t.ty
 kind_said row.For t = kind.For (width_at t.types 0)
 kind_said row.If t = kind.If
 kind_said row.Yield t = kind.Yield
+kind_said row.Empty t = kind.Empty
+kind_said row.Dim t = kind.Dim
+kind_said row.Extract t = kind.Extract
+kind_said row.Insert t = kind.Insert
+kind_said row.Cast t = kind.Cast
+kind_said (row.Named k) t = kind.Named k
+kind_said row.LinalgYield t = kind.LinalgYield
 -- any of an operation that is not read yet
 kind_said row.Other t = kind.Yield
 kind_said row.Generic t = kind.Yield

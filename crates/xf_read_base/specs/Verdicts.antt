@@ -6,14 +6,16 @@ use Rattle.std.specs.List.{list_any}
 use Rattle.std.specs.Option.{option_or}
 use Rattle.std.specs.Str.{bytes_eq}
 use Rattle.xf_lex.specs.declared.token.TokenKind.TheVariants as kind
+use Rattle.xf_shape.specs.Shapes.{inside_marks, shape_number}
 use Rattle.xf_shape.specs.TypeWords.{one_of, begins, type_number}
 use Rattle.xf_grammar.specs.Tokens.{Terminal, is_kind, is_word, word_of, less, open_paren, open_bracket}
-use Rattle.xf_grammar.specs.Tokens.{open_brace, close_brace}
+use Rattle.xf_grammar.specs.Tokens.{open_brace, close_brace, close_paren, comma}
 use Rattle.xf_format.specs.declared.expected.Expected.{Expected}
 use Rattle.xf_format.specs.declared.expected.Expected.TheVariants as due
 use Rattle.xf_format.specs.declared.row.Row.{Row}
 use Rattle.xf_format.specs.declared.row.Row.TheVariants as row
 use Rattle.xf_format.specs.Rows.{words}
+use Rattle.xf_format.specs.Parts.{text_of}
 use Rattle.xf_format.specs.Words.{lookup, widths}
 use Rattle.xf_read_base.specs.declared.verdict.Verdict.{Verdict}
 use Rattle.xf_read_base.specs.declared.verdict.Verdict.TheVariants.{Syntax, OutOfProfile, NotBuilt, TooMany, TooDeep}
@@ -117,6 +119,7 @@ listed_number due.Function x = operation_number x
 listed_number due.Operation x = operation_number x
 listed_number due.OtherReader x = None
 listed_number due.Type x = type_number (word_of x)
+listed_number due.Shape x = shape_number (inside_marks (text_of x))
 listed_number due.Width x = type_number (word_of x)
 listed_number due.ArithWidth x = if is_word (codes "tensor") x then Some 18 else type_number (word_of x)
 listed_number due.AttributeValue x = value_number (begins_attribute x) x
@@ -124,16 +127,18 @@ listed_number due.ConstantValue x = value_number (begins_constant x) x
 listed_number due.FunctionName x = number_if (one_of (codes "public" ∷ codes "nested" ∷ []) (word_of x)) 19
 listed_number due.AfterArgument x = number_if (is_kind open_brace x) 13
 listed_number due.AfterResult x = number_if (is_kind open_brace x) 13
+listed_number due.Outs x = number_if (is_kind kind.Arrow x || (is_kind open_brace x || is_word (codes "attrs") x)) 20
+listed_number due.OutsOperand x = number_if (is_kind close_paren x) 20
+listed_number due.AfterOut x = number_if (is_kind comma x) 20
 listed_number due.FunctionBody x = number_if (is_kind close_brace x || is_function (word_of x)) 19
 listed_number due.ListEnd x = None
 listed_number due.NestLimit x = None
 listed_number due.Other x = None
 
--- what is a text, and not built yet: an alias, an operation of another reader, a tensor type
+-- what is a text, and not built yet: an alias, an operation that is not read yet
 abbrev pub is_not_built : Expected → Terminal → Bool
 is_not_built due.File x = is_kind kind.Hash x
 is_not_built due.OtherReader x = true
-is_not_built due.Type x = is_word (codes "tensor") x
 is_not_built d x = false
 
 abbrev pub numbered : Option ℕ → Verdict

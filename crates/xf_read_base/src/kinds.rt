@@ -123,6 +123,13 @@ pub fn kind_of(alloc: Global, tokens: &[Token], parts: &Parts) -> Result<Kind, N
         },
         Row::For => Kind::For { width },
         Row::If => Kind::If,
+        Row::Empty => Kind::Empty,
+        Row::Dim => Kind::Dim,
+        Row::Extract => Kind::Extract,
+        Row::Insert => Kind::Insert,
+        Row::Cast => Kind::Cast,
+        Row::Named(kind) => Kind::Named { kind },
+        Row::LinalgYield => Kind::LinalgYield,
         Row::Yield | Row::Other | Row::Generic => Kind::Yield,
     })
 }

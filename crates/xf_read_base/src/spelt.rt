@@ -2,18 +2,19 @@
 ghost use Rattle.std.specs.Prelude.{◌≡◌, ◌++◌, map, IfOk};
 ghost use Rattle.xf_grammar.specs.Tokens.{terminal_at};
 ghost use Rattle.xf_read_base.specs.Spelt.{Answers, begins_row, count_used, EndsWithin, head_of, head_spelt};
-ghost use Rattle.xf_read_base.specs.Spelt.{ref_used, stated_by, stopped};
+ghost use Rattle.xf_read_base.specs.Spelt.{ref_used, stated_by, stopped, is_shaped, word_place};
 
 use crate::entries::attributes;
 use crate::heads::Head;
 use crate::kinds::kind_of;
 use crate::stop::due_fault;
+use crate::verdict::is_row;
 use std::alloc::Global;
 use xf_format::{
     Expected, Level, Literal, Parts, Ref, RefList, Row, Stopped, Use, head_at, is_unread, row_of,
 };
-use xf_grammar::word_at;
-use xf_lex::{Token, TokenList};
+use xf_grammar::{looks, word_at};
+use xf_lex::{Token, TokenKind, TokenList};
 use xf_span::{Fault, ReadFault};
 use xf_type::{Duplicate, ListOf, NoMemory, TypeList};
 
@@ -84,6 +85,26 @@ fn head_of(alloc: Global, tokens: &[Token], parts: Parts, next: usize) -> Result
     })
 }
 
+/// Where the word of the operation at a token stands: there, or behind the name of its results.
+fn word_place(tokens: &[Token], at: usize) -> usize
+    ensures { result ≡ word_place tokens.now at }
+{
+    if !looks(tokens, at, TokenKind::Value) {
+        at
+    } else if looks(tokens, at + 1, TokenKind::Mark(b':')) {
+        at + 4
+    } else {
+        at + 2
+    }
+}
+
+/// Whether another reader reads the operation of this word: one of tensor or linalg.
+fn is_shaped(word: &[u8]) -> bool
+    ensures { result ≡ is_shaped word.now }
+{
+    is_row(word) && (word.starts_with(b"tensor.") || word.starts_with(b"linalg."))
+}
+
 /// Whether an operation of this reader begins there.
 fn begins_row(tokens: &[Token], at: usize) -> bool
     ensures { result ≡ begins_row (terminal_at tokens.now at) }
@@ -112,7 +133,7 @@ fn stopped(tokens: &[Token], at: usize, due: Expected) -> Option<Fault>
 ///
 /// It refuses with the fault at the first token that fits no head: out of profile where that token is
 /// listed as a form of MLIR that is not supported, too many at the item, name or string with which
-/// a list of the tree would have 2^32 entries, not built at a tensor type, and else of the syntax. It
+/// a list of the tree would have 2^32 entries, and else of the syntax. It
 /// takes time in the number of its tokens and their bytes, and the logarithm of the number of its
 /// attributes.
 pub fn head(alloc: Global, tokens: &TokenList, at: usize) -> Result<Option<Head>, ReadFault>
@@ -120,6 +141,9 @@ pub fn head(alloc: Global, tokens: &TokenList, at: usize) -> Result<Option<Head>
     ensures within { IfOk result (λ head. EndsWithin tokens.now at head) }
 {
     let tokens = tokens.as_slice();
+    if is_shaped(word_at(tokens, word_place(tokens, at))) {
+        return Ok(None);
+    }
     match head_at(alloc, tokens, Level::Any, at) {
         Ok((parts, next)) => Ok(Some(head_of(alloc, tokens, parts, next)?)),
         Err(Stopped::NoMemory) => Err(ReadFault::NoMemory),

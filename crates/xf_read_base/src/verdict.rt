@@ -7,10 +7,11 @@ ghost use Rattle.xf_read_base.specs.Verdicts.{word_number, attribute_words, begi
 ghost use Rattle.xf_read_base.specs.Verdicts.{anywhere, number_if, unnamed_number, operation_number, file_number};
 ghost use Rattle.xf_read_base.specs.Verdicts.{value_number, listed_number, is_not_built, listed, verdict};
 
+use crate::texts::text;
 use xf_format::{Expected, Row, row_of};
 use xf_grammar::{looks, says, word_at};
 use xf_lex::{Token, TokenKind};
-use xf_shape::{type_number, width_of};
+use xf_shape::{inside_marks, shape_number, type_number, width_of};
 
 /// What a token is that fits no head.
 #[derive(Clone, Copy, Debug, PartialEq, Eq)]
@@ -43,7 +44,7 @@ fn is_division(word: &[u8]) -> bool
 }
 
 /// Whether a word is that of an operation of payloads.
-fn is_row(word: &[u8]) -> bool
+pub fn is_row(word: &[u8]) -> bool
     ensures { result ≡ is_row word.now }
 {
     row_of(word).is_some()
@@ -221,6 +222,7 @@ fn listed_number(tokens: &[Token], at: usize, due: Expected) -> Option<u32>
         Expected::Function | Expected::Operation => operation_number(tokens, at),
         Expected::ArithWidth if says(tokens, at, b"tensor") => Some(18),
         Expected::Type | Expected::Width | Expected::ArithWidth => type_number(word),
+        Expected::Shape => shape_number(inside_marks(text(tokens, at))),
         Expected::AttributeValue => value_number(tokens, at, begins_attribute(tokens, at)),
         Expected::ConstantValue => value_number(tokens, at, begins_constant(tokens, at)),
         Expected::FunctionName => number_if(
@@ -230,6 +232,14 @@ fn listed_number(tokens: &[Token], at: usize, due: Expected) -> Option<u32>
         Expected::AfterArgument | Expected::AfterResult => {
             number_if(looks(tokens, at, TokenKind::Mark(b'{')), 13)
         }
+        Expected::Outs => number_if(
+            looks(tokens, at, TokenKind::Arrow)
+                || looks(tokens, at, TokenKind::Mark(b'{'))
+                || says(tokens, at, b"attrs"),
+            20,
+        ),
+        Expected::OutsOperand => number_if(looks(tokens, at, TokenKind::Mark(b')')), 20),
+        Expected::AfterOut => number_if(looks(tokens, at, TokenKind::Mark(b',')), 20),
         Expected::FunctionBody => number_if(
             looks(tokens, at, TokenKind::Mark(b'}')) || is_function(word),
             19,
@@ -245,7 +255,6 @@ fn is_not_built(tokens: &[Token], at: usize, due: Expected) -> bool
     match due {
         Expected::File => looks(tokens, at, TokenKind::Hash),
         Expected::OtherReader => true,
-        Expected::Type => says(tokens, at, b"tensor"),
         _ => false,
     }
 }

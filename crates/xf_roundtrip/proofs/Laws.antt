@@ -18,7 +18,8 @@ tokens_are_right all file =
 pub texts_mean : TextsMeanWhatTheySay
 texts_mean ws tail ns stay utf8 written well =
     let l = layout_is_read ws tail stay utf8 in
-    let r = texts_read_again l.0 (terminals_plain (map (λ w. w.token) ws)) ns (laid_stand l.0 (map (λ w. w.token) ws) l.2) written in
+    let r = texts_read_again l.0 (terminals_plain (map (λ w. w.token) ws)) ns
+    (laid_stand l.0 (map (λ w. w.token) ws) l.2) written in
     record {
       tokens = l.0;
       file = r.0;

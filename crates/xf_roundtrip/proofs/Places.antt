@@ -1,5 +1,6 @@
 -- Operations by their places in preorder.
-use Rattle.std.proofs.Common.{◌≡◌, ◌⊎◌, ℕ, suc, ◌+◌, Bool, true, false, List, [], ◌∷◌, ◌++◌, length, inl, inr, refl, sym, ap, subst, ◌∙◌, arith, length-append}
+use Rattle.std.proofs.Common.{◌≡◌, ◌⊎◌, ℕ, suc, ◌+◌, Bool, true, false, List, [], ◌∷◌, ◌++◌, length, inl, inr, refl}
+use Rattle.std.proofs.Common.{sym, ◌∙◌, arith, length-append}
 use Rattle.std.specs.Prelude.{if◌then◌else◌}
 use Rattle.std.proofs.lemmas.Bool.{or_parts}
 use Rattle.xf_ir.specs.declared.name.OpName.{OpName}
@@ -16,14 +17,16 @@ pub index_of : OpName → List OpName → ℕ
 index_of n [] = 0
 index_of n (m ∷ ms) = if same_name m n then 0 else suc (index_of n ms)
 
-same_head : (x y : Bool) (i j : ℕ) → (if x then 0 else suc i) ≡ (if y then 0 else suc j) → ((x ≡ true) × (y ≡ true)) ⊎ ((x ≡ false) × ((y ≡ false) × (i ≡ j)))
+same_head : (x y : Bool) (i j : ℕ) → (if x then 0 else suc i) ≡ (if y then 0 else suc j)
+    → ((x ≡ true) × (y ≡ true)) ⊎ ((x ≡ false) × ((y ≡ false) × (i ≡ j)))
 same_head true true i j e = inl (refl, refl)
 same_head true false i j e = absurd (omega (arith, e))
 same_head false true i j e = absurd (omega (arith, e))
 same_head false false i j e = inr (refl, (refl, omega (arith, e)))
 
 -- names with one place are one name
-pub same_place : (ns : List OpName) (a b : OpName) → is_among a ns ≡ true → is_among b ns ≡ true → index_of a ns ≡ index_of b ns → a ≡ b
+pub same_place : (ns : List OpName) (a b : OpName) → is_among a ns ≡ true → is_among b ns ≡ true
+    → index_of a ns ≡ index_of b ns → a ≡ b
 unfolding index_of
 same_place [] a b h k e = absurd cc
 same_place (m ∷ ns) a b h k e =
@@ -35,13 +38,15 @@ same_place (m ∷ ns) a b h k e =
 -- these names have numbers from here on
 abbrev pub Counts : (OpName → ℕ) → ℕ → List OpName → Type 0
 Counts g i [] = Unit {0}
-Counts g i (n ∷ ns) = (g n ≡ i) × Counts g (suc i) ns
+Counts g i (n ∷ ns) = (g n ≡ i) × Counts g (i + 1) ns
 
-counts_more : (g h : OpName → ℕ) (i : ℕ) (ns : List OpName) → Each (λ m. h m ≡ suc (g m)) ns → Counts g i ns → Counts h (suc i) ns
+counts_more : (g h : OpName → ℕ) (i : ℕ) (ns : List OpName) → Each (λ m. h m ≡ suc (g m)) ns → Counts g i ns
+    → Counts h (i + 1) ns
 counts_more g h i [] e c = tt
-counts_more g h i (n ∷ ns) e c = (e.0 ∙ ap suc c.0, counts_more g h (suc i) ns e.1 c.1)
+counts_more g h i (n ∷ ns) e c = (omega (arith, e.0, c.0), counts_more g h (i + 1) ns e.1 c.1)
 
-later : (n : OpName) (ms ns : List OpName) → is_among n ns ≡ false → Each (λ m. index_of m (n ∷ ms) ≡ suc (index_of m ms)) ns
+later : (n : OpName) (ms ns : List OpName) → is_among n ns ≡ false
+    → Each (λ m. index_of m (n ∷ ms) ≡ suc (index_of m ms)) ns
 unfolding index_of
 later n ms [] h = tt
 later n ms (m ∷ ns) h =
@@ -57,13 +62,12 @@ all_counted (n ∷ ns) o =
     let first : index_of n (n ∷ ns) ≡ 0 = rw e refl in
     (first, counts_more (λ m. index_of m ns) (λ m. index_of m (n ∷ ns)) 0 ns (later n ns ns o.0) (all_counted ns o.1))
 
-pub counts_left : (g : OpName → ℕ) (i : ℕ) (xs ys : List OpName) → Counts g i (xs ++ ys) → Counts g i xs
-counts_left g i [] ys c = tt
-counts_left g i (x ∷ xs) ys c = (c.0, counts_left g (suc i) xs ys c.1)
-
-pub counts_right : (g : OpName → ℕ) (i : ℕ) (xs ys : List OpName) → Counts g i (xs ++ ys) → Counts g (i + length xs) ys
-counts_right g i [] ys c = let e : i ≡ i + 0 = omega arith in subst (λ j. Counts g j ys) e c
-counts_right g i (x ∷ xs) ys c = let e : suc i + length xs ≡ i + suc (length xs) = omega arith in subst (λ j. Counts g j ys) e (counts_right g (suc i) xs ys c.1)
+pub counts_split : (g : OpName → ℕ) (xs ys : List OpName) (i j : ℕ) → j ≡ i + length xs → Counts g i (xs ++ ys)
+    → Counts g i xs × Counts g j ys
+counts_split g [] ys i j e c = (tt, let p : j ≡ i = omega (arith, e) in rw p c)
+counts_split g (x ∷ xs) ys i j e c =
+    let r = counts_split g xs ys (i + 1) j (omega (arith, e)) c.1 in
+    ((c.0, r.0), r.1)
 
 mutual
   pub ops_names_count : (ops : Ops) → length (ops_names ops) ≡ ops_count ops

@@ -1,6 +1,7 @@
 -- The printed form of a valid module is laid out of tokens that the format of payloads writes.
-use Rattle.std.proofs.Common.{◌≡◌, inl, ℕ, true, List, [], ◌∷◌, ◌++◌, Option, refl, sym, subst, ◌∙◌}
-use Rattle.std.specs.Prelude.{map, codes}
+use Rattle.std.proofs.Common.{◌≡◌, inl, ℕ, true, List, [], ◌∷◌, ◌++◌, Option, refl, sym, subst}
+use Rattle.std.specs.Prelude.{◌&&◌, map, codes}
+use Rattle.std.proofs.lemmas.Bool.{and_parts}
 use Rattle.xf_type.specs.declared.payload_type.PayloadType.{PayloadType}
 use Rattle.xf_grammar.specs.Tokens.{Terminal, the_end, is_word}
 use Rattle.xf_grammar.specs.Grammar.{line, Spaced, tokens_of, begun, written, first_seen}
@@ -11,10 +12,11 @@ use Rattle.xf_format.specs.Rules.{language, head_rule, row_rule}
 use Rattle.xf_ir.specs.declared.kind.Kind.{Kind}
 use Rattle.xf_ir.specs.declared.kind.Kind.TheVariants as kind
 use Rattle.xf_ir.specs.declared.op.Module.{Module}
-use Rattle.xf_ir.specs.Calls.{signatures}
+use Rattle.xf_ir.specs.Calls.{Signatures, signatures}
 use Rattle.xf_ir.specs.Kinds.{is_module}
 use Rattle.xf_ir.specs.Placed.{type_at, functions_of}
-use Rattle.xf_ir.specs.Valid.{IsValid}
+use Rattle.xf_ir.specs.RuleTypes.{row_of}
+use Rattle.xf_ir.specs.Types.{have_types}
 use Rattle.xf_printed.specs.Fills.{head_fill}
 use Rattle.xf_printed.specs.Names.{no_names}
 use Rattle.xf_printed.specs.PrintedForm.{word_of, head_of, slots_of, header_of, tail_of, functions_docs, module_docs}
@@ -23,27 +25,30 @@ use Rattle.xf_print_laws.proofs.LayoutDocs.{printed_is_laid_out as laid_out}
 use Rattle.xf_print_laws.proofs.Printed.{printed_fits, printed_says_heads, printed_has_few}
 use Rattle.xf_syntax.specs.Written.{AreFilled, IsWritten}
 use Rattle.xf_roundtrip.specs.PrintedLaws.{PrintedHasLayout}
-use Rattle.xf_roundtrip.proofs.Printed.{module_by, bare}
 
-begins_by : (k : Kind) (i : ℕ) (ts : List PayloadType) (rest : List Spaced) → is_module k ≡ true → ts ≡ [] → is_word (codes "module") (first_seen (tokens_of (begun (line 0) (written language (head_rule level.File) (head_fill i ts (word_of k))) ++ rest)) the_end) ≡ true
+begins_by : (sigs : Signatures) (k : Kind) (types : List (Option PayloadType)) (i : ℕ) (ts : List PayloadType)
+    (rest : List Spaced) → is_module k ≡ true → row_of sigs [] k types ts ≡ true
+    → is_word (codes "module") (first_seen (tokens_of
+    (begun (line 0) (written language (head_rule level.File) (head_fill i ts (word_of k))) ++ rest)) the_end) ≡ true
 unfolding head_rule row_rule
-begins_by (kind.Module symbol) i [] rest e r = refl
-begins_by (kind.Module symbol) i (t ∷ ts) rest e r = absurd cc
-begins_by k i ts rest e r = absurd cc
-
-begins : (m : Module) → IsValid m → is_word (codes "module") (first_seen (tokens_of (docs_written format level.File 0 (module_docs m))) the_end) ≡ true
-begins m v =
-    let types : List (Option PayloadType) = map (type_at []) m.root.operands in
-    let by = module_by m.root.kind v.functions.root in
-    let b = bare m.root.operands (type_at []) m.root.results (sym (by.row (signatures m) [] types m.root.results) ∙ v.types.0) in
-    begins_by m.root.kind _ m.root.results _ v.functions.root b.results
+begins_by sigs (kind.Module symbol) types i [] rest e r = refl
+begins_by sigs (kind.Module symbol) types i (t ∷ ts) rest e r =
+    absurd (let z = (and_parts (have_types types []) _ r).1 in cc)
+begins_by sigs k types i ts rest e r = absurd cc
 
 pub printed_has_layout : PrintedHasLayout
 printed_has_layout m v core st within =
     let t = m.root in
     let l = laid_out m v core st within in
     let xs : List Terminal = tokens_of (docs_written format level.File 0 (module_docs m)) in
-    let filled : AreFilled 0 (module_docs m) xs (printed_said m) = record { tokens = refl; fit = printed_fits m v core st within; says = printed_says_heads m v core st within } in
+    let filled : AreFilled 0 (module_docs m) xs (printed_said m) =
+    record { tokens = refl; fit = printed_fits m v core st within; says = printed_says_heads m v core st within } in
     let block : Blocks = a_block (header_of no_names t) (functions_docs (functions_of m)) no_blocks in
-    let written : IsWritten xs (printed_said m) = record { tokens = inl (begins m v, (head_of no_names t, (slots_of no_names t, (block, (tail_of no_names t, filled))))); number = printed_has_few m v core st within } in
-    (l.0, (l.1.0, (l.1.1.0, (l.1.1.1.0, (l.1.1.1.1.0, subst (λ ys. IsWritten ys (printed_said m)) (sym l.1.1.1.1.1) written)))))
+    let types = map (type_at []) t.operands in
+    let begins = begins_by (signatures m) t.kind types _ t.results _ v.functions.root v.types.0 in
+    let written : IsWritten xs (printed_said m) = record {
+      tokens = inl (begins, (head_of no_names t, (slots_of no_names t, (block, (tail_of no_names t, filled)))));
+      number = printed_has_few m v core st within;
+    } in
+    let r = l.1.1.1.1 in
+    (l.0, (l.1.0, (l.1.1.0, (l.1.1.1.0, (r.0, subst (λ ys. IsWritten ys (printed_said m)) (sym r.1) written)))))

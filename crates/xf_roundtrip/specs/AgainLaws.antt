@@ -13,8 +13,8 @@ use Rattle.xf_print_laws.specs.Stored.{IsStored}
 abbrev pub SpeltIsNamedOnce : Type 0
 SpeltIsNamedOnce = (bytes : List ℕ) (m : Module) → Spells bytes m → IsNamedOnce m
 
--- the printed form of a valid module of builtin, func, arith on scalars and scf spells it again, up to the names of
--- operations, and what it spells is valid
+-- the printed form of a valid module without dense constants, slices and linalg.generic spells it again, up to the
+-- names of operations, and what it spells is valid
 abbrev pub PrintedIsValidAgain : Type 0
 PrintedIsValidAgain = (m : Module) → IsValid m → IsCore m → IsStored m → IsWithinLimits m
     → (again : Module) × (Spells (printed_form m) again × (IsRenamed m again × IsValid again))

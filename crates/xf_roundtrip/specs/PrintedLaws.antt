@@ -20,7 +20,7 @@ abbrev pub HasLayout : List ℕ → SaidNodes → Type 0
 HasLayout text ns = (ws : List SpacedToken) × ((tail : List ℕ) × ((layout ws tail ≡ text)
     × (AllStay false ws tail × (IsUtf8 (layout ws tail) × IsWritten (terminals_plain (map (λ w. w.token) ws)) ns))))
 
--- the printed form of a valid module of builtin, func, arith on scalars and scf is laid out, and says what
+-- the printed form of a valid module without dense constants, slices and linalg.generic is laid out, and says what
 -- `printed_said` tells
 abbrev pub PrintedHasLayout : Type 0
 PrintedHasLayout = (m : Module) → IsValid m → IsCore m → IsStored m → IsWithinLimits m

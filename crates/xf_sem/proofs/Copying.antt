@@ -10,7 +10,8 @@ use Rattle.xf_ir.specs.declared.kind.Kind.{Kind}
 use Rattle.xf_ir.specs.declared.kind.Kind.TheVariants as kind
 use Rattle.xf_ir.specs.Tree.{Ops, no_ops, op, Regions, no_regions, region}
 use Rattle.xf_ir.specs.Lists.{Each}
-use Rattle.xf_ir.specs.Places.{Numbering, results_of, args_of, Seen, done, inside, numbering_of, sees, AllSeen, IsFresh}
+use Rattle.xf_ir.specs.Places.{Numbering, results_of, args_of, Seen, done, inside, numbering_of, sees, AllSeen}
+use Rattle.xf_ir.specs.Places.{IsFresh}
 use Rattle.xf_ir.specs.Places.{OpsScoped, RegionsScoped, FunctionsScoped}
 use Rattle.xf_ir.specs.Valid.{functions_of}
 use Rattle.xf_ir.specs.Uses.{ops_operands, regions_operands}
@@ -23,7 +24,8 @@ use Rattle.xf_sem.specs.Surroundings.{Leads, CallsLead}
 use Rattle.xf_ir.specs.Replaced.{ops_moved, regions_moved}
 use Rattle.xf_sem.specs.Copying.{Follows, OpsCopy, RegionsCopy, FunctionsCopy, CopyingKeeps}
 use Rattle.xf_ir.proofs.Lists.{each_left, each_right}
-use Rattle.xf_sem.proofs.Leads.{leads_none, leads_fitting, BodiesLead, first_lead, step_leads, called_lead}
+use Rattle.xf_sem.proofs.Leads.{leads_none, leads_fitting, BodiesLead, none_lead, first_lead, step_leads}
+use Rattle.xf_sem.proofs.Leads.{called_lead}
 
 -- ---- tests of what is visible
 
@@ -96,7 +98,7 @@ mutual
 abbrev pub Any : ValueName → Type 0
 Any v = Unit {0}
 
-each_any : (vs : List ValueName) → Each Any vs
+pub each_any : (vs : List ValueName) → Each Any vs
 each_any [] = tt
 each_any (v ∷ vs) = (tt, each_any vs)
 
@@ -134,7 +136,8 @@ agree_extend P ss s p d e e' vs f g a = record {
     same_here None o' x y Q ws f g (inl n) = cc (n.1)
     same_here None o' x y Q ws f g (inr q) = rw (g q).1 (g q).0
 
-pub all_agree : (P : ValueName → Type 0) (ss : List Seen) (s : ValueName → ValueName) (e e' : Env) (vs : List ValueName)
+pub all_agree : (P : ValueName → Type 0) (ss : List Seen) (s : ValueName → ValueName) (e e' : Env)
+    (vs : List ValueName)
     → Each P vs → Agree P ss s e e' → map e vs ≡ map e' (map s vs)
 all_agree P ss s e e' [] h a = refl
 all_agree P ss s e e' (v ∷ vs) h a = let x = a.same v h.0 in let y = all_agree P ss s e e' vs h.1 a in cc
@@ -148,7 +151,8 @@ mutual
   copy_kept no_ops (op n' k' ds' os' ts' rs' rest') P ss s c c' holder holder' e e' h h' y l a = elim y [ ]
   copy_kept (op n k ds os ts rs rest) no_ops P ss s c c' holder holder' e e' h h' y l a = elim y [ ]
   copy_kept (op n k ds os ts rs rest) (op n' k' ds' os' ts' rs' rest') P ss s c c' holder holder' e e' h h' y l a =
-      step_leads k k' ts ts' n n' c c' _ _ _ _ _ _ y.0.0 y.0.1 l (copy_kept_regions rs rs' P ss s n n' 0 c c' e e' h.1.0
+      step_leads k k' ts ts' n n' c c' _ _ _ _ _ _ y.0.0 y.0.1 l
+      (copy_kept_regions rs rs' P ss s n n' 0 c c' e e' h.1.0
       h'.1.1.0 y.1.1.1.0 l a) (all_agree P ss s e e' os h.0 a ∙ ap (map e') y.1.0)
       (λ ws p. copy_kept rest rest' (Grown P (results_of n (length ts))) (done n' (length ts')
       ∷ ss) s c c' holder holder' _ _ h.1.1 h'.1.1.1 y.1.1.1.1 l
@@ -158,7 +162,7 @@ mutual
       (s : ValueName → ValueName) (n n' : OpName) (i : ℕ) (c c' : Calls) (e e' : Env)
       → RegionsUse P n i rs → RegionsScoped ss n' i rs' → RegionsCopy s n n' i rs rs' → CallsLead c c'
       → Agree P ss s e e' → BodiesLead (bodies_of c n i rs e) (bodies_of c' n' i rs' e')
-  copy_kept_regions no_regions no_regions P ss s n n' i c c' e e' h h' y l a = λ j vs. leads_none n _
+  copy_kept_regions no_regions no_regions P ss s n n' i c c' e e' h h' y l a = none_lead n n'
   copy_kept_regions no_regions (region args' ops' rest') P ss s n n' i c c' e e' h h' y l a = elim y [ ]
   copy_kept_regions (region args ops rest) no_regions P ss s n n' i c c' e e' h h' y l a = elim y [ ]
   copy_kept_regions (region args ops rest) (region args' ops' rest') P ss s n n' i c c' e e' h h' y l a =
@@ -235,15 +239,23 @@ copied_lead no_ops no_ops s c c' h h' y l = λ at at' f vs. leads_none at _
 copied_lead no_ops (op n' k' ds' os' ts' rs' rest') s c c' h h' y l = elim y [ ]
 copied_lead (op n k ds os ts rs rest) no_ops s c c' h h' y l = elim y [ ]
 copied_lead (op n k ds os ts rs rest) (op n' k' ds' os' ts' rs' rest') s c c' h h' y l = λ at at' f vs.
-    let inside_body = copy_kept_regions rs rs' (Visible []) [] s n n' 0 c c' nowhere nowhere
+    let inside_body = (copy_kept_regions rs rs' (Visible []) [] s n n' 0 c c' nowhere nowhere
     (regions_use (Visible []) Any rs [] n 0 (λ v t q. t) h.0 (each_any (regions_operands rs))) h'.0 y.1.0 l
-    (record { shown = λ v t. cc; same = λ v t. refl }) 0 vs in
+    (record { shown = λ v t. cc; same = λ v t. refl })).block 0 vs in
     rw (← y.0) (called_lead k f _ _ _ _ vs inside_body (copied_lead rest rest' s c c' h.1 h'.1 y.1.1 l at at' f vs))
+
+same_functions : (fs : Ops) → FunctionsCopy (λ v. v) fs fs
+same_functions no_ops = tt
+same_functions (op n k ds os ts rs rest) = (refl, (same_copy_regions rs n 0, same_functions rest))
 
 copied_calls : (d : ℕ) (fs fs' : Ops) (s : ValueName → ValueName) → FunctionsScoped fs → FunctionsScoped fs'
     → FunctionsCopy s fs fs' → CallsLead (calls_to d fs) (calls_to d fs')
 copied_calls zero fs fs' s h h' y = λ at at' f vs. leads_none at _
 copied_calls (suc d) fs fs' s h h' y = copied_lead fs fs' s _ _ h h' y (copied_calls d fs fs' s h h' y)
+
+-- a function returns the same, whoever calls it
+pub calls_alike : (d : ℕ) (fs : Ops) → FunctionsScoped fs → CallsLead (calls_to d fs) (calls_to d fs)
+calls_alike d fs h = copied_calls d fs fs (λ v. v) h h (same_functions fs)
 
 copied_arguments : (rs rs' : Regions) (s : ValueName → ValueName) (n n' : OpName) (i : ℕ) → RegionsCopy s n n' i rs rs'
     → first_args rs ≡ first_args rs'
@@ -261,7 +273,8 @@ copied_before k k' rs rs' more more' p a q =
     same_kind (kind.Func symbol private types) = cc
     same_kind _ = q
 
-copied_declared : (fs fs' : Ops) (s : ValueName → ValueName) → FunctionsCopy s fs fs' → declared_in fs ≡ declared_in fs'
+copied_declared : (fs fs' : Ops) (s : ValueName → ValueName) → FunctionsCopy s fs fs' → declared_in fs
+    ≡ declared_in fs'
 copied_declared no_ops no_ops s y = refl
 copied_declared no_ops (op n' k' ds' os' ts' rs' rest') s y = elim y [ ]
 copied_declared (op n k ds os ts rs rest) no_ops s y = elim y [ ]

@@ -1,5 +1,5 @@
 -- An operation whose results are unused may be erased.
-use Rattle.std.proofs.Common.{◌≡◌, ℕ, suc, Bool, true, false, eqb, refl, subst}
+use Rattle.std.proofs.Common.{◌≡◌, ℕ, suc, Bool, true, false, eqb, refl}
 use Rattle.std.specs.Prelude.{length, map}
 use Rattle.std.proofs.lemmas.Bool.{or_parts}
 use Rattle.xf_ir.specs.declared.name.OpName.{OpName}
@@ -13,7 +13,8 @@ use Rattle.xf_ir.proofs.Found as found
 use Rattle.xf_ir_laws.proofs.Scopes.{scoped}
 use Rattle.xf_ir_laws.proofs.ErasingLaws.{valid_kept}
 use Rattle.xf_sem.specs.Meaning.{extend, does, bodies_of}
-use Rattle.xf_sem.specs.Surroundings.{Context, visible, outside, behind, within, OpsWhere, RegionsWhere, FunctionsWhere}
+use Rattle.xf_sem.specs.Surroundings.{Context, visible, outside, behind, within, OpsWhere, RegionsWhere}
+use Rattle.xf_sem.specs.Surroundings.{FunctionsWhere}
 use Rattle.xf_sem.specs.Surroundings.{NoFunction, LeadsHere}
 use Rattle.xf_sem.specs.Laws.{ErasingKeeps}
 use Rattle.xf_sem.proofs.Leads.{leads_none, leads_from_if, leads_from_then, leads_from_charge}
@@ -71,16 +72,16 @@ other_name true k f h =
     let no = (or_parts (is_module k) (is_function k) (h refl)).1 in let yes : is_function k ≡ true = f in cc
 other_name false k f h = refl
 
-no_function : (name : OpName) (fs : Ops) → FunctionsAlone fs → found.OpsWhere name Inner fs → NoFunction name fs
+pub no_function : (name : OpName) (fs : Ops) → FunctionsAlone fs → found.OpsWhere name Inner fs → NoFunction name fs
 no_function name no_ops a h = tt
 no_function name (op n k ds os ts rs rest) a h =
     (other_name (eqb n.0 name.0) k a.0 (λ e. (h.0 e).0), no_function name rest a.1.1 h.1.1)
 
-functions_alone : (rs : Regions) → BlocksAlone rs → FunctionsAlone (block_of rs)
+pub functions_alone : (rs : Regions) → BlocksAlone rs → FunctionsAlone (block_of rs)
 functions_alone no_regions a = tt
 functions_alone (region args ops rest) a = a.0
 
-inner_block : (name : OpName) (rs : Regions) → found.RegionsWhere name Inner rs
+pub inner_block : (name : OpName) (rs : Regions) → found.RegionsWhere name Inner rs
     → found.OpsWhere name Inner (block_of rs)
 inner_block name no_regions h = tt
 inner_block name (region args ops rest) h = h.0

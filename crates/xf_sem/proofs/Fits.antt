@@ -11,16 +11,17 @@ use Rattle.xf_type.specs.declared.payload_type.Elem.TheVariants.{Num, NoNumber}
 use Rattle.xf_type.specs.declared.payload_type.Dim.{Dim}
 use Rattle.xf_type.specs.declared.payload_type.Dim.TheVariants.{Fixed, Dynamic}
 use Rattle.xf_type.specs.Integers.{bits_of, FitsWidth}
-use Rattle.xf_ir.specs.Lists.{Each}
+use Rattle.xf_ir.specs.Lists.{Each, every}
 use Rattle.xf_sem.specs.declared.value.Value.{Value}
 use Rattle.xf_sem.specs.declared.value.Value.TheVariants.{Scalar, Tensor}
 use Rattle.xf_type.specs.Equal.{same_width}
-use Rattle.xf_sem.specs.Values.{product, IsValue, FitsDim, FitsDims, FitsType, FitTypes, every, fits_width, is_value}
+use Rattle.xf_points.specs.Points.{product}
+use Rattle.xf_sem.specs.Values.{IsValue, FitsDim, FitsDims, FitsType, FitTypes, fits_width, is_value}
 use Rattle.xf_sem.specs.Values.{fits_dim, fits_dims, fits_type, fit_types}
 use Rattle.xf_sem.specs.Meaning.{item}
 use Rattle.xf_sem.specs.Laws.{FittingIsTested}
 
-every_says : {A : Type 0} (p : A → Bool) (P : A → Type 0) (xs : List A) → ((x : A) → p x ≡ true → P x)
+pub every_says : {A : Type 0} (p : A → Bool) (P : A → Type 0) (xs : List A) → ((x : A) → p x ≡ true → P x)
     → every p xs ≡ true → Each P xs
 every_says p P [] f h = tt
 every_says p P (x ∷ xs) f h = let b = and_parts (p x) (every p xs) h in (f x b.0, every_says p P xs f b.1)
@@ -43,7 +44,7 @@ fits_dim_says : (size : ℕ) (d : Dim) → fits_dim size d ≡ true → FitsDim 
 fits_dim_says size (Fixed extent) h = eqb-true size extent h
 fits_dim_says size Dynamic h = tt
 
-fits_dims_says : (sizes : List ℕ) (ds : List Dim) → fits_dims sizes ds ≡ true → FitsDims sizes ds
+pub fits_dims_says : (sizes : List ℕ) (ds : List Dim) → fits_dims sizes ds ≡ true → FitsDims sizes ds
 fits_dims_says [] [] h = tt
 fits_dims_says [] (d ∷ ds) h = cc
 fits_dims_says (size ∷ sizes) [] h = cc

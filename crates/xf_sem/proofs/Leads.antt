@@ -1,5 +1,5 @@
 -- What leads, through the parts of a run.
-use Rattle.std.proofs.Common.{◌≡◌, ℕ, zero, suc, List, Bool, true, false, refl, subst}
+use Rattle.std.proofs.Common.{◌≡◌, ℕ, zero, suc, ◌+◌, List, Bool, true, false, refl, ap, subst}
 use Rattle.std.specs.Prelude.{if◌then◌else◌}
 use Rattle.xf_type.specs.declared.payload_type.PayloadType.{PayloadType}
 use Rattle.xf_ir.specs.declared.name.OpName.{OpName}
@@ -9,8 +9,11 @@ use Rattle.xf_ir.specs.Lists.{same_bytes}
 use Rattle.xf_ir.specs.Kinds.{is_terminator}
 use Rattle.xf_sem.specs.declared.value.Value.{Value}
 use Rattle.xf_sem.specs.Values.{fit_types}
+use Rattle.xf_sem.specs.Actions.{Action, results, is_undefined, enters, calls}
+use Rattle.xf_sem.specs.Structured.{points_of}
 use Rattle.xf_sem.specs.Meaning.{Answer, gives, fails, Run, finish, undefined, charge, next, and_then, Body, Bodies}
-use Rattle.xf_sem.specs.Meaning.{first_body, Calls, Action, results, is_undefined, enters, calls, acts, performed}
+use Rattle.xf_sem.specs.Meaning.{no_body}
+use Rattle.xf_sem.specs.Meaning.{first_body, Calls, acts, performed}
 use Rattle.xf_sem.specs.Meaning.{where_fit, elements, does, step, called}
 use Rattle.xf_sem.specs.Surroundings.{Leads, CallsLead}
 
@@ -46,7 +49,8 @@ fitting : {A : Type 0} (b : Bool) (n n' : OpName) (r r' : Run A) → (b ≡ true
 fitting true n n' r r' h = h refl
 fitting false n n' r r' h = leads_none n _
 
-pub leads_fitting : {A : Type 0} (n n' : OpName) (ts ts' : List PayloadType) (vs : List Value) (r r' : Run A) → ts ≡ ts'
+pub leads_fitting : {A : Type 0} (n n' : OpName) (ts ts' : List PayloadType) (vs : List Value) (r r' : Run A) → ts
+    ≡ ts'
     → (fit_types vs ts ≡ true → Leads r r') → Leads (where_fit n ts vs r) (where_fit n' ts' vs r')
 leads_fitting n n' ts ts' vs r r' t h =
     subst (λ us. Leads (where_fit n ts vs r) (where_fit n' us vs r')) t (fitting (fit_types vs ts) n n' r r' h)
@@ -75,7 +79,7 @@ pub went : {A B : Type 0} (u : ℕ) (a : Answer A) (f : A → Run B) (y : B) →
 went u (gives x) f y p = (x, (refl, p))
 went u (fails n) f y p = cc
 
-went_fitting : {A : Type 0} (b : Bool) (n : OpName) (r : Run A) (y : A)
+pub went_fitting : {A : Type 0} (b : Bool) (n : OpName) (r : Run A) (y : A)
     → (if b then r else undefined n).answer ≡ gives y → (b ≡ true) × (r.answer ≡ gives y)
 went_fitting true n r y p = (refl, p)
 went_fitting false n r y p = cc
@@ -84,9 +88,9 @@ went_fitting false n r y p = cc
 pub given_fits : (c : Calls) (n : OpName) (k : Kind) (ts : List PayloadType) (bs : Bodies) (vs ws : List Value)
     → (does c n k ts bs vs).answer ≡ gives ws → fit_types ws ts ≡ true
 given_fits c n k ts bs vs ws p =
-    let r = performed c n bs (acts k ts vs) in
-    let w = went r.units r.answer (λ xs. where_fit n ts xs (charge (elements xs) (finish xs))) ws p in
-    let f = went_fitting (fit_types w.0 ts) n (charge (elements w.0) (finish w.0)) ws w.1.1 in
+    let r = performed c n bs (acts k bs.count ts vs) in
+    let w = went r.units r.answer (λ xs. where_fit n ts xs (charge (points_of k vs + elements xs) (finish xs))) ws p in
+    let f = went_fitting (fit_types w.0 ts) n (charge (points_of k vs + elements w.0) (finish w.0)) ws w.1.1 in
     let q : w.0 ≡ ws = cc (f.1) in
     rw q at f.0
 
@@ -103,13 +107,21 @@ leads_into_if z false x y p h = record { by = h.by }
 
 -- ---- operations
 
-abbrev pub BodiesLead : Bodies → Bodies → Type 0
-BodiesLead bs bs' = (i : ℕ) (vs : List Value) → Leads (bs i vs) (bs' i vs)
+-- as many blocks, and each leads
+pub record BodiesLead (bs bs' : Bodies) : Type 0 where
+  pub count : bs.count ≡ bs'.count
+  pub block : (i : ℕ) (vs : List Value) → Leads (bs.block i vs) (bs'.block i vs)
+
+pub none_lead : (n n' : OpName) → BodiesLead (no_body n) (no_body n')
+none_lead n n' = record { count = refl; block = λ i vs. leads_none n _ }
 
 pub first_lead : (b b' : Body) (bs bs' : Bodies) → ((vs : List Value) → Leads (b vs) (b' vs)) → BodiesLead bs bs'
     → BodiesLead (first_body b bs) (first_body b' bs')
-first_lead b b' bs bs' h k zero vs = h vs
-first_lead b b' bs bs' h k (suc i) vs = k i vs
+first_lead b b' bs bs' h k = record { count = ap suc k.count; block = λ i vs. at_region i vs }
+  where
+    at_region : (i : ℕ) (vs : List Value) → Leads ((first_body b bs).block i vs) ((first_body b' bs').block i vs)
+    at_region zero vs = h vs
+    at_region (suc i) vs = k.block i vs
 
 -- what an operation does rests on what it calls, and on its blocks, in one direction
 performed_lead : (a : Action) (n n' : OpName) (c c' : Calls) (bs bs' : Bodies) → CallsLead c c' → BodiesLead bs bs'
@@ -117,15 +129,18 @@ performed_lead : (a : Action) (n n' : OpName) (c c' : Calls) (bs bs' : Bodies) �
 performed_lead (results vs) n n' c c' bs bs' l h = leads_same _
 performed_lead is_undefined n n' c c' bs bs' l h = leads_none n _
 performed_lead (enters i vs more) n n' c c' bs bs' l h =
-    leads_then (bs i vs) (bs' i vs) _ _ (h i vs) (λ ws p. performed_lead (more ws) n n' c c' bs bs' l h)
+    leads_then (bs.block i vs) (bs'.block i vs) _ _ (h.block i vs)
+    (λ ws p. performed_lead (more ws) n n' c c' bs bs' l h)
 performed_lead (calls f vs more) n n' c c' bs bs' l h =
     leads_then (c n f vs) (c' n' f vs) _ _ (l n n' f vs) (λ ws p. performed_lead (more ws) n n' c c' bs bs' l h)
 
 pub does_lead : (k : Kind) (ts : List PayloadType) (n n' : OpName) (c c' : Calls) (bs bs' : Bodies) (vs : List Value)
     → CallsLead c c' → BodiesLead bs bs' → Leads (does c n k ts bs vs) (does c' n' k ts bs' vs)
 does_lead k ts n n' c c' bs bs' vs l h =
-    leads_then (performed c n bs (acts k ts vs)) (performed c' n' bs' (acts k ts vs)) _ _
-    (performed_lead (acts k ts vs) n n' c c' bs bs' l h)
+    leads_then (performed c n bs (acts k bs.count ts vs)) (performed c' n' bs' (acts k bs'.count ts vs)) _ _
+    (subst (λ count. Leads (performed c n bs (acts k bs.count ts vs))
+    (performed c' n' bs' (acts k count ts vs))) h.count
+    (performed_lead (acts k bs.count ts vs) n n' c c' bs bs' l h))
     (λ ws p. leads_fitting n n' ts ts ws _ _ refl (λ q. leads_same _))
 
 pub step_leads : (k k' : Kind) (ts ts' : List PayloadType) (n n' : OpName) (c c' : Calls) (bs bs' : Bodies)

@@ -1,5 +1,6 @@
 -- A module under other names of operations keeps the meaning.
-use Rattle.std.proofs.Common.{◌≡◌, ℕ, suc, ◌+◌, ◌<◌, List, [], ◌∷◌, length, Option, Some, None, Bool, true, false, ◌==◌}
+use Rattle.std.proofs.Common.{◌≡◌, ℕ, suc, ◌+◌, ◌<◌, List, [], ◌∷◌, length, Option, Some, None, Bool, true, false}
+use Rattle.std.proofs.Common.{◌==◌}
 use Rattle.std.proofs.Common.{◌&&◌, refl, ap, sym, subst, ◌∙◌, arith, eq-eqb}
 use Rattle.std.proofs.lemmas.Bool.{eqb-true}
 use Rattle.std.specs.Prelude.{if◌then◌else◌}
@@ -8,8 +9,8 @@ use Rattle.xf_ir.specs.declared.name.ValueName.TheVariants.{Result, Arg, Free}
 use Rattle.xf_ir.specs.declared.op.Module.{Module}
 use Rattle.xf_ir.specs.Lists.{Each}
 use Rattle.xf_ir.specs.Tree.{Ops, no_ops, op, Regions, no_regions, region}
-use Rattle.xf_ir.specs.Places.{below, results_of, args_of}
-use Rattle.xf_ir.specs.Valid.{functions_of, block_of}
+use Rattle.xf_ir.specs.Places.{below, results_of, args_of, FunctionsScoped}
+use Rattle.xf_ir.specs.Valid.{IsValid, functions_of, block_of}
 use Rattle.xf_ir.specs.Renamed.{value_renamed, ops_renamed, regions_renamed, IsRenamed}
 use Rattle.xf_ir.specs.Walk.{tree_names}
 use Rattle.xf_ir.proofs.Lists.{each_map}
@@ -34,14 +35,14 @@ both : (b c b' : Bool) → (b ≡ true → b' ≡ true) → (b && c) ≡ true �
 both true c b' h e = let t = h refl in rw t e
 both false c b' h e = cc
 
-results_follow : (f : OpName → OpName) (n : OpName) (count : ℕ)
+pub results_follow : (f : OpName → OpName) (n : OpName) (count : ℕ)
     → Follows (value_renamed f) (results_of n count) (results_of (f n) count)
 results_follow f n count (Result o num) i e =
     some_if (o.0 == n.0) ((f o).0 == (f n).0) (below num count) i (own_name f o n) e
 results_follow f n count (Arg o r num) i e = cc
 results_follow f n count (Free num) i e = cc
 
-args_follow : (f : OpName → OpName) (n : OpName) (number count : ℕ)
+pub args_follow : (f : OpName → OpName) (n : OpName) (number count : ℕ)
     → Follows (value_renamed f) (args_of n number count) (args_of (f n) number count)
 args_follow f n number count (Result o num) i e = cc
 args_follow f n number count (Arg o r num) i e =
@@ -65,7 +66,8 @@ functions_copy : (f : OpName → OpName) (fs : Ops) → FunctionsCopy (value_ren
 functions_copy f no_ops = tt
 functions_copy f (op n k ds os ts rs rest) = (refl, (regions_copy f n 0 rs, functions_copy f rest))
 
-block_renamed : (f : OpName → OpName) (rs : Regions) → block_of (regions_renamed f rs) ≡ ops_renamed f (block_of rs)
+pub block_renamed : (f : OpName → OpName) (rs : Regions)
+    → block_of (regions_renamed f rs) ≡ ops_renamed f (block_of rs)
 block_renamed f no_regions = refl
 block_renamed f (region args ops rest) = refl
 
@@ -82,14 +84,19 @@ all_below (m ∷ ns) = (
   each_map (λ n. n.0 < above ns) (λ n. n.0 < above (m ∷ ns)) ns (λ n l. omega (arith, l)) (all_below ns),
 )
 
--- a renamed module keeps the meaning: with a next name above its own it is valid, so its values are scoped
-pub renaming_keeps : RenamingKeeps
-renaming_keeps m m' v r =
+-- with a next name above its own a renamed module is valid, so its values are scoped
+pub renamed_scoped : (m m' : Module) → IsValid m → IsRenamed m m' → FunctionsScoped (functions_of m')
+renamed_scoped m m' v r =
     let again : Module = record { root = m'.root; next = above (tree_names m'.root) } in
     let same : IsRenamed m again = record { names = r.names; root = r.root; apart = r.apart } in
-    let valid = renaming_keeps_valid m again v same (all_below (tree_names m'.root)) in
-    let functions : functions_of m' ≡ ops_renamed r.names (functions_of m) = ap (λ t. block_of t.regions) r.root
-    ∙ block_renamed r.names m.root.regions in
-    copying_keeps m m' (value_renamed r.names) (scoped m v) (scoped again valid)
-    (subst (λ fs. FunctionsCopy (value_renamed r.names) (functions_of m) fs) (sym functions)
+    scoped again (renaming_keeps_valid m again v same (all_below (tree_names m'.root)))
+
+pub functions_renamed : (m m' : Module) (r : IsRenamed m m') → functions_of m' ≡ ops_renamed r.names (functions_of m)
+functions_renamed m m' r = ap (λ t. block_of t.regions) r.root ∙ block_renamed r.names m.root.regions
+
+-- a renamed module keeps the meaning
+pub renaming_keeps : RenamingKeeps
+renaming_keeps m m' v r =
+    copying_keeps m m' (value_renamed r.names) (scoped m v) (renamed_scoped m m' v r)
+    (subst (λ fs. FunctionsCopy (value_renamed r.names) (functions_of m) fs) (sym (functions_renamed m m' r))
     (functions_copy r.names (functions_of m)))

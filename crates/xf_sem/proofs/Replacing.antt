@@ -32,7 +32,7 @@ scoped_front no_ops more ss h = tt
 scoped_front (op n k ds os ts rs rest) more ss h =
     (h.0, (h.1.0, (h.1.1.0, scoped_front rest more (done n (length ts) ∷ ss) h.1.1.1)))
 
-visible_more_after : (new : Ops) (ss : List Seen) (v : ValueName) → sees ss v ≡ true
+pub visible_more_after : (new : Ops) (ss : List Seen) (v : ValueName) → sees ss v ≡ true
     → sees (visible_after new ss) v ≡ true
 visible_more_after no_ops ss v h = h
 visible_more_after (op n k ds os ts rs rest) ss v h =
@@ -67,7 +67,8 @@ none_of None b h = refl
 none_of (Some i) b h = cc
 
 shown_for : (o : Option ℕ) (b : Bool) (by : List ValueName) (ss : List Seen) (v : ValueName)
-    → (is_some o || b) ≡ true → ((i : ℕ) → o ≡ Some i → sees ss (item_of o by v) ≡ true) → (b ≡ true → sees ss v ≡ true)
+    → (is_some o || b) ≡ true → ((i : ℕ) → o ≡ Some i → sees ss (item_of o by v) ≡ true)
+    → (b ≡ true → sees ss v ≡ true)
     → sees ss (item_of o by v) ≡ true
 shown_for None b by ss v h f g = g h
 shown_for (Some i) b by ss v h f g = f i refl

@@ -28,8 +28,8 @@ declared_in (op n k ds os ts rs rest) = declared_before k rs (declared_in rest)
 abbrev pub declared : Module → List Declared
 declared m = declared_in (functions_of m)
 
--- both have the same functions with the same types, and where a function of the first returns a list for arguments that
--- fit its types, the second returns the same list, elements that are no number included
+-- both have the same functions with the same types, and where a function of the first returns a list for arguments
+-- that fit its types, the second returns the same list, elements that are no number included
 pub record KeepsMeaning (before after : Module) : Type 0 where
   pub functions : declared before ≡ declared after
   pub returns : (number : ℕ) (f : Declared) (vs ws : List Value) → slice_get (declared before) number ≡ Some f

@@ -1,7 +1,15 @@
 pub mod Values
+pub mod Actions
+pub mod Control
+pub mod Tensors
+pub mod Structured
 pub mod Meaning
 pub mod Keeps
 pub mod Surroundings
 pub mod Copying
 pub mod Replacing
+pub mod Placing
+pub mod StructuredLaws
+pub mod Fitting
+pub mod Defined
 pub mod Laws

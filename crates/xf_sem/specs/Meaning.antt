@@ -1,13 +1,11 @@
 -- What a module means: what its functions return, and in how many units (MLIR language reference: operations, regions,
 -- values).
-use Rattle.std.specs.Prelude.{ℕ, zero, suc, ◌+◌, List, [], ◌∷◌, length, map, Option, Some, None, ◌&&◌, if◌then◌else◌}
+use Rattle.std.specs.Prelude.{ℕ, zero, suc, ◌+◌, List, [], ◌∷◌, length, map, Option, Some, None, if◌then◌else◌}
 use Rattle.std.specs.Prelude.{slice_get, unwrap_or}
 use Rattle.xf_type.specs.declared.payload_type.PayloadType.{PayloadType}
-use Rattle.xf_type.specs.declared.payload_type.Width.{Width}
 use Rattle.xf_type.specs.declared.payload_type.Width.TheVariants.{I1}
-use Rattle.xf_type.specs.declared.payload_type.Elem.{Elem}
 use Rattle.xf_type.specs.declared.payload_type.Elem.TheVariants.{Num, NoNumber}
-use Rattle.xf_type.specs.Integers.{binary, compared, converted, selected}
+use Rattle.xf_type.specs.Integers.{binary, compared, converted}
 use Rattle.xf_ir.specs.declared.name.OpName.{OpName}
 use Rattle.xf_ir.specs.declared.name.ValueName.{ValueName}
 use Rattle.xf_ir.specs.declared.kind.Kind.{Kind}
@@ -20,8 +18,12 @@ use Rattle.xf_ir.specs.Valid.{functions_of}
 use Rattle.xf_ir.specs.Kinds.{is_terminator}
 use Rattle.xf_sem.specs.declared.value.Value.{Value}
 use Rattle.xf_sem.specs.declared.value.Value.TheVariants.{Scalar, Tensor}
-use Rattle.xf_type.specs.Equal.{same_width}
 use Rattle.xf_sem.specs.Values.{fit_types}
+use Rattle.xf_sem.specs.Actions.{Action, results, is_undefined, enters, calls, answered, on_one, on_two, on_choice}
+use Rattle.xf_sem.specs.Control.{on_for, on_if}
+use Rattle.xf_sem.specs.Tensors.{dense_given, empty_given, dim_given, extracted, inserted, slice_given, slice_put}
+use Rattle.xf_sem.specs.Tensors.{cast_given}
+use Rattle.xf_sem.specs.Structured.{named_given, on_generic, points_of}
 
 -- ---- environments
 
@@ -79,16 +81,20 @@ and_then r f = next r.units r.answer f
 abbrev pub Body : Type 0
 Body = List Value → Run (List Value)
 
--- the blocks of an operation, by the numbers of its regions
-abbrev pub Bodies : Type 0
-Bodies = ℕ → Body
+-- the blocks of an operation: how many, and each by the number of its region
+pub record Bodies : Type 0 where
+  pub count : ℕ
+  pub block : ℕ → Body
 
 abbrev pub no_body : OpName → Bodies
-no_body n i vs = undefined n
+no_body n = record { count = 0; block = λ i vs. undefined n }
+
+abbrev pub first_or : Body → (ℕ → Body) → ℕ → Body
+first_or b bs zero vs = b vs
+first_or b bs (suc i) vs = bs i vs
 
 abbrev pub first_body : Body → Bodies → Bodies
-first_body b bs zero vs = b vs
-first_body b bs (suc i) vs = bs i vs
+first_body b bs = record { count = suc bs.count; block = first_or b bs.block }
 
 -- what the function of a symbol returns, called from an operation
 abbrev pub Calls : Type 0
@@ -96,46 +102,37 @@ Calls = OpName → List ℕ → Body
 
 -- ---- operations
 
--- what an operation does with the values of its operands: it gives its results, or is undefined, or it enters the block
--- of one of its regions or calls a function, and goes on with what that gives. A loop enters its block once a turn.
-pub data Action : Type 0 where
-  results : (values : List Value) → Action
-  is_undefined : Action
-  enters : (number : ℕ) (args : List Value) (more : List Value → Action) → Action
-  calls : (symbol : List ℕ) (args : List Value) (more : List Value → Action) → Action
-
-abbrev pub on_one : Width → (Elem → Value) → List Value → Action
-on_one width f (Scalar own a ∷ []) = if same_width own width then results (f a ∷ []) else is_undefined
-on_one width f _ = is_undefined
-
-abbrev pub on_two : Width → (Elem → Elem → Value) → List Value → Action
-on_two width f (Scalar left a ∷ Scalar right b ∷ []) =
-    if same_width left width && same_width right width then results (f a b ∷ []) else is_undefined
-on_two width f _ = is_undefined
-
--- the condition has the width I1; what is not chosen is not looked at
-abbrev pub on_choice : Width → List Value → Action
-on_choice width (Scalar one c ∷ Scalar left a ∷ Scalar right b ∷ []) =
-    if same_width one I1 && (same_width left width && same_width right width)
-    then results (Scalar width (selected c a b) ∷ []) else is_undefined
-on_choice width _ = is_undefined
-
--- the table of the kinds, from the types of an operation's results and the values of its operands; a terminator gives
--- its operands and never comes here. The operations of scf, tensor and linalg have no rows yet, so what holds one is
--- undefined where that is reached.
-abbrev pub acts : Kind → List PayloadType → List Value → Action
-acts (kind.Constant width bits) ts vs = results (Scalar width (Num bits) ∷ [])
-acts (kind.Binary which width) ts vs = on_two width (λ a b. Scalar width (binary which width a b)) vs
-acts (kind.Compare which width) ts vs = on_two width (λ a b. Scalar I1 (compared which width a b)) vs
-acts (kind.Select width) ts vs = on_choice width vs
-acts (kind.Convert which source target) ts vs = on_one source (λ a. Scalar target (converted which source target a)) vs
-acts (kind.Call callee) ts vs = calls callee vs results
-acts _ ts vs = is_undefined
+-- the table of the kinds, from the number of an operation's regions, the types of its results and the values of its
+-- operands; a terminator gives its operands and never comes here. What an operation does in a body of linalg rests on
+-- the elements that are read at a point, not on the point. An operation that gives a coordinate will need the point
+-- itself: the action of its generic will hand it to the block beside the arguments, and the block's environment will
+-- keep it, where it is no value and no operand names it.
+abbrev pub acts : Kind → ℕ → List PayloadType → List Value → Action
+acts (kind.Constant width bits) regions ts vs = results (Scalar width (Num bits) ∷ [])
+acts (kind.Dense shape numbers) regions ts vs = answered (dense_given shape numbers)
+acts (kind.Binary which width) regions ts vs = on_two width (λ a b. Scalar width (binary which width a b)) vs
+acts (kind.Compare which width) regions ts vs = on_two width (λ a b. Scalar I1 (compared which width a b)) vs
+acts (kind.Select width) regions ts vs = on_choice width vs
+acts (kind.Convert which source target) regions ts vs =
+    on_one source (λ a. Scalar target (converted which source target a)) vs
+acts (kind.Call callee) regions ts vs = calls callee vs results
+acts (kind.For width) regions ts vs = on_for width vs
+acts kind.If regions ts vs = on_if regions vs
+acts kind.Empty regions ts vs = answered (empty_given ts vs)
+acts kind.Dim regions ts vs = answered (dim_given vs)
+acts kind.Extract regions ts vs = answered (extracted vs)
+acts kind.Insert regions ts vs = answered (inserted vs)
+acts (kind.ExtractSlice offsets lengths) regions ts vs = answered (slice_given offsets lengths vs)
+acts (kind.InsertSlice offsets lengths) regions ts vs = answered (slice_put offsets lengths vs)
+acts kind.Cast regions ts vs = answered (cast_given ts vs)
+acts (kind.Named which) regions ts vs = answered (named_given which vs)
+acts (kind.Generic maps iterators) regions ts vs = on_generic maps iterators vs
+acts _ regions ts vs = is_undefined
 
 abbrev pub performed : Calls → OpName → Bodies → Action → Run (List Value)
 performed c n bodies (results vs) = finish vs
 performed c n bodies is_undefined = undefined n
-performed c n bodies (enters i vs more) = and_then (bodies i vs) (λ ws. performed c n bodies (more ws))
+performed c n bodies (enters i vs more) = and_then (bodies.block i vs) (λ ws. performed c n bodies (more ws))
 performed c n bodies (calls f vs more) = and_then (c n f vs) (λ ws. performed c n bodies (more ws))
 
 -- the run goes on only with values that fit these types; with others the operation is undefined
@@ -147,11 +144,12 @@ elements [] = 0
 elements (Scalar width elem ∷ vs) = elements vs
 elements (Tensor width shape elems ∷ vs) = length elems + elements vs
 
--- an operation's results, with a unit for each element of a tensor among them; it is undefined where they do not fit
--- its types, as those of a constant or a binary operation in a valid module always do
+-- an operation's results, with a unit for each point of a structured operation and for each element of a tensor among
+-- the results, when it ends. It is undefined where they do not fit its types; in a valid module they always do.
 abbrev pub does : Calls → OpName → Kind → List PayloadType → Bodies → List Value → Run (List Value)
 does c n k ts bodies vs =
-    and_then (performed c n bodies (acts k ts vs)) (λ ws. where_fit n ts ws (charge (elements ws) (finish ws)))
+    and_then (performed c n bodies (acts k bodies.count ts vs))
+    (λ ws. where_fit n ts ws (charge (points_of k vs + elements ws) (finish ws)))
 
 -- an operation, for a unit, and then the rest of its block
 abbrev pub step : Calls → OpName → Kind → List PayloadType → Bodies → List Value → Body → Run (List Value)
@@ -185,7 +183,7 @@ called _ f here later vs = later vs
 abbrev pub returned : Calls → Ops → Calls
 returned c no_ops caller f vs = undefined caller
 returned c (op n k ds os ts rs rest) caller f vs =
-    called k f (bodies_of c n 0 rs nowhere 0) (returned c rest caller f) vs
+    called k f ((bodies_of c n 0 rs nowhere).block 0) (returned c rest caller f) vs
 
 -- with calls nested so deep
 abbrev pub calls_to : ℕ → Ops → Calls

@@ -8,7 +8,7 @@ use Rattle.xf_ir.specs.declared.kind.Attr.{Attr}
 use Rattle.xf_ir.specs.declared.op.Module.{Module}
 use Rattle.xf_ir.specs.Tree.{Ops, no_ops, op, Regions}
 use Rattle.xf_ir.specs.Lists.{Each}
-use Rattle.xf_ir.specs.Places.{results_of, Seen, done, sees, OpsScoped}
+use Rattle.xf_ir.specs.Places.{results_of, Seen, done, sees, AllSeen, OpsScoped, RegionsScoped}
 use Rattle.xf_ir.specs.Valid.{functions_of}
 use Rattle.xf_ir.specs.Kinds.{is_terminator}
 use Rattle.xf_ir.specs.Uses.{ops_operands}
@@ -58,6 +58,26 @@ pub record Replaces (new : Ops) (by : List ValueName) (s : Context) (n : OpName)
       → Each (IsVisible (visible s)) s.earlier → CallsLead c c' → IsGiven c s e
       → (does c n k ts (bodies_of c n 0 rs e) (map e os)).answer ≡ gives vs
       → (e' : Env) × (((env_after c' new e).answer ≡ gives e') × AreHeld by n (length ts) vs e' rest)
+
+-- what may replace an operation whatever stands behind it: wherever the operation gives values, in an environment that
+-- an execution gives there, the new operations go through, and behind them these values are what it gave
+pub record GivesSame (new : Ops) (by : List ValueName) (s : Context) (n : OpName) (k : Kind) (os : List ValueName)
+    (ts : List PayloadType) (rs : Regions) : Type 0 where
+  pub goes : is_terminator k ≡ false
+  pub plain : EndNoBlock new
+  pub many : length by ≡ length ts
+  pub shown : Each (IsVisible (visible s)) s.earlier → AllSeen (visible_after new (visible s)) by
+  pub same : (c c' : Calls) (e : Env) (vs : List Value)
+      → AllSeen (visible s) os → RegionsScoped (visible s) n 0 rs → OpsScoped (visible s) new
+      → Each (IsVisible (visible s)) s.earlier → CallsLead c c' → IsGiven c s e
+      → (does c n k ts (bodies_of c n 0 rs e) (map e os)).answer ≡ gives vs
+      → (e' : Env) × (((env_after c' new e).answer ≡ gives e') × (vs ≡ map e' by))
+
+-- what gives the same values may stand in the place of an operation
+abbrev pub SameReplaces : Type 0
+SameReplaces = (new : Ops) (by : List ValueName) (s : Context) (n : OpName) (k : Kind) (ds : List Attr)
+    (os : List ValueName) (ts : List PayloadType) (rs : Regions) (rest : Ops)
+    → GivesSame new by s n k os ts rs → Replaces new by s n k ds os ts rs rest
 
 abbrev pub ReplacesHere : Ops → List ValueName → Context → Ops → Type 0
 ReplacesHere new by s no_ops = Unit {0}

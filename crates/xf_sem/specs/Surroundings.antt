@@ -7,12 +7,13 @@ use Rattle.xf_ir.specs.declared.name.ValueName.{ValueName}
 use Rattle.xf_ir.specs.declared.op.Module.{Module}
 use Rattle.xf_ir.specs.Tree.{Ops, no_ops, op, Regions, no_regions, region, Tree}
 use Rattle.xf_ir.specs.Lists.{Each}
-use Rattle.xf_ir.specs.Places.{results_of, Seen, done, inside, sees, AllSeen, OpsScoped, FunctionsScoped}
+use Rattle.xf_ir.specs.Places.{results_of, Seen, done, inside, sees, AllSeen, OpsScoped, RegionsScoped}
+use Rattle.xf_ir.specs.Places.{FunctionsScoped}
 use Rattle.xf_ir.specs.Valid.{Typed, type_at, functions_of}
 use Rattle.xf_ir.specs.Edits.{tree_at}
 use Rattle.xf_sem.specs.declared.value.Value.{Value}
 use Rattle.xf_sem.specs.Values.{IsValue, FitsType}
-use Rattle.xf_sem.specs.Meaning.{Env, item, gives, Run, no_body, Calls, does, ops_run}
+use Rattle.xf_sem.specs.Meaning.{Env, item, gives, Run, Calls, does, ops_run, bodies_of}
 use Rattle.xf_sem.specs.Keeps.{KeepsMeaning}
 
 -- ---- the order of runs
@@ -26,8 +27,8 @@ CallsLead c c' = (caller caller' : OpName) (f : List ℕ) (vs : List Value) → 
 
 -- ---- what surrounds an operation
 
--- the values that are visible, with their types, and the operations without regions that stand before, in its block or
--- in an enclosing one
+-- the values that are visible, with their types, and the operations that stand before, in its block or in an enclosing
+-- one
 pub record Context : Type 0 where
   pub types : Typed
   pub earlier : List Tree
@@ -43,35 +44,34 @@ visible s = places s.types
 abbrev pub outside : Context
 outside = record { types = []; earlier = [] }
 
-abbrev pub with_earlier : Regions → Tree → List Tree → List Tree
-with_earlier no_regions t ts = t ∷ ts
-with_earlier (region args ops rest) t ts = ts
-
 -- behind an operation
 abbrev pub behind : Context → Tree → Context
-behind s t = record {
-  types = (done t.name (length t.results), t.results) ∷ s.types;
-  earlier = with_earlier t.regions t s.earlier;
-}
+behind s t = record { types = (done t.name (length t.results), t.results) ∷ s.types; earlier = t ∷ s.earlier }
 
 -- in the block of a region
 abbrev pub within : Context → OpName → ℕ → List PayloadType → Context
 within s n i args = record { types = (inside n i (length args), args) ∷ s.types; earlier = s.earlier }
 
--- operands and results of the earlier operations are visible
+-- an earlier operation sees what it uses, in its regions too, under what was visible where it stands; all that is
+-- visible here too, and so are its results
 pub record IsVisible (ss : List Seen) (t : Tree) : Type 0 where
-  pub operands : AllSeen ss t.operands
+  pub scope : List Seen
+  pub seen : (v : ValueName) → sees scope v ≡ true → sees ss v ≡ true
+  pub operands : AllSeen scope t.operands
+  pub regions : RegionsScoped scope t.name 0 t.regions
   pub results : (v : ValueName) (i : ℕ) → results_of t.name (length t.results) v ≡ Some i → sees ss v ≡ true
 
--- an earlier operation's results are what it gives
+-- an earlier operation's results are what it gives: an earlier loop, if, generic or call has given its own too
 pub record HasRun (c : Calls) (e : Env) (t : Tree) : Type 0 where
   pub values : List Value
-  pub gave : (does c t.name t.kind t.results (no_body t.name) (map e t.operands)).answer ≡ gives values
+  pub gave : (does c t.name t.kind t.results (bodies_of c t.name 0 t.regions e) (map e t.operands)).answer
+      ≡ gives values
   pub held : (v : ValueName) (i : ℕ) → results_of t.name (length t.results) v ≡ Some i → e v ≡ item values i
 
 -- what each environment that an execution gives at a site meets: visible values fit their types, and the earlier
--- operations have run
+-- operations have run; and a function returns the same, whoever calls it
 pub record IsGiven (c : Calls) (s : Context) (e : Env) : Type 0 where
+  pub alike : CallsLead c c
   pub fits : (v : ValueName) (t : PayloadType) → type_at s.types v ≡ Some t → IsValue (e v) × FitsType (e v) t
   pub earlier : Each (HasRun c e) s.earlier
 

@@ -1,5 +1,5 @@
 -- The values of a payload, and the types that they fit.
-use Rattle.std.specs.Prelude.{◌≡◌, ℕ, ◌*◌, ◌^◌, ◌<◌, List, [], ◌∷◌, length, Bool, true, false, ◌==◌, ◌&&◌, nat_lt}
+use Rattle.std.specs.Prelude.{◌≡◌, ℕ, ◌^◌, ◌<◌, List, [], ◌∷◌, length, Bool, true, false, ◌==◌, ◌&&◌, nat_lt}
 use Rattle.xf_type.specs.declared.payload_type.PayloadType.{PayloadType}
 use Rattle.xf_type.specs.declared.payload_type.PayloadType.TheVariants as type_of
 use Rattle.xf_type.specs.declared.payload_type.Width.{Width}
@@ -9,13 +9,10 @@ use Rattle.xf_type.specs.declared.payload_type.Dim.{Dim}
 use Rattle.xf_type.specs.declared.payload_type.Dim.TheVariants.{Fixed, Dynamic}
 use Rattle.xf_type.specs.Equal.{same_width}
 use Rattle.xf_type.specs.Integers.{bits_of, FitsWidth}
-use Rattle.xf_ir.specs.Lists.{Each}
+use Rattle.xf_ir.specs.Lists.{Each, every}
+use Rattle.xf_points.specs.Points.{product}
 use Rattle.xf_sem.specs.declared.value.Value.{Value}
 use Rattle.xf_sem.specs.declared.value.Value.TheVariants.{Scalar, Tensor}
-
-abbrev pub product : List ℕ → ℕ
-product [] = 1
-product (n ∷ ns) = n * product ns
 
 -- numbers are below 2 ^ bits of the width, sizes below 2 ^ 31, and there are as many elements as the product of the
 -- sizes
@@ -50,10 +47,6 @@ FitTypes (v ∷ vs) [] = ⊥
 FitTypes (v ∷ vs) (t ∷ ts) = (IsValue v × FitsType v t) × FitTypes vs ts
 
 -- ---- the same as tests
-
-abbrev pub every : {A : Type 0} → (A → Bool) → List A → Bool
-every p [] = true
-every p (x ∷ xs) = p x && every p xs
 
 abbrev pub fits_width : Width → Elem → Bool
 fits_width width (Num n) = nat_lt n (2 ^ bits_of width)

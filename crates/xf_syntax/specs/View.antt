@@ -16,7 +16,7 @@ nodes_of [] = no_nodes
 nodes_of (t ∷ ts) = cons t (nodes_of ts)
 
 abbrev pub tree_of : Inside → Tree Parts
-tree_of a = tree a.first a.parts (bodies_of a.bodies.items)
+tree_of a = tree a.first a.parts.value (bodies_of a.bodies.items)
 
 abbrev pub block_of : BodyInside → Block Parts
 block_of b = block (nodes_of b.nodes.items) b.close

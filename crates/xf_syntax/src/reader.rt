@@ -118,7 +118,7 @@ fn body_at(
     if depth >= MOST_OPEN {
         return Err(Stopped::At(at, Expected::NestLimit));
     }
-    let next = slots_at(tokens, row_header(row), parts, at + 1)?;
+    let next = slots_at(alloc, tokens, row_header(row), parts, at + 1)?;
     let (nodes, close) = nodes_at(alloc, tokens, inside(row), depth + 1, count, next)?;
     let next = shut(tokens, parts, nodes.as_slice(), count, close)?;
     Ok((Body { nodes, close }, next))
@@ -204,7 +204,8 @@ fn node_at(
     *count += 1;
     let row = parts.row;
     let (bodies, next) = bodies_at(alloc, tokens, row, &mut parts, depth, count, next)?;
-    let next = slots_at(tokens, row_tail(row), &mut parts, next)?;
+    let next = slots_at(alloc, tokens, row_tail(row), &mut parts, next)?;
+    let parts = Box::new(alloc, parts)?;
     Ok((
         SyntaxNode {
             first: at,
@@ -273,7 +274,7 @@ fn file(alloc: Global, tokens: &[Token]) -> Result<File, Stopped>
     ended(tokens, Expected::Function, close)?;
     let mut bodies = Vec::with_capacity(alloc, 1)?;
     bodies.push(Body { nodes, close })?;
-    let parts = Parts::new(alloc, Row::Module);
+    let parts = Box::new(alloc, Parts::new(alloc, Row::Module))?;
     Ok(File {
         written: false,
         root: SyntaxNode {

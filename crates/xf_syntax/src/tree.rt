@@ -4,12 +4,13 @@ use std::marker::Model;
 use xf_format::Parts;
 
 /// An operation: the number of its first token, the names of its results included; its parts, with
-/// those that stand in the headers of its bodies and behind them; and its bodies.
+/// those that stand in the headers of its bodies and behind them; and its bodies. The parts stand
+/// apart, so that what walks over a list of operations frees most of one as soon as it is done with.
 #[cycle(syntax)]
 #[derive(Drop)]
 pub struct SyntaxNode {
     pub first: usize,
-    pub parts: Parts,
+    pub parts: Box<Parts>,
     pub bodies: Vec<Body>,
 }
 

@@ -1,4 +1,5 @@
-//! Operations on tensors, which no text spells yet: what the verifier says of them, and their printed form.
+//! Operations on tensors, of which no text spells slices, generic and dense constants yet: what the verifier says of
+//! them, and their printed form.
 
 use crate::trees::{block, function, one_type, operation};
 use std::alloc::Global;

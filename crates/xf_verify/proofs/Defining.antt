@@ -18,7 +18,7 @@ use Rattle.xf_ir.specs.Types.{last_type}
 use Rattle.xf_verify.specs.declared.scope.Definition.{Definition}
 use Rattle.xf_verify.specs.declared.scope.Definition.TheVariants.{Results, Arguments}
 use Rattle.xf_verify.specs.Visible.{Definitions, no_definitions, with_definition, without, result_type, argument_type}
-use Rattle.xf_verify.specs.Visible.{type_among}
+use Rattle.xf_verify.specs.Visible.{type_among, has_types, definition_of}
 use Rattle.xf_rules.specs.OperandTypes.{operand_type, operand_types}
 use Rattle.xf_verify.specs.Judged.{Sees, sees_with}
 
@@ -43,39 +43,63 @@ item_or ts i later e = item_at ts i later e (nat_lt i (length ts)) refl
 at_own : (ds : Definitions) (n o : OpName) → ds n.0 ≡ None → eqb o.0 n.0 ≡ true → ds o.0 ≡ None
 at_own ds n o e h = ap ds (eqb-true o.0 n.0 h) ∙ e
 
+-- the types of values that become visible, of which there may be none
+result_of : (xs : List PayloadType) (ts : Bor (List PayloadType)) (i : ℕ) → ts.now ≡ xs
+    → result_type (definition_of xs (Results ts)) i ≡ slice_get xs i
+result_of [] ts i e = refl
+result_of (x ∷ xs) ts i e = ap (λ l. slice_get l i) e
+
+no_argument : (xs : List PayloadType) (ts : Bor (List PayloadType)) (r i : ℕ)
+    → argument_type (definition_of xs (Results ts)) r i ≡ None
+no_argument [] ts r i = refl
+no_argument (x ∷ xs) ts r i = refl
+
+no_result : (s : ℕ) (xs : List PayloadType) (ts : Bor (List PayloadType)) (i : ℕ)
+    → result_type (definition_of xs (Arguments s ts)) i ≡ None
+no_result s [] ts i = refl
+no_result s (x ∷ xs) ts i = refl
+
+argument_of : (s : ℕ) (xs : List PayloadType) (ts : Bor (List PayloadType)) (r i : ℕ) (b : Bool) → ts.now ≡ xs
+    → eqb r s ≡ b → argument_type (definition_of xs (Arguments s ts)) r i ≡ (if b then slice_get xs i else None)
+argument_of s [] ts r i true e h = refl
+argument_of s [] ts r i false e h = refl
+argument_of s (x ∷ xs) ts r i b e h = (λ j. if h j then slice_get (e j) i else None)
+
 module _ (ds : Definitions) (n : OpName) (ts : Bor (List PayloadType)) (new : ds n.0 ≡ None)
   where
     result_here : (o : OpName) (i : ℕ) (b : Bool) → eqb o.0 n.0 ≡ b →
-        result_type (if b then Some (Results ts) else ds o.0) i
+        result_type (if b then definition_of ts.now (Results ts) else ds o.0) i
         ≡ type_or (if b then below i (length ts.now) else None) ts.now (result_type (ds o.0) i)
-    result_here o i true h = item_or ts.now i (result_type (ds o.0) i) (ap (λ d. result_type d i) (at_own ds n o new h))
+    result_here o i true h = result_of ts.now ts i refl
+        ∙ item_or ts.now i (result_type (ds o.0) i) (ap (λ d. result_type d i) (at_own ds n o new h))
     result_here o i false h = refl
 
     argument_there : (o : OpName) (r i : ℕ) (b : Bool) → eqb o.0 n.0 ≡ b
-        → argument_type (if b then Some (Results ts) else ds o.0) r i ≡ argument_type (ds o.0) r i
-    argument_there o r i true h = sym (ap (λ d. argument_type d r i) (at_own ds n o new h))
+        → argument_type (if b then definition_of ts.now (Results ts) else ds o.0) r i ≡ argument_type (ds o.0) r i
+    argument_there o r i true h =
+        no_argument ts.now ts r i ∙ sym (ap (λ d. argument_type d r i) (at_own ds n o new h))
     argument_there o r i false h = refl
 
     -- results of an operation become visible
-    pub results_enter : type_among (with_definition n.0 (Some (Results ts)) ds)
+    pub results_enter : type_among (with_definition n.0 (definition_of ts.now (Results ts)) ds)
         ≡ sees_with (results_of n (length ts.now)) ts.now (type_among ds)
     results_enter = same_sees _ _ (at_value)
       where
-        at_value : (v : ValueName) → type_among (with_definition n.0 (Some (Results ts)) ds) v
+        at_value : (v : ValueName) → type_among (with_definition n.0 (definition_of ts.now (Results ts)) ds) v
             ≡ sees_with (results_of n (length ts.now)) ts.now (type_among ds) v
         at_value (Result o i) = result_here o i (eqb o.0 n.0) refl
         at_value (Arg o r i) = argument_there o r i (eqb o.0 n.0) refl
         at_value (Free i) = refl
 
     result_there : (s : ℕ) (o : OpName) (i : ℕ) (b : Bool) → eqb o.0 n.0 ≡ b
-        → result_type (if b then Some (Arguments s ts) else ds o.0) i ≡ result_type (ds o.0) i
-    result_there s o i true h = sym (ap (λ d. result_type d i) (at_own ds n o new h))
+        → result_type (if b then definition_of ts.now (Arguments s ts) else ds o.0) i ≡ result_type (ds o.0) i
+    result_there s o i true h = no_result s ts.now ts i ∙ sym (ap (λ d. result_type d i) (at_own ds n o new h))
     result_there s o i false h = refl
 
     argument_here : (s : ℕ) (o : OpName) (r i : ℕ) (b : Bool) → eqb o.0 n.0 ≡ b →
-        argument_type (if b then Some (Arguments s ts) else ds o.0) r i
+        argument_type (if b then definition_of ts.now (Arguments s ts) else ds o.0) r i
         ≡ type_or (if (b && eqb r s) then below i (length ts.now) else None) ts.now (argument_type (ds o.0) r i)
-    argument_here s o r i true h = inside s o r i h (eqb r s)
+    argument_here s o r i true h = argument_of s ts.now ts r i (eqb r s) refl refl ∙ inside s o r i h (eqb r s)
       where
         inside : (s : ℕ) (o : OpName) (r i : ℕ) → eqb o.0 n.0 ≡ true → (c : Bool) →
             (if c then slice_get ts.now i else None)
@@ -86,11 +110,12 @@ module _ (ds : Definitions) (n : OpName) (ts : Bor (List PayloadType)) (new : ds
     argument_here s o r i false h = refl
 
     -- arguments of a block become visible
-    pub arguments_enter : (s : ℕ) → type_among (with_definition n.0 (Some (Arguments s ts)) ds)
+    pub arguments_enter : (s : ℕ) → type_among (with_definition n.0 (definition_of ts.now (Arguments s ts)) ds)
         ≡ sees_with (args_of n s (length ts.now)) ts.now (type_among ds)
     arguments_enter s = same_sees _ _ (at_value s)
       where
-        at_value : (s : ℕ) (v : ValueName) → type_among (with_definition n.0 (Some (Arguments s ts)) ds) v
+        at_value : (s : ℕ) (v : ValueName) → type_among (with_definition n.0 (definition_of ts.now (Arguments s ts))
+            ds) v
             ≡ sees_with (args_of n s (length ts.now)) ts.now (type_among ds) v
         at_value s (Result o i) = result_there s o i (eqb o.0 n.0) refl
         at_value s (Arg o r i) = argument_here s o r i (eqb o.0 n.0) refl
@@ -115,18 +140,32 @@ some_both p (x ∷ xs) ys = at_first (p x) (some p xs) (some p ys) (some_both p 
     at_first true d e h = refl
     at_first false d e h = h
 
--- one operation more was left, and its values with it
-left_at : (b c : Bool) (q n : ℕ) (d : Option Definition) (ds : Definitions) → ds n ≡ None → eqb q n ≡ c
-    → (if (b || (c || false)) then None else (if c then d else ds q)) ≡ (if b then None else ds q)
-left_at true c q n d ds e h = refl
-left_at false true q n d ds e h = sym (ap ds (eqb-true q n h) ∙ e)
-left_at false false q n d ds e h = refl
+-- an operation without values becomes visible by nothing
+not_entered_at : (b : Bool) (q n : ℕ) (ds : Definitions) → ds n ≡ None → eqb q n ≡ b
+    → ds q ≡ (if b then None else ds q)
+not_entered_at true q n ds e h = ap ds (eqb-true q n h) ∙ e
+not_entered_at false q n ds e h = refl
 
-pub left_more : (ts : List Tree) (t : Tree) (d : Option Definition) (ds : Definitions) → ds t.name.0 ≡ None
-    → without (ts ++ t ∷ []) (with_definition t.name.0 d ds) ≡ without ts ds
+pub not_entered : (n : ℕ) (ds : Definitions) → ds n ≡ None → ds ≡ with_definition n None ds
+not_entered n ds e = same_definitions _ _ (λ q. not_entered_at (eqb q n) q n ds e refl)
+
+-- one operation more was left, and its values with it
+left_at : (a b c : Bool) (q n : ℕ) (d : Definition) (ds : Definitions) → ds n ≡ None → eqb q n ≡ c
+    → (if (b || ((a && c) || false)) then None else (if c then (if a then Some d else None) else ds q))
+    ≡ (if b then None else ds q)
+left_at a true c q n d ds e h = refl
+left_at true false true q n d ds e h = sym (ap ds (eqb-true q n h) ∙ e)
+left_at false false true q n d ds e h = sym (ap ds (eqb-true q n h) ∙ e)
+left_at true false false q n d ds e h = refl
+left_at false false false q n d ds e h = refl
+
+pub left_more : (ts : List Tree) (t : Tree) (d : Definition) (ds : Definitions) → ds t.name.0 ≡ None
+    → without (ts ++ t ∷ []) (with_definition t.name.0 (definition_of t.results d) ds) ≡ without ts ds
 left_more ts t d ds e = same_definitions _ _ (λ q.
-    ap (λ b. if b then None else with_definition t.name.0 d ds q) (some_both (λ (x : Tree). eqb q x.name.0) ts (t ∷ []))
-    ∙ left_at (some (λ (x : Tree). eqb q x.name.0) ts) (eqb q t.name.0) q t.name.0 d ds e refl)
+    ap (λ b. if b then None else with_definition t.name.0 (definition_of t.results d) ds q)
+    (some_both (λ (x : Tree). has_types x.results && eqb q x.name.0) ts (t ∷ []))
+    ∙ left_at (has_types t.results) (some (λ (x : Tree). has_types x.results && eqb q x.name.0) ts) (eqb q t.name.0) q
+    t.name.0 d ds e refl)
 
 first_left_at : (b c : Bool) (x : Option Definition)
     → (if (b || c) then None else x) ≡ (if c then None else (if b then None else x))
@@ -134,11 +173,17 @@ first_left_at true true x = refl
 first_left_at true false x = refl
 first_left_at false c x = refl
 
+first_left_by : (a : Bool) (n : ℕ) (ts : List Tree) (ds : Definitions) (q : ℕ)
+    → (if ((a && eqb q n) || some (λ (x : Tree). has_types x.results && eqb q x.name.0) ts) then None else ds q)
+    ≡ without ts (if a then with_definition n None ds else ds) q
+first_left_by true n ts ds q =
+    first_left_at (eqb q n) (some (λ (x : Tree). has_types x.results && eqb q x.name.0) ts) (ds q)
+first_left_by false n ts ds q = refl
+
 -- the first of some operations is left, and then the others
 pub first_left : (t : Tree) (ts : List Tree) (ds : Definitions)
-    → without (t ∷ ts) ds ≡ without ts (with_definition t.name.0 None ds)
-first_left t ts ds =
-    same_definitions _ _ (λ q. first_left_at (eqb q t.name.0) (some (λ (x : Tree). eqb q x.name.0) ts) (ds q))
+    → without (t ∷ ts) ds ≡ without ts (if has_types t.results then with_definition t.name.0 None ds else ds)
+first_left t ts ds = same_definitions _ _ (first_left_by (has_types t.results) t.name.0 ts ds)
 
 -- an operation whose values were not visible is left
 back_at : (b : Bool) (q n : ℕ) (d : Option Definition) (ds : Definitions) → ds n ≡ None → eqb q n ≡ b
@@ -146,12 +191,15 @@ back_at : (b : Bool) (q n : ℕ) (d : Option Definition) (ds : Definitions) → 
 back_at true q n d ds e h = sym (ap ds (eqb-true q n h) ∙ e)
 back_at false q n d ds e h = refl
 
-pub entered_left : (n : ℕ) (d : Option Definition) (ds : Definitions) → ds n ≡ None
-    → with_definition n None (with_definition n d ds) ≡ ds
-entered_left n d ds e = same_definitions _ _ (λ q. back_at (eqb q n) q n d ds e refl)
+pub entered_left : (b : Bool) (n : ℕ) (d : Definition) (ds : Definitions) → ds n ≡ None
+    → (if b then with_definition n None (with_definition n (if b then Some d else None) ds)
+    else with_definition n (if b then Some d else None) ds) ≡ ds
+entered_left true n d ds e = same_definitions _ _ (λ q. back_at (eqb q n) q n (Some d) ds e refl)
+entered_left false n d ds e = sym (not_entered n ds e)
 
 pub leave_on : (ts : List Tree) (i : ℕ) (t : Tree) → t ≡ get_or ts i t → i < length ts → (ds es total : Definitions)
-    → es ≡ with_definition t.name.0 None ds → without (drop i ts) ds ≡ total → without (drop (i + 1) ts) es ≡ total
+    → es ≡ (if has_types t.results then with_definition t.name.0 None ds else ds) → without (drop i ts) ds ≡ total
+    → without (drop (i + 1) ts) es ≡ total
 leave_on ts i t is lt ds es total e h =
     ap (without (drop (i + 1) ts)) e ∙ sym (first_left t (drop (i + 1) ts) ds)
     ∙ ap (λ x. without (x ∷ drop (i + 1) ts) ds) is ∙ sym (at_drop_more (λ xs. without xs ds) ts i t lt) ∙ h

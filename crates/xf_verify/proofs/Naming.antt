@@ -1,6 +1,6 @@
 -- The names before an operation, and the operations whose values are visible.
 use Rattle.std.proofs.Common.{◌≡◌, ℕ, List, [], ◌∷◌, ◌++◌, Bool, true, false, eqb, Option, None, refl, sym, ap, ◌∙◌}
-use Rattle.std.specs.Prelude.{if◌then◌else◌, is_some, ◌||◌}
+use Rattle.std.specs.Prelude.{if◌then◌else◌, is_some, ◌||◌, ◌&&◌}
 use Rattle.std.specs.Cmp.{nat_cmp_total, unsigned_tied}
 use Rattle.std.specs.FinSet as set
 use Rattle.std.proofs.lemmas.Bool.{eqb-true, eq-eqb, or_right}
@@ -8,7 +8,7 @@ use Rattle.xf_ir.specs.Tree.{Tree}
 use Rattle.xf_ir.specs.Lists.{some}
 use Rattle.xf_ir.specs.Placed.{Placed}
 use Rattle.xf_verify.specs.declared.scope.Definition.{Definition}
-use Rattle.xf_verify.specs.Visible.{Definitions, no_definitions, with_definition, without}
+use Rattle.xf_verify.specs.Visible.{Definitions, no_definitions, with_definition, without, has_types}
 use Rattle.xf_verify.specs.Judged.{Names, names_behind}
 use Rattle.xf_verify.proofs.Truths.{is_none_from}
 
@@ -59,7 +59,10 @@ without_at true x h = absurd (cc)
 without_at false x h = h
 
 pub without_named : (ts : List Tree) (ds : Definitions) (names : Names) → Named ds names → Named (without ts ds) names
-without_named ts ds names h = λ q s. h q (without_at (some (λ (t : Tree). eqb q t.name.0) ts) (ds q) s)
+without_named ts ds names h = λ q s. h q (without_at (some (λ (t : Tree). has_types t.results && eqb q t.name.0) ts)
+    (ds q) s)
 
-pub left_named : (ds : Definitions) (names : Names) (n : ℕ) → Named ds names → Named (with_definition n None ds) names
-left_named ds names n h = λ q s. h q (without_at (eqb q n) (ds q) s)
+pub left_named : (b : Bool) (ds : Definitions) (names : Names) (n : ℕ) → Named ds names
+    → Named (if b then with_definition n None ds else ds) names
+left_named true ds names n h = λ q s. h q (without_at (eqb q n) (ds q) s)
+left_named false ds names n h = h

@@ -1,5 +1,5 @@
 -- The walk over the operations of a block, the regions of an operation and the functions of the root, one step on.
-use Rattle.std.proofs.Common.{◌≡◌, ℕ, ◌+◌, ◌<◌, List, [], ◌∷◌, ◌++◌, length, get_or, take, drop, Option, None, Some}
+use Rattle.std.proofs.Common.{◌≡◌, ℕ, ◌+◌, ◌<◌, List, [], ◌∷◌, ◌++◌, length, get_or, take, drop, Option, None}
 use Rattle.std.proofs.Common.{true, Bor, sym, ap, subst, ◌∙◌}
 use Rattle.std.specs.Prelude.{Err, map}
 use Rattle.std.specs.FinSet as set
@@ -15,7 +15,7 @@ use Rattle.xf_verify.specs.declared.fault.VerifyFault.{VerifyFault}
 use Rattle.xf_verify.specs.declared.facts.Facts.{Facts}
 use Rattle.xf_verify.specs.declared.scope.Definition.{Definition}
 use Rattle.xf_verify.specs.declared.scope.Definition.TheVariants.{Results, Arguments}
-use Rattle.xf_verify.specs.Visible.{Definitions, with_definition, without, type_among}
+use Rattle.xf_verify.specs.Visible.{Definitions, with_definition, without, definition_of, type_among}
 use Rattle.xf_verify.specs.Judged.{Sees, sees_with, stands, all_stand, tree_stands, ops_stand, regions_stand}
 use Rattle.xf_verify.specs.Judged.{functions_stand, blocks_stand, Names, Answers, first_behind, names_behind}
 use Rattle.xf_verify.proofs.Defining.{results_enter, arguments_enter, left_more}
@@ -64,14 +64,16 @@ own_there before h see t after = kept_behind (set.insert before t.name.0) (regio
 -- ---- what is seen
 
 pub see_results : (olds ds news : Definitions) (t : Tree) (b : Bor (List PayloadType))
-    → ds ≡ olds → b.now ≡ t.results → olds t.name.0 ≡ None → news ≡ with_definition t.name.0 (Some (Results b)) ds
+    → ds ≡ olds → b.now ≡ t.results → olds t.name.0 ≡ None → news ≡ with_definition t.name.0
+    (definition_of b.now (Results b)) ds
     → type_among news ≡ sees_with (results_of t.name (length t.results)) t.results (type_among olds)
 see_results olds ds news t b same is new e =
-    ap type_among (e ∙ ap (with_definition t.name.0 (Some (Results b))) same) ∙ results_enter olds t.name b new
+    ap type_among (e ∙ ap (with_definition t.name.0 (definition_of b.now (Results b))) same)
+    ∙ results_enter olds t.name b new
     ∙ ap (λ ts. sees_with (results_of t.name (length ts)) ts (type_among olds)) is
 
 pub see_arguments : (ds news : Definitions) (n : OpName) (i : ℕ) (args : List PayloadType) (b : Bor (List PayloadType))
-    → b.now ≡ args → ds n.0 ≡ None → news ≡ with_definition n.0 (Some (Arguments i b)) ds
+    → b.now ≡ args → ds n.0 ≡ None → news ≡ with_definition n.0 (definition_of b.now (Arguments i b)) ds
     → type_among news ≡ sees_with (args_of n i (length args)) args (type_among ds)
 see_arguments ds news n i args b is new e =
     ap type_among e ∙ arguments_enter ds n b new i
@@ -149,12 +151,12 @@ module _ (f : Facts) (h : Holder) (ts : List Tree) (i : ℕ) (t : Tree) (is : t 
         ∙ sym (ops_first (λ o. names_behind before (functions_stand h see o))) ∙ inv
 
     -- the scope without the operations so far
-    pub scope_on : (d : Option Definition) (olds ds news total : Definitions)
-        → ds ≡ olds → olds t.name.0 ≡ None → news ≡ with_definition t.name.0 d ds → without (take i ts) olds ≡ total
+    pub scope_on : (d : Definition) (olds ds news total : Definitions) → ds ≡ olds → olds t.name.0 ≡ None
+        → news ≡ with_definition t.name.0 (definition_of t.results d) ds → without (take i ts) olds ≡ total
         → without (take (i + 1) ts) news ≡ total
     scope_on d olds ds news total same new e inv =
         ap (λ xs. without xs news) taken
-        ∙ ap (without (take i ts ++ t ∷ [])) (e ∙ ap (with_definition t.name.0 d) same)
+        ∙ ap (without (take i ts ++ t ∷ [])) (e ∙ ap (with_definition t.name.0 (definition_of t.results d)) same)
         ∙ left_more (take i ts) t d olds new ∙ inv
       where
         taken : take (i + 1) ts ≡ take i ts ++ t ∷ []

@@ -1,5 +1,6 @@
 -- The values that are visible where an operation stands, in the code.
-use Rattle.std.specs.Prelude.{ℕ, List, Option, Some, None, ◌==◌, if◌then◌else◌, slice_get}
+use Rattle.std.specs.Prelude.{ℕ, List, [], ◌∷◌, Option, Some, None, Bool, true, false, ◌==◌, ◌&&◌, if◌then◌else◌}
+use Rattle.std.specs.Prelude.{slice_get}
 use Rattle.std.specs.BTreeMap.{get}
 use Rattle.std.specs.Ordering.{nat_cmp}
 use Rattle.xf_type.specs.declared.payload_type.PayloadType.{PayloadType}
@@ -24,9 +25,17 @@ definitions_in s n = get nat_cmp s.definitions n
 abbrev pub with_definition : ℕ → Option Definition → Definitions → Definitions
 with_definition n d ds q = if q == n then d else ds q
 
+abbrev pub has_types : List PayloadType → Bool
+has_types [] = false
+has_types (t ∷ ts) = true
+
+-- values of these types, where there are any
+abbrev pub definition_of : List PayloadType → Definition → Option Definition
+definition_of ts d = if has_types ts then Some d else None
+
 -- without those of these operations
 abbrev pub without : List Tree → Definitions → Definitions
-without ts ds q = if some (λ t. q == t.name.0) ts then None else ds q
+without ts ds q = if some (λ t. has_types t.results && (q == t.name.0)) ts then None else ds q
 
 -- ---- the type of each value that is visible
 

@@ -1,8 +1,8 @@
 //! The values that are visible where an operation stands, with their types.
-ghost use Rattle.std.specs.Prelude.{◌≡◌, ◌++◌, ◌∷◌, [], Some, None, map, IfOk, OnOk};
+ghost use Rattle.std.specs.Prelude.{◌≡◌, ◌++◌, ◌∷◌, [], Some, None, map, IfOk, OnOk, if◌then◌else◌};
 ghost use Rattle.std.specs.Option.{option_copied};
 ghost use Rattle.xf_verify.specs.Visible.{definitions_in, no_definitions, with_definition, without, result_type};
-ghost use Rattle.xf_verify.specs.Visible.{argument_type, types_in};
+ghost use Rattle.xf_verify.specs.Visible.{argument_type, types_in, has_types, definition_of};
 ghost use Rattle.xf_rules.specs.OperandTypes.{operand_types};
 
 use std::alloc::Global;
@@ -17,6 +17,16 @@ pub enum Definition<'a> {
     Results(&'a [PayloadType]),
     /// The arguments of the block of its region with that number.
     Arguments(usize, &'a [PayloadType]),
+}
+
+/// Whether there are types.
+fn has_types(types: &[PayloadType]) -> bool
+    ensures { result ≡ has_types types.now }
+{
+    match types {
+        [] => false,
+        [_, ..] => true,
+    }
 }
 
 /// The operations whose values are visible, each with these values.
@@ -35,11 +45,8 @@ impl<'a> VisibleValues<'a> {
         }
     }
 
-    /// Lets values of an operation be visible, in place of others of it. It takes time in the
-    /// logarithm of the number of operations there.
-    ///
-    /// Refuses for want of memory alone.
-    pub fn enter(&mut self, name: OpName, definition: Definition<'a>) -> Result<(), NoMemory>
+    /// Lets values of an operation be visible.
+    fn insert(&mut self, name: OpName, definition: Definition<'a>) -> Result<(), NoMemory>
         ensures { OnOk result (definitions_in self.new
             ≡ with_definition name.0 (Some definition.entry) (definitions_in self.old)) }
     {
@@ -47,19 +54,42 @@ impl<'a> VisibleValues<'a> {
         Ok(())
     }
 
-    /// Lets no value of an operation be visible.
-    pub fn leave(&mut self, name: OpName)
-        ensures { definitions_in self.new ≡ with_definition name.0 None (definitions_in self.old) }
+    /// Lets values of these types, of an operation of which none is visible, be visible. It takes time
+    /// in the logarithm of the number of operations there, and none where there are no types.
+    ///
+    /// Refuses for want of memory alone.
+    pub fn enter(
+        &mut self,
+        name: OpName,
+        types: &[PayloadType],
+        definition: Definition<'a>,
+    ) -> Result<(), NoMemory>
+        requires { definitions_in self.old name.0 ≡ None }
+        ensures { OnOk result (definitions_in self.new
+            ≡ with_definition name.0 (definition_of types.now definition.entry) (definitions_in self.old)) }
     {
-        self.definitions.remove(&name.0);
+        if has_types(types) {
+            self.insert(name, definition)?;
+        }
+        Ok(())
     }
 
-    /// Lets no value of these operations be visible.
+    /// Lets no value of an operation be visible, of which values of these types may be.
+    pub fn leave(&mut self, name: OpName, types: &[PayloadType])
+        ensures { definitions_in self.new ≡ (if has_types types.now
+            then with_definition name.0 None (definitions_in self.old) else definitions_in self.old) }
+    {
+        if has_types(types) {
+            self.definitions.remove(&name.0);
+        }
+    }
+
+    /// Lets no result of these operations be visible.
     pub fn leave_all(&mut self, ops: &[Op])
         ensures { definitions_in self.new ≡ without ops.now (definitions_in self.old) }
     {
         for op in ops {
-            self.leave(op.name);
+            self.leave(op.name, op.results.as_slice());
         }
     }
 

@@ -125,8 +125,9 @@ fn operations<'a>(
 {
     for (number, op) in ops.iter().enumerate() {
         operation(alloc, facts, walk, holder, op, behind(ops, number))?;
-        let results = Definition::Results(op.results.as_slice());
-        walk.scope.enter(op.name, results)?;
+        let types = op.results.as_slice();
+        walk.scope
+            .enter(op.name, types, Definition::Results(types))?;
     }
     walk.scope.leave_all(ops);
     Ok(())
@@ -150,10 +151,11 @@ fn regions<'a>(
         (regions_stand (holder_seen holder.entry) (types_in walk.old.scope) op.now.name 0 op.now.regions)) }
 {
     for (number, block) in op.regions.iter().enumerate() {
-        let arguments = Definition::Arguments(number, block.args.as_slice());
-        walk.scope.enter(op.name, arguments)?;
+        let types = block.args.as_slice();
+        walk.scope
+            .enter(op.name, types, Definition::Arguments(number, types))?;
         operations(alloc, facts, walk, holder, &block.ops)?;
-        walk.scope.leave(op.name);
+        walk.scope.leave(op.name, types);
     }
     Ok(())
 }

@@ -16,4 +16,6 @@ abbrev pub decreases-write_list : goal.decreases-write_list
 decreases-write_list l = 4 * length l.dims.now + 3
 
 abbrev pub invariant-write_rows-loop : goal.invariant-write_rows-loop
-invariant-write_rows-loop l = l.line.items ++ listed_more (map (nested l.width l.dims) (rows (l.count - l.counter) l.size l.left)) ≡ l.fn.line.items ++ listed (map (nested l.width l.dims) (rows l.count l.size l.numbers))
+invariant-write_rows-loop l =
+    l.line.items ++ listed_more (map (nested l.width l.dims) (rows (l.count - l.counter) l.size l.left))
+    ≡ l.fn.line.items ++ listed (map (nested l.width l.dims) (rows l.count l.size l.numbers))

@@ -2,4 +2,15 @@ use Rattle.std.proofs.Common.{append_assoc}
 use Rattle.xf_print.proofs.linalg_rows.write_map.Goals as goal
 
 pub returns : goal.returns
-returns c = rw (c.in_ok-extend_from_slice-3.ensures.items, c.in_ok-write_map_results.ensures, c.in_ok-extend_from_slice-2.ensures.items, c.in_ok-write_dimensions.ensures, c.in_ok-extend_from_slice.ensures.items, append_assoc, append_assoc, append_assoc, append_assoc)
+returns c =
+    rw (
+      c.in_ok-extend_from_slice-3.ensures.items,
+      c.in_ok-write_map_results.ensures,
+      c.in_ok-extend_from_slice-2.ensures.items,
+      c.in_ok-write_dimensions.ensures,
+      c.in_ok-extend_from_slice.ensures.items,
+      append_assoc,
+      append_assoc,
+      append_assoc,
+      append_assoc,
+    )

@@ -1,17 +1,19 @@
 use Rattle.std.proofs.lemmas.Result.{err_from_is_err_and}
 use Rattle.xf_print_base.specs.Index.{names_of}
 use Rattle.xf_print.proofs.Parts.{opened_parts}
-use Rattle.xf_print.proofs.Writes.{first_fails, second_last}
+use Rattle.xf_print.proofs.Writes.{going_fails, going_last, going_on, going_starts}
 use Rattle.xf_print.proofs.printer.print_opened.Goals as goal
 
 pub returns-in_err-print_brace-clause-text : goal.returns-in_err-print_brace-clause-text
 returns-in_err-print_brace-clause-text g c =
     let p = err_from_is_err_and c.from_residual.result c.from_residual.ensures.1 in
-    rw p.1 (first_fails _ _ _ _ _ (opened_parts (names_of c.args.names.now) c.args.margin c.args.op.now c.args.first
-    c.args.line.now.items) c.in_err-print_brace.ensures.text)
+    rw p.1 (going_fails _ _ (opened_parts (names_of c.args.names.now) c.args.margin c.args.op.now c.args.first
+    c.args.line.now.items) (going_starts _ _)
+    c.in_err-print_brace.ensures.text)
 
 pub returns-clause-text : goal.returns-clause-text
 returns-clause-text g c =
-    second_last c.print_header.result _ _ _ _ _ _
+    going_last c.print_header.result _ (going_on _
     (opened_parts (names_of c.args.names.now) c.args.margin c.args.op.now c.args.first c.args.line.now.items)
-    c.in_ok-print_brace.ensures.text c.print_header.ensures.text
+    (going_starts _ _)
+    c.in_ok-print_brace.ensures.text) c.print_header.ensures.text

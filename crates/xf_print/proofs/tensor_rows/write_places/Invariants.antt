@@ -7,5 +7,6 @@ use Rattle.xf_print.proofs.tensor_rows.write_places.Given as goal
 abbrev pub invariant-loop-place : goal.invariant-loop-place
 invariant-loop-place l = record {
   behind : behind_places (drop l.place-index l.rest) l.left ≡ behind_places l.places l.operands;
-  text : l.line.items ++ listed_more (place_texts (names_of l.names) (drop l.place-index l.rest) l.left) ≡ l.fn.line.items ++ listed (place_texts (names_of l.names) l.places l.operands);
+  text : l.line.items ++ listed_more (place_texts (names_of l.names) (drop l.place-index l.rest) l.left)
+      ≡ l.fn.line.items ++ listed (place_texts (names_of l.names) l.places l.operands);
 }

@@ -13,5 +13,7 @@ build-requires c =
 pub returns-in-Err-clause-fault : goal.returns-in-Err-clause-fault
 returns-in-Err-clause-fault c =
     let ts = c.as_slice-tokens.result.now in
-    let lexes : Lexes c.args.bytes.now ts = subst (λ x. Lexes c.args.bytes.now x) (sym c.as_slice-tokens.ensures) c.in_ok-tokens.ensures.found in
-    subst (λ e. IsUnread c.args.bytes.now e) (sym c.unread.ensures) (stopped_is_unread c.args.bytes.now ts c.in-Err.fault lexes c.in-Err.ensures.exact c.in-Err.ensures.place)
+    let lexes : Lexes c.args.bytes.now ts = subst (λ x. Lexes c.args.bytes.now x) (sym c.as_slice-tokens.ensures)
+    c.in_ok-tokens.ensures.found in
+    subst (λ e. IsUnread c.args.bytes.now e) (sym c.unread.ensures)
+    (stopped_is_unread c.args.bytes.now ts c.in-Err.fault lexes c.in-Err.ensures.exact c.in-Err.ensures.place)

@@ -16,9 +16,12 @@ returns-clause-moved c = λ first is.
     let h = c.args.head.now in
     let t = c.in_ok-twice.twice in
     let e : t ≡ args_twice all n 0 (argument_types (said all p)) p.args s =
-    c.in_ok-twice.ensures.twice ∙ ap (λ ts. args_twice all n 0 ts c.as_slice-args.result.now s) is.args ∙ ap (λ rs. args_twice all n 0 (argument_types (said all p)) rs s) c.as_slice-args.ensures in
+    c.in_ok-twice.ensures.twice ∙ ap (λ ts. args_twice all n 0 ts c.as_slice-args.result.now s) is.args
+    ∙ ap (λ rs. args_twice all n 0 (argument_types (said all p)) rs s) c.as_slice-args.ensures in
     record {
       next = refl;
       places_are = c.in_ok-push.ensures.ok;
-      faults_are = c.with_twice-walk.ensures ∙ ap (λ x. with_faults x (twice_fault t)) c.with.ensures ∙ faults_regrouped c.args.walk.now.faults h.faults (twice_fault t) ∙ ap (with_faults c.args.walk.now.faults) (head_faults_are all n first p s h t is e);
+      faults_are = c.with_twice-walk.ensures ∙ ap (λ x. with_faults x (twice_fault t)) c.with.ensures
+          ∙ faults_regrouped c.args.walk.now.faults h.faults (twice_fault t)
+          ∙ ap (with_faults c.args.walk.now.faults) (head_faults_are all n first p s h t is e);
     }

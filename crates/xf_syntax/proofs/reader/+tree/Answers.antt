@@ -56,9 +56,9 @@ node_at-returns-in_err-next-clause-gives t c =
     (rw (sym c.row_tail.ensures) c.in_err-next.ensures.gives))
 
 pub node_at-returns-clause-gives : goal.node_at-returns-clause-gives
-node_at-returns-clause-gives t c = λ f room.
-    node_is f c.args.tokens.now c.args.level c.args.depth c.args.count.now c.args.at c.in_ok-parts.next
+node_at-returns-clause-gives t c = λ f room. rw c.in_ok-parts-2.ensures.ok
+    (node_is f c.args.tokens.now c.args.level c.args.depth c.args.count.now c.args.at c.in_ok-parts.next
     c.in_ok-parts.parts c.bodies_at.new.parts c.slots_at.new.parts (bodies_of c.in_ok-bodies.bodies.items)
     c.bodies_at.new.count c.in_ok-bodies.next c.in_ok-next.next
     c.in_ok-parts.ensures.gives (c.in_ok-bodies.ensures.gives f (omega (arith, room, c.in_ok-parts.ensures.within.0)))
-    (rw (sym c.row_tail.ensures) c.in_ok-next.ensures.gives)
+    (rw (sym c.row_tail.ensures) c.in_ok-next.ensures.gives))

@@ -1,6 +1,6 @@
-use Rattle.std.proofs.Common.{◌≡◌, ◌+◌, ◌≤◌, ◌<◌, get_or, List, [], ◌∷◌, Err, Some, None, length, drop, sym, ap, subst}
+use Rattle.std.proofs.Common.{◌≡◌, ◌+◌, ◌≤◌, ◌<◌, get_or, List, [], ◌∷◌, Err, None, length, drop, sym, ap, subst}
 use Rattle.std.proofs.Common.{◌∙◌, arith}
-use Rattle.std.specs.Prelude.{map}
+use Rattle.std.specs.Prelude.{map, if◌then◌else◌}
 use Rattle.std.specs.FinSet as set
 use Rattle.std.proofs.lemmas.List.{at_drop_all, take_all}
 use Rattle.std.proofs.lemmas.Result.{err_from_is_err_and}
@@ -10,6 +10,7 @@ use Rattle.xf_ir.specs.View.{ops_of, regions_of, tree_size, body_size, ops_size,
 use Rattle.xf_verify.specs.declared.stand.Holder.{Holder}
 use Rattle.xf_verify.specs.declared.scope.Definition.TheVariants.{Results, Arguments}
 use Rattle.xf_verify.specs.Visible.{Definitions, definitions_in, types_in, type_among, with_definition, without}
+use Rattle.xf_verify.specs.Visible.{has_types, definition_of}
 use Rattle.xf_verify.specs.Judged.{Answers, Judged, holder_seen, first_behind, names_behind, stands, tree_stands}
 use Rattle.xf_verify.specs.Judged.{ops_stand, regions_stand}
 use Rattle.xf_ir.proofs.EraseLemmas.{size_at, body_size_at}
@@ -109,6 +110,15 @@ operations-operation-requires t c =
     (sym c.index-ops-number.is) (size_at ts i x c.loop-number-test.true) in
     (omega (arith, least), c.loop-number.invariant.named)
 
+pub operations-enter-requires : goal.operations-enter-requires
+operations-enter-requires t c =
+    let w = c.loop-number.walk in
+    let n = c.index-ops-number.result.name.0 in
+    let e = c.in_ok-operation.ensures in
+    ap (λ (y : Tree). definitions_in c.operation.new.walk.scope y.name.0) c.op.view_is
+    ∙ ap (λ (d : Definitions). d n) e.moved.scope
+    ∙ new_undefined (definitions_in w.scope) w.names n c.loop-number.invariant.named.named e.new
+
 pub operations-loop-number-preserved : goal.operations-loop-number-preserved
 operations-loop-number-preserved t c =
     let f = c.args.facts.now in
@@ -126,10 +136,12 @@ operations-loop-number-preserved t c =
     let inv = c.loop-number.invariant in
     let rest = ops_of (drop (i + 1) ts) in
     let new : olds x.name.0 ≡ None = new_undefined olds w.names x.name.0 inv.named.named e.new in
-    let entered : news ≡ with_definition x.name.0 (Some (Results c.as_slice.result)) ds = c.in_ok-enter.ensures
-    ∙ ap (λ (y : Tree). with_definition y.name.0 (Some (Results c.as_slice.result)) ds) c.op.view_is in
-    let results = c.as_slice.ensures ∙ ap (λ (y : Tree). y.results) c.op.view_is in
-    let seen = see_results olds ds news x c.as_slice.result e.moved.scope results new entered in
+    let b = c.as_slice-types.result in
+    let entered : news ≡ with_definition x.name.0 (definition_of b.now (Results b)) ds = c.in_ok-enter.ensures
+    ∙ ap (λ (y : Tree). with_definition y.name.0 (definition_of b.now (Results b)) ds) c.op.view_is in
+    let results = c.as_slice-types.ensures ∙ ap (λ (y : Tree). y.results) c.op.view_is in
+    let shown = entered ∙ ap (λ ts. with_definition x.name.0 (definition_of ts (Results b)) ds) results in
+    let seen = see_results olds ds news x b e.moved.scope results new entered in
     let judged : first_behind f w.names (tree_stands h see x rest) ≡ None =
     ap (λ us. first_behind f w.names (tree_stands h see x (ops_of us))) (sym c.behind.ensures) ∙ e.judged in
     let names : u.names ≡ names_behind w.names (tree_stands h see x rest) = e.moved.names
@@ -140,11 +152,11 @@ operations-loop-number-preserved t c =
           (types_in c.enter.new.self) w.names u.names _ judged names seen inv.judged;
       names = ops_named f h ts i x c.index-ops-number.is c.loop-number-test.true see
           (types_in c.enter.new.self) w.names u.names _ names seen inv.names;
-      scope = scope_on f h ts i x c.index-ops-number.is c.loop-number-test.true (Some (Results c.as_slice.result))
-          olds ds news (definitions_in c.args.walk.now.scope) e.moved.scope new entered inv.scope;
+      scope = scope_on f h ts i x c.index-ops-number.is c.loop-number-test.true (Results b)
+          olds ds news (definitions_in c.args.walk.now.scope) e.moved.scope new shown inv.scope;
       named = record {
         named = subst (λ d. Named d u.names) (sym entered)
-            (entered_named ds u.names x.name.0 (Some (Results c.as_slice.result)) e.moved.named.named there);
+            (entered_named ds u.names x.name.0 (definition_of b.now (Results b)) e.moved.named.named there);
       };
     }
 
@@ -168,11 +180,16 @@ operations-returns-clause-moved t c =
 
 -- ---- the regions of an operation
 
+pub regions-enter-requires : goal.regions-enter-requires
+regions-enter-requires t c =
+    ap (λ (y : Tree). definitions_in c.loop-number.walk.scope y.name.0) c.op.view_is
+    ∙ ap (λ (d : Definitions). d c.args.op.now.name.0) c.loop-number.invariant.scope ∙ c.requires.new
+
 pub regions-operations-requires : goal.regions-operations-requires
 regions-operations-requires t c =
     let w = c.loop-number.walk in
     let n = c.args.op.now.name.0 in
-    let d = Some (Arguments c.loop-number.number c.as_slice.result) in
+    let d = definition_of c.as_slice-types.result.now (Arguments c.loop-number.number c.as_slice-types.result) in
     let inv = c.loop-number.invariant in
     let entered : definitions_in c.enter.new.self ≡ with_definition n d (definitions_in w.scope) = c.in_ok-enter.ensures
     ∙ ap (λ (y : Tree). with_definition y.name.0 d (definitions_in w.scope)) c.op.view_is in
@@ -203,15 +220,15 @@ regions-returns-in_err-operations-clause-judged t c =
     let n = c.args.op.now.name in
     let i = c.loop-number.number in
     let b = c.block-item.result in
-    let d = Some (Arguments i c.as_slice.result) in
+    let d = definition_of c.as_slice-types.result.now (Arguments i c.as_slice-types.result) in
     let inv = c.loop-number.invariant in
     let new : ds n.0 ≡ None = ap (λ (x : Definitions). x n.0) inv.scope ∙ c.requires.new in
     let entered : definitions_in c.enter.new.self ≡ with_definition n.0 d ds = c.in_ok-enter.ensures
     ∙ ap (λ (y : Tree). with_definition y.name.0 d ds) c.op.view_is in
-    let args = c.as_slice.ensures ∙ ap (λ (x : Body). x.args) c.block.view_is in
+    let args = c.as_slice-types.ensures ∙ ap (λ (x : Body). x.args) c.block.view_is in
     let ops : ops_of c.deref.result.now ≡ b.ops = ap ops_of c.deref.ensures.value
     ∙ ap (λ (x : Body). x.ops) c.block.view_is in
-    let seen = see_arguments ds (definitions_in c.enter.new.self) n i b.args c.as_slice.result args new entered in
+    let seen = see_arguments ds (definitions_in c.enter.new.self) n i b.args c.as_slice-types.result args new entered in
     let a = regions_stop f h n c.deref-block-items.result.now i b c.block-item.is c.loop-number-test.true
     (Unit {0}) (Unit {0}) (types_in w.scope) (types_in c.enter.new.self) (ops_of c.deref.result.now)
     seen ops w.names c.in_err-operations.field-0.0 _ inv.judged c.in_err-operations.ensures.judged in
@@ -228,20 +245,24 @@ regions-loop-number-preserved t c =
     let i = c.loop-number.number in
     let bs = c.deref-block-items.result.now in
     let b = c.block-item.result in
-    let d = Some (Arguments i c.as_slice.result) in
+    let d = definition_of c.as_slice-types.result.now (Arguments i c.as_slice-types.result) in
     let inv = c.loop-number.invariant in
     let e = c.in_ok-operations.ensures in
     let new : ds n.0 ≡ None = ap (λ (x : Definitions). x n.0) inv.scope ∙ c.requires.new in
     let entered : definitions_in c.enter.new.self ≡ with_definition n.0 d ds = c.in_ok-enter.ensures
     ∙ ap (λ (y : Tree). with_definition y.name.0 d ds) c.op.view_is in
-    let args = c.as_slice.ensures ∙ ap (λ (x : Body). x.args) c.block.view_is in
+    let args = c.as_slice-types.ensures ∙ ap (λ (x : Body). x.args) c.block.view_is in
     let ops : ops_of c.deref.result.now ≡ b.ops = ap ops_of c.deref.ensures.value
     ∙ ap (λ (x : Body). x.ops) c.block.view_is in
-    let seen = see_arguments ds (definitions_in c.enter.new.self) n i b.args c.as_slice.result args new entered in
-    let left : definitions_in c.leave.new.self ≡ with_definition n.0 None (definitions_in u.scope) = c.leave.ensures
-    ∙ ap (λ (y : Tree). with_definition y.name.0 None (definitions_in u.scope)) c.op.view_is in
-    let back : definitions_in c.leave.new.self ≡ ds = left ∙ ap (with_definition n.0 None) (e.moved.scope ∙ entered)
-    ∙ entered_left n.0 d ds new in
+    let seen = see_arguments ds (definitions_in c.enter.new.self) n i b.args c.as_slice-types.result args new entered in
+    let any = has_types c.as_slice-types.result.now in
+    let left : definitions_in c.leave.new.self
+    ≡ (if any then with_definition n.0 None (definitions_in u.scope) else definitions_in u.scope) = c.leave.ensures
+    ∙ ap (λ (y : Tree). if any then with_definition y.name.0 None (definitions_in u.scope) else definitions_in u.scope)
+    c.op.view_is in
+    let back : definitions_in c.leave.new.self ≡ ds = left
+    ∙ ap (λ x. if any then with_definition n.0 None x else x) (e.moved.scope ∙ entered)
+    ∙ entered_left any n.0 (Arguments i c.as_slice-types.result) ds new in
     let again : types_in c.leave.new.self ≡ types_in w.scope = ap type_among back in
     record {
       judged = regions_judged f h n bs i b c.block-item.is c.loop-number-test.true
@@ -253,7 +274,7 @@ regions-loop-number-preserved t c =
       scope = back ∙ inv.scope;
       named = record {
         named = subst (λ x. Named x u.names) (sym left)
-            (left_named (definitions_in u.scope) u.names n.0 e.moved.named.named);
+            (left_named any (definitions_in u.scope) u.names n.0 e.moved.named.named);
       };
       here = ap (λ s. set.contains s n.0) e.moved.names
           ∙ kept_behind w.names (ops_stand h (types_in c.enter.new.self) (ops_of c.deref.result.now)) n.0 inv.here;

@@ -1,0 +1,4 @@
+pub mod MirrorLemmas
+pub mod PathLemmas
+pub mod GroupLemmas
+pub mod GrowLemmas

@@ -1,0 +1,3 @@
+pub mod Arith
+pub mod Bodies
+pub mod Reducing

@@ -1,0 +1,5 @@
+pub mod CellLemmas
+pub mod UseLemmas
+pub mod MoveLemmas
+pub mod GrowLemmas
+pub mod WalkLemmas

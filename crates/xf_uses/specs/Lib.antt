@@ -1,0 +1,4 @@
+pub mod Cells
+pub mod Uses
+pub mod Walks
+pub mod Stores
