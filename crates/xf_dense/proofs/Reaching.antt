@@ -30,10 +30,10 @@ chain xs ys s m n a b c f g rest y =
 abbrev body : List LiteralToken → SaidBody
 body ls = record { literals = ls; extents = None }
 
-abbrev due : List ℕ → Option ℕ → List ℕ → State
+abbrev pub due : List ℕ → Option ℕ → List ℕ → State
 due counts rank known = record { stage = stage.Item; counts = counts; rank = rank; known = known }
 
-abbrev behind : List ℕ → Option ℕ → List ℕ → State
+abbrev pub behind : List ℕ → Option ℕ → List ℕ → State
 behind counts rank known = record { stage = stage.Behind; counts = counts; rank = rank; known = known }
 
 -- a literal
@@ -84,29 +84,29 @@ close_last n rank known m ls e g rest y =
 -- ---- what is known before and behind an item
 
 -- before an item of some extents: nothing is known, or these extents are; and what is known behind it
-data Ready (extents : List ℕ) (rank : Option ℕ) (known after : List ℕ) : Type 0 where
+pub data Ready (extents : List ℕ) (rank : Option ℕ) (known after : List ℕ) : Type 0 where
   fresh : rank ≡ None → known ≡ [] → after ≡ reverse extents → Ready extents rank known after
   again : (more : List ℕ) → rank ≡ Some (length extents) → known ≡ reverse extents ++ more → after ≡ known
       → Ready extents rank known after
 
 -- before the next item
-next_ready : (es : List ℕ) (r : Option ℕ) (k m : List ℕ) → Ready es r k m → Ready es (Some (length es)) m m
+pub next_ready : (es : List ℕ) (r : Option ℕ) (k m : List ℕ) → Ready es r k m → Ready es (Some (length es)) m m
 next_ready es r k m (fresh er ek em) = again [] refl (em ∙ sym (append-nil (reverse es))) refl
 next_ready es r k m (again more er ek em) = again more refl (em ∙ ek) refl
 
-leaf_ready : (r : Option ℕ) (k m : List ℕ) → Ready [] r k m → (takes_literals r ≡ true) × (k ≡ m)
+pub leaf_ready : (r : Option ℕ) (k m : List ℕ) → Ready [] r k m → (takes_literals r ≡ true) × (k ≡ m)
 leaf_ready r k m (fresh er ek em) = (rw er refl, ek ∙ sym em)
 leaf_ready r k m (again more er ek em) = (rw er refl, sym em)
 
-list_ready : (n : ℕ) (es : List ℕ) (r : Option ℕ) (k m : List ℕ) → Ready (n ∷ es) r k m → takes_lists r ≡ true
+pub list_ready : (n : ℕ) (es : List ℕ) (r : Option ℕ) (k m : List ℕ) → Ready (n ∷ es) r k m → takes_lists r ≡ true
 list_ready n es r k m (fresh er ek em) = rw er refl
 list_ready n es r k m (again more er ek em) = rw er refl
 
 -- a list of n items, behind which j is known, may go on up to n items and then end, and then m is known
-record Level (n : ℕ) (es j m : List ℕ) : Type 0 where
-  on : (c : ℕ) → c < n → may_go_on (wanted (Some (length es)) j) c ≡ true
-  end : may_end (wanted (Some (length es)) j) n ≡ true
-  grows : grown (wanted (Some (length es)) j) n j ≡ m
+pub record Level (n : ℕ) (es j m : List ℕ) : Type 0 where
+  pub on : (c : ℕ) → c < n → may_go_on (wanted (Some (length es)) j) c ≡ true
+  pub end : may_end (wanted (Some (length es)) j) n ≡ true
+  pub grows : grown (wanted (Some (length es)) j) n j ≡ m
 
 slice_get_at : (p : List ℕ) (x : ℕ) (q : List ℕ) → slice_get (p ++ x ∷ q) (length p) ≡ Some x
 slice_get_at [] x q = refl
@@ -128,7 +128,7 @@ known_level n es more j m e f =
     record { on = λ c lt. rw w (lt-ltb c n lt); end = rw w (grind arith); grows = rw w (sym f) }
 
 -- inside a list
-inner_ready : (n : ℕ) (es : List ℕ) (r : Option ℕ) (k m : List ℕ) → Ready (n ∷ es) r k m
+pub inner_ready : (n : ℕ) (es : List ℕ) (r : Option ℕ) (k m : List ℕ) → Ready (n ∷ es) r k m
     → (j : List ℕ) × (Ready es (inner r) k j × Level n es j m)
 inner_ready n es r k m (fresh er ek em) = (reverse es, (fresh (rw er refl) ek refl, fresh_level n es m em))
 inner_ready n es r k m (again more er ek em) =
@@ -138,7 +138,7 @@ inner_ready n es r k m (again more er ek em) =
 
 -- ---- nests
 
-count_above : (ts : Nests) → 0 < count ts
+pub count_above : (ts : Nests) → 0 < count ts
 count_above (last t) = omega arith
 count_above (next t ts) = omega arith
 

@@ -17,7 +17,7 @@ use Rattle.xf_opt.specs.Run.{Runs}
 use Rattle.xf_opt.specs.Words.{run}
 use Rattle.xf_opt.specs.Files.{IsRunnable}
 use Rattle.xf_opt.specs.Owes.{Reaches, Headline, Finishes, WritesPrefix}
-use Rattle.xf_opt.proofs.FormFacts.{form_is_core, form_is_stored}
+use Rattle.xf_opt.proofs.FormFacts.{form_is_stored}
 use Rattle.xf_sem.proofs.Renaming.{renaming_keeps}
 
 -- there are few choices
@@ -35,7 +35,7 @@ headline_is : (payload : List ℕ) (journal : List Entry) (m after : Module) →
     → IsFew m journal → KeepsMeaning m after → IsFirstForm after → Headline payload journal (printed_form after)
 unfolding reached
 headline_is payload journal m after s r n k g =
-    let again = printed_is_valid_again after g.valid (form_is_core after g) (form_is_stored after g) g.limits in
+    let again = printed_is_valid_again after g.valid (form_is_stored after g) g.limits in
     record {
       after = after;
       reaches = reached payload journal m after s r n k g.valid;

@@ -16,7 +16,6 @@ use Rattle.xf_format.specs.Format.{format, regions_of}
 use Rattle.xf_format.specs.Rows.{behind, bodies, header, inside, slots, tail, words}
 use Rattle.xf_format.specs.Rules.{defines_rule, head_rule, kind_rule, language, row_rule, slots_rule}
 use Rattle.xf_format.specs.Words.{lookup, the_row}
-use Rattle.xf_ir.specs.declared.kind.Kind.{Kind}
 use Rattle.xf_ir.specs.declared.op.Module.{Module}
 use Rattle.xf_ir.specs.Placed.{functions_of}
 use Rattle.xf_ir.specs.Tree.{Ops, no_ops, op, Regions, no_regions, region, Tree, cons}

@@ -1,10 +1,8 @@
 pub mod BlankLemmas
-pub mod DimensionLemmas
+pub mod Bodies
 pub mod Docs
 pub mod Fed
 pub mod Headers
-pub mod Listed
-pub mod MapLemmas
 pub mod Parts
 pub mod RowLemmas
 pub mod Rows

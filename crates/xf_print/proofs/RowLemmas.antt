@@ -1,22 +1,24 @@
 -- The rows of a dense constant, one behind the other.
-use Rattle.std.proofs.Common.{◌≡◌, ℕ, suc, ◌+◌, ◌-◌, ◌<◌, List, ◌∷◌, map, length, take, drop, arith}
+use Rattle.std.proofs.Common.{◌≡◌, ℕ, suc, ◌+◌, ◌-◌, ◌<◌, List, ◌++◌, length, take, drop, codes, subst, ◌∙◌}
+use Rattle.std.proofs.Common.{arith, append_assoc}
 use Rattle.std.specs.Prelude.{◌/◌, min}
 use Rattle.std.proofs.Math.Nat.{div-zero}
 use Rattle.std.proofs.lemmas.List.{take_min, drop_min}
-use Rattle.xf_printed.specs.Dense.{rows}
+use Rattle.xf_dense.specs.Nests.{Nest}
+use Rattle.xf_dense.specs.Printed.{row_nests}
+use Rattle.xf_print.specs.Bodies.{nest_text, nests_text}
 
-rows_suc : (f : List ℕ → List ℕ) (count at size : ℕ) (ns left : List ℕ) → count ≡ suc at → left ≡ drop size ns
-    → map f (rows count size ns) ≡ f (take size ns) ∷ map f (rows at size left)
-rows_suc f count at size ns left e d = rw (e, d)
-
--- the first row, and the first of those that are left behind the first `at`
-pub first_row : (f : List ℕ → List ℕ) (count size : ℕ) (ns left : List ℕ) → 0 < count → left ≡ drop size ns
-    → map f (rows count size ns) ≡ f (take size ns) ∷ map f (rows (count - 1) size left)
-first_row f count size ns left lt = rows_suc f count (count - 1) size ns left (omega arith)
-
-pub next_row : (f : List ℕ → List ℕ) (count at size : ℕ) (ns left : List ℕ) → at < count → left ≡ drop size ns
-    → map f (rows (count - at) size ns) ≡ f (take size ns) ∷ map f (rows (count - (at + 1)) size left)
-next_row f count at size ns left lt = rows_suc f (count - at) (count - (at + 1)) size ns left (omega arith)
+-- one row was written, behind which a comma stands
+pub rows_go : (item : List ℕ → Nest) (rows at size : ℕ) (ns left line row line' all : List ℕ) → at < rows
+    → line ++ nests_text (row_nests item (rows - at) size ns) ≡ all
+    → row ≡ line ++ nest_text (item (take size ns)) → left ≡ drop size ns → line' ≡ row ++ codes ", "
+    → line' ++ nests_text (row_nests item (rows - (at + 1)) size left) ≡ all
+rows_go item rows at size ns left line row line' all lt e r l f =
+    let d : rows - at ≡ suc (rows - (at + 1)) = omega (arith, lt) in
+    let rest : List ℕ = nests_text (row_nests item (rows - (at + 1)) size (drop size ns)) in
+    rw (f, r, l) (append_assoc (line ++ nest_text (item (take size ns))) (codes ", ") rest
+    ∙ (append_assoc line (nest_text (item (take size ns))) (codes ", " ++ rest)
+    ∙ subst (λ k. line ++ nests_text (row_nests item k size ns) ≡ all) d e))
 
 pub take_least : (size : ℕ) (ns : List ℕ) → take (min size (length ns)) ns ≡ take size ns
 take_least size ns = take_min size ns

@@ -1,27 +1,30 @@
 //! Dense constants, appended to the line so far. They refuse for want of memory alone.
-ghost use Rattle.std.specs.Prelude.{◌≡◌, ◌∷◌, ◌++◌, ◌/◌, OnOk, IfOk, map, take, drop};
-ghost use Rattle.xf_type.specs.declared.payload_type.Dim.TheVariants.{Fixed};
+ghost use Rattle.std.specs.Prelude.{◌≡◌, [], ◌∷◌, ◌++◌, ◌/◌, OnOk, IfOk, take, drop};
+ghost use Rattle.xf_dense.specs.Printed.{first_number, nest_of, row_nests};
+ghost use Rattle.xf_format.specs.Rules.{literal_rule};
 ghost use Rattle.xf_ir.specs.declared.kind.Kind.TheVariants as kind;
-ghost use Rattle.xf_printed.specs.Dense.{rows, nested, body_text};
-ghost use Rattle.xf_printed.specs.Numbers.{number_text};
-ghost use Rattle.xf_printed.specs.Unread.{dense_text};
-ghost use Rattle.xf_printed.specs.Words.{listed};
+ghost use Rattle.xf_print.specs.Bodies.{body_text, nest_text, nests_text};
+ghost use Rattle.xf_printed.specs.Fills.{literal_fill, rule_text};
+ghost use Rattle.xf_type.specs.declared.payload_type.Dim.TheVariants.{Fixed};
 
 use xf_print_base::{write_number_of, write_tensor};
 use xf_type::{Dim, NoMemory, Shape, Width};
 
-fn write_numbers(width: Width, numbers: &[u128], line: &mut Vec<u8>) -> Result<(), NoMemory>
-    ensures { OnOk result (line.new.items
-        ≡ line.old.items ++ listed (map (number_text width) numbers.now)) }
+/// The first number; 0 where there is none.
+fn first_number(numbers: &[u128]) -> u128
+    ensures { result ≡ first_number numbers.now }
 {
-    let [first, rest @ ..] = numbers else {
-        return Ok(());
-    };
-    write_number_of(width, *first, line)?;
-    for number in rest {
-        line.extend_from_slice(b", ")?;
-        write_number_of(width, *number, line)?;
+    match numbers {
+        [] => 0,
+        [first, ..] => *first,
     }
+}
+
+/// Appends the first number.
+fn write_first(width: Width, numbers: &[u128], line: &mut Vec<u8>) -> Result<(), NoMemory>
+    ensures { OnOk result (line.new.items ≡ line.old.items ++ nest_text (nest_of width [] numbers.now)) }
+{
+    write_number_of(width, first_number(numbers), line)?;
     Ok(())
 }
 
@@ -48,7 +51,7 @@ fn write_row<'a>(
     line: &mut Vec<u8>,
 ) -> Result<&'a [u128], NoMemory>
     ensures line { OnOk result (line.new.items
-        ≡ line.old.items ++ nested width dims.now (take size numbers.now)) }
+        ≡ line.old.items ++ nest_text (nest_of width dims.now (take size numbers.now))) }
     ensures behind { IfOk result (λ behind. behind.now ≡ drop size numbers.now) }
 {
     let (row, behind) = numbers.split_at(size.min(numbers.len()));
@@ -56,27 +59,25 @@ fn write_row<'a>(
     Ok(behind)
 }
 
-/// Appends so many rows of that many numbers, with a comma and a blank between each two.
+/// Appends so many rows of that many numbers and one of what is left, with a comma and a blank between each two.
 #[cycle(rows)]
 fn write_rows(
     width: Width,
-    count: u32,
+    more: u32,
     dims: &[Dim],
     size: usize,
     numbers: &[u128],
     line: &mut Vec<u8>,
 ) -> Result<(), NoMemory>
     ensures { OnOk result (line.new.items
-        ≡ line.old.items ++ listed (map (nested width dims.now) (rows count size numbers.now))) }
+        ≡ line.old.items ++ nests_text (row_nests (nest_of width dims.now) more size numbers.now)) }
 {
-    if count == 0 {
-        return Ok(());
-    }
-    let mut left = write_row(width, dims, size, numbers, line)?;
-    for _ in 1..count {
-        line.extend_from_slice(b", ")?;
+    let mut left = numbers;
+    for _ in 0..more {
         left = write_row(width, dims, size, left, line)?;
+        line.extend_from_slice(b", ")?;
     }
+    write_nested(width, dims, left, line)?;
     Ok(())
 }
 
@@ -90,11 +91,11 @@ fn write_list(
     line: &mut Vec<u8>,
 ) -> Result<(), NoMemory>
     ensures { OnOk result (line.new.items
-        ≡ line.old.items ++ nested width (Fixed extent ∷ dims.now) numbers.now) }
+        ≡ line.old.items ++ nest_text (nest_of width (Fixed extent ∷ dims.now) numbers.now)) }
 {
     line.push(b'[')?;
     let size = row_len(numbers.len(), extent);
-    write_rows(width, extent, dims, size, numbers, line)?;
+    write_rows(width, extent.saturating_sub(1), dims, size, numbers, line)?;
     line.push(b']')?;
     Ok(())
 }
@@ -108,10 +109,10 @@ fn write_nested(
     line: &mut Vec<u8>,
 ) -> Result<(), NoMemory>
     ensures { OnOk result (line.new.items
-        ≡ line.old.items ++ nested width dims.now numbers.now) }
+        ≡ line.old.items ++ nest_text (nest_of width dims.now numbers.now)) }
 {
     match dims {
-        [] => write_numbers(width, numbers, line),
+        [] => write_first(width, numbers, line),
         [Dim::Dynamic, rest @ ..] => write_nested(width, rest, numbers, line),
         [Dim::Fixed(extent), rest @ ..] => write_list(width, *extent, rest, numbers, line),
     }
@@ -131,7 +132,7 @@ fn write_body(shape: &Shape, numbers: &[u128], line: &mut Vec<u8>) -> Result<(),
 /// Appends a constant tensor, behind a blank.
 pub fn write_dense(shape: &Shape, numbers: &[u128], line: &mut Vec<u8>) -> Result<(), NoMemory>
     ensures { OnOk result (line.new.items
-        ≡ line.old.items ++ dense_text (kind.Dense shape.now numbers.now)) }
+        ≡ line.old.items ++ rule_text literal_rule (literal_fill (kind.Dense shape.now numbers.now))) }
 {
     line.extend_from_slice(b" dense<")?;
     write_body(shape, numbers, line)?;

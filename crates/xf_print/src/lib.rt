@@ -4,11 +4,9 @@
 #![tactic(auto)]
 
 mod dense;
-mod linalg_rows;
 mod line;
 mod printer;
 mod row;
 mod slot;
-mod tensor_rows;
 
 pub use printer::print;

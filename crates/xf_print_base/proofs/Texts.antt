@@ -22,7 +22,8 @@ use Rattle.xf_format.specs.declared.expected.Expected.{Expected}
 use Rattle.xf_format.specs.declared.list.Item.{Item}
 use Rattle.xf_format.specs.Rules.{Rule, language, item_rule, argument_rule, attributes_rule, dictionary_rule}
 use Rattle.xf_format.specs.Rules.{entry_number_rule, entry_rule, entry_value_rule, entry_width_rule, kind_rule}
-use Rattle.xf_format.specs.Rules.{literal_rule, number_rule, operands_rule, pair_rule, param_rule, result_rule}
+use Rattle.xf_format.specs.Rules.{literal_rule, marked_rule, number_rule, operands_rule, pair_rule, param_rule}
+use Rattle.xf_format.specs.Rules.{result_rule}
 use Rattle.xf_format.specs.Rules.{result_tensor_rule, tensor_rule, type_rule, until_rule, use_rule, width_rule}
 use Rattle.xf_ir.specs.declared.kind.Attr.{Attr}
 use Rattle.xf_ir.specs.declared.name.ValueName.{ValueName}
@@ -32,6 +33,7 @@ use Rattle.xf_printed.specs.Items.{number_entry_fill, operands_fill, pair_fill, 
 use Rattle.xf_printed.specs.Items.{some_fill, tensor_or_none, truth_entry_fill, type_fill, type_or_none, until_fill}
 use Rattle.xf_printed.specs.Items.{no_use, use_fill, value_fill, value_type_fill}
 use Rattle.xf_printed.specs.Names.{Names, argument_text}
+use Rattle.xf_printed.specs.Structured.{marked_fill}
 use Rattle.xf_printed.specs.Numbers.{digits_of, has_minus, is_set, truth_word}
 use Rattle.xf_print_base.specs.Texts.{digits_text, literal_text, value_text}
 
@@ -54,7 +56,7 @@ items_begin W f r line old e =
     rw (e, text_append (W f) (more_written W r)) (append_assoc old (text (W f)) (text (more_written W r)))
 
 -- and one more
-items_go : (W : Fill → List Spaced) (f r : Fill) (line comma line' all item : List ℕ)
+pub items_go : (W : Fill → List Spaced) (f r : Fill) (line comma line' all item : List ℕ)
     → line ++ text (more_written W (list f r)) ≡ all
     → comma ≡ line ++ 44 ∷ [] → line' ≡ comma ++ item → item ≡ text (begun blank (W f))
     → line' ++ text (more_written W r) ≡ all
@@ -64,17 +66,24 @@ items_go W f r line comma line' all item i c e is =
     ∙ ap (λ x. line ++ (44 ∷ x)) (sym (text_append (begun blank (W f)) (more_written W r))) ∙ i)
 
 -- the list without its first item
-rest_of : {A : Type 0} (xs : List A) (x : A) → xs ≡ x ∷ drop 1 xs → take (length xs - 1) (drop 1 xs) ≡ drop 1 xs
+pub rest_of : {A : Type 0} (xs : List A) (x : A) → xs ≡ x ∷ drop 1 xs → take (length xs - 1) (drop 1 xs) ≡ drop 1 xs
 rest_of [] x at = refl
 rest_of (y ∷ ys) x at = take_all (length (y ∷ ys) - 1) ys (omega arith)
 
 -- the first of a list, and one more of it
-begins : {A : Type 0} (R : Rule) (fill : A → Fill) (x : A) (xs : List A) (line old : List ℕ)
+pub begins : {A : Type 0} (R : Rule) (fill : A → Fill) (x : A) (xs : List A) (line old : List ℕ)
     → begun none (written language R (fill x)) ≡ written language R (fill x)
     → line ≡ old ++ text (begun none (written language R (fill x)))
     → line ++ more_text R fill xs ≡ old ++ list_text R fill (x ∷ xs)
 begins R fill x xs line old first e =
     items_begin (written language R) (fill x) (more_fill fill xs) line old (e ∙ ap (λ ps. old ++ text ps) first)
+
+pub list_begins : {A : Type 0} (R : Rule) (fill : A → Fill) (xs : List A) (x : A) (line old : List ℕ)
+    → xs ≡ x ∷ drop 1 xs → begun none (written language R (fill x)) ≡ written language R (fill x)
+    → line ≡ old ++ text (begun none (written language R (fill x)))
+    → line ++ more_text R fill (take (length xs - 1) (drop 1 xs)) ≡ old ++ list_text R fill xs
+list_begins R fill xs x line old at first e =
+    rw (rest_of xs x at) (rw at (begins R fill x (drop 1 xs) line old first e))
 
 pub list_goes : {A : Type 0} (W : Fill → List Spaced) (fill : A → Fill) (xs : List A) (i : ℕ) (x : A)
     (line comma line' all item : List ℕ) → drop i xs ≡ x ∷ drop (i + 1) xs
@@ -273,7 +282,7 @@ value_written gap name (Int w bits) =
     ∙ append_assoc (gap_text (gap_of gap)) name _
 value_written gap name (Text bytes) = simp (append_assoc, append-nil)
 
-entry_first : (d : Attr) → begun none (written language entry_rule (entry_fill d))
+pub entry_first : (d : Attr) → begun none (written language entry_rule (entry_fill d))
     ≡ written language entry_rule (entry_fill d)
 unfolding entry_rule
 entry_first d = refl
@@ -286,13 +295,6 @@ pub no_dictionary : (ds : List Attr) → length ds ≡ 0 → rule_text dictionar
 unfolding dictionary_rule
 no_dictionary [] e = refl
 no_dictionary (d ∷ ds) e = absurd (omega (arith, e))
-
-pub entries_begin : (ds : List Attr) (d : Attr) (line old : List ℕ) → ds ≡ d ∷ drop 1 ds
-    → line ≡ old ++ text (begun none (written language entry_rule (entry_fill d)))
-    → line ++ more_text entry_rule entry_fill (take (length ds - 1) (drop 1 ds))
-    ≡ old ++ list_text entry_rule entry_fill ds
-entries_begin ds d line old at e =
-    rw (rest_of ds d at) (rw at (begins entry_rule entry_fill d (drop 1 ds) line old (entry_first d) e))
 
 pub dictionary_text : (ds : List Attr) → 1 ≤ length ds
     → rule_text dictionary_rule (dictionary_fill ds)
@@ -312,6 +314,17 @@ pub attributes_text : (ds : List Attr) → 1 ≤ length ds
 unfolding attributes_rule dictionary_rule kind_rule
 attributes_text [] lt = absurd (omega (arith, lt))
 attributes_text (d ∷ ds) lt = refl
+
+pub no_marked : (ds : List Attr) → length ds ≡ 0 → rule_text marked_rule (marked_fill ds) ≡ []
+unfolding marked_rule
+no_marked [] e = refl
+no_marked (d ∷ ds) e = absurd (omega (arith, e))
+
+pub marked_text : (ds : List Attr) → 1 ≤ length ds
+    → rule_text marked_rule (marked_fill ds) ≡ codes " attrs =" ++ rule_text dictionary_rule (dictionary_fill ds)
+unfolding marked_rule dictionary_rule kind_rule
+marked_text [] lt = absurd (omega (arith, lt))
+marked_text (d ∷ ds) lt = refl
 
 -- ---- what the check tries at a call that writes nothing or something
 

@@ -1,12 +1,13 @@
 //! Dictionaries of attributes, appended to the line so far. They refuse for want of memory alone.
 ghost use Rattle.std.specs.Prelude.{◌≡◌, ◌<◌, ◌++◌, OnOk};
 ghost use Rattle.std.specs.List.{flat_map};
-ghost use Rattle.xf_format.specs.Rules.{attributes_rule, dictionary_rule, entry_rule, language};
+ghost use Rattle.xf_format.specs.Rules.{attributes_rule, dictionary_rule, entry_rule, language, marked_rule};
 ghost use Rattle.xf_grammar.specs.Grammar.{begun, gap_of, listed, written};
 ghost use Rattle.xf_grammar.specs.Layout.{text};
 ghost use Rattle.xf_print_base.specs.Texts.{value_text};
 ghost use Rattle.xf_printed.specs.Attributes.{hex_digit, is_plain, byte_text, string_text};
 ghost use Rattle.xf_printed.specs.Items.{attributes_fill, dictionary_fill, entry_fill, rule_text, some_fill};
+ghost use Rattle.xf_printed.specs.Structured.{marked_fill};
 
 use crate::number::write_literal;
 use crate::words::write_word;
@@ -124,6 +125,21 @@ pub fn write_attributes(attrs: &[Attr], line: &mut Vec<u8>) -> Result<(), NoMemo
         [] => Ok(()),
         [_, ..] => {
             line.extend_from_slice(b" attributes")?;
+            write_dictionary(attrs, line)?;
+            Ok(())
+        }
+    }
+}
+
+/// Appends `attrs =` and attributes in braces, or nothing where there are none.
+#[tactic(auto, using(crate::proofs::Texts::no_marked, std::proofs::lemmas::Grind::common_steps))]
+pub fn write_marked(attrs: &[Attr], line: &mut Vec<u8>) -> Result<(), NoMemory>
+    ensures { OnOk result (line.new.items ≡ line.old.items ++ rule_text marked_rule (marked_fill attrs.now)) }
+{
+    match attrs {
+        [] => Ok(()),
+        [_, ..] => {
+            line.extend_from_slice(b" attrs =")?;
             write_dictionary(attrs, line)?;
             Ok(())
         }

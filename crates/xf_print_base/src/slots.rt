@@ -2,7 +2,8 @@
 ghost use Rattle.std.specs.Prelude.{◌≡◌, ◌++◌, OnOk, true, false, codes, slice_get};
 ghost use Rattle.xf_format.specs.declared.expected.Expected.TheVariants as due;
 ghost use Rattle.xf_format.specs.declared.list.Item.TheVariants as item;
-ghost use Rattle.xf_format.specs.Rules.{argument_rule, call_results_rule, enclosed_rule, function_name_rule};
+ghost use Rattle.xf_format.specs.Rules.{argument_rule, block_name_rule, call_results_rule, enclosed_rule};
+ghost use Rattle.xf_format.specs.Rules.{function_name_rule};
 ghost use Rattle.xf_format.specs.Rules.{function_results_rule, if_results_rule, iter_args_rule, kind_rule};
 ghost use Rattle.xf_format.specs.Rules.{listed_results_rule, literal_rule, loop_width_rule, module_name_rule};
 ghost use Rattle.xf_format.specs.Rules.{predicate_rule, result_rule, result_tensor_rule, result_types_rule};
@@ -16,8 +17,8 @@ ghost use Rattle.xf_printed.specs.Fills.{predicate_or_none, scalar_fill, symbol_
 ghost use Rattle.xf_printed.specs.Fills.{width_or_none, widths_of};
 ghost use Rattle.xf_printed.specs.Items.{argument_fill, call_results_fill, function_results_fill, if_results_fill};
 ghost use Rattle.xf_printed.specs.Items.{iter_args_fill, listed_results_fill, mark_fill, param_fill, params};
-ghost use Rattle.xf_printed.specs.Items.{result_types_fill, rule_text, tensor_or_none, type_fill, type_or_none};
-ghost use Rattle.xf_printed.specs.Items.{until_fill, value_fill, value_type_fill, word_fill};
+ghost use Rattle.xf_printed.specs.Items.{result_types_fill, rule_text, tensor_or_none, type_or_none};
+ghost use Rattle.xf_printed.specs.Items.{token_fill, until_fill, value_fill, value_type_fill, word_fill};
 
 use crate::index::{Index, write_argument};
 use crate::kinds::{is_private, predicate_or_none, symbol_of, symbol_or_none, width_of};
@@ -51,11 +52,20 @@ pub fn write_arrow(line: &mut Vec<u8>) -> Result<(), NoMemory>
 
 /// Appends a word of a row.
 #[tactic(auto, unfolding(xf_format::specs::Rules::word_rule))]
-pub fn write_keyword(word: Keyword, line: &mut Vec<u8>) -> Result<(), NoMemory>
+pub fn write_keyword(gap: bool, word: Keyword, line: &mut Vec<u8>) -> Result<(), NoMemory>
     ensures { OnOk result (line.new.items
-        ≡ line.old.items ++ rule_text (word_rule (spelling word)) (word_fill (spelling word))) }
+        ≡ line.old.items ++ rule_text (word_rule gap (spelling word)) (word_fill (spelling word))) }
 {
-    write_word(true, word.spelling(), line)
+    write_word(gap, word.spelling(), line)
+}
+
+/// Appends the name of a block.
+#[tactic(auto, unfolding(xf_format::specs::Rules::block_name_rule))]
+pub fn write_block_name(line: &mut Vec<u8>) -> Result<(), NoMemory>
+    ensures { OnOk result (line.new.items
+        ≡ line.old.items ++ rule_text block_name_rule (token_fill token.BlockName (codes "^bb0"))) }
+{
+    line.extend_from_slice(b" ^bb0")
 }
 
 // ---- symbols
@@ -196,6 +206,21 @@ pub fn write_enclosed_params(
     line: &mut Vec<u8>,
 ) -> Result<(), NoMemory>
     ensures { OnOk result (line.new.items ≡ line.old.items ++ rule_text (enclosed_rule item.Param due.AfterArgument)
+        (until_fill close_paren param_fill (params first types.now))) }
+{
+    write_params(first, types, line)?;
+    line.push(b')')?;
+    Ok(())
+}
+
+/// The same of a block.
+#[tactic(auto, using(crate::proofs::Texts::until_text, std::proofs::lemmas::Grind::common_steps))]
+pub fn write_block_params(
+    first: u64,
+    types: &[PayloadType],
+    line: &mut Vec<u8>,
+) -> Result<(), NoMemory>
+    ensures { OnOk result (line.new.items ≡ line.old.items ++ rule_text (enclosed_rule item.Param due.Other)
         (until_fill close_paren param_fill (params first types.now))) }
 {
     write_params(first, types, line)?;

@@ -1,9 +1,10 @@
 //! The operands of a `linalg` operation, those that it reads and the one that it writes, appended to the line so far.
 //! They refuse for want of memory alone.
 ghost use Rattle.std.specs.Prelude.{◌≡◌, ◌-◌, ◌++◌, OnOk, length, slice_get, take};
-ghost use Rattle.xf_format.specs.Rules.{ins_rule, outs_rule, typed_rule};
+ghost use Rattle.xf_format.specs.Rules.{ins_rule, outs_rule, some_ins_rule, typed_rule};
 ghost use Rattle.xf_print_base.specs.Index.{names_of};
 ghost use Rattle.xf_printed.specs.Items.{ins_fill, outs_fill, rule_text, typed_uses_fill};
+ghost use Rattle.xf_printed.specs.Structured.{some_ins_fill};
 
 use crate::index::Index;
 use crate::types::write_some_type;
@@ -20,7 +21,7 @@ pub fn ins_of(operands: &[ValueName]) -> &[ValueName]
 
 /// Appends values and their types, and the parenthesis behind them.
 #[tactic(auto, using(crate::proofs::InsAndOuts::typed_text, std::proofs::lemmas::Grind::common_steps))]
-pub fn write_typed_uses(
+fn write_typed_uses(
     names: &Index<'_>,
     values: &[ValueName],
     line: &mut Vec<u8>,
@@ -47,6 +48,22 @@ pub fn write_ins(
 {
     line.extend_from_slice(b" ins(")?;
     write_typed_uses(names, values, line)
+}
+
+/// The same, or nothing for no values.
+#[tactic(auto, using(crate::proofs::InsAndOuts::some_ins))]
+pub fn write_some_ins(
+    names: &Index<'_>,
+    values: &[ValueName],
+    line: &mut Vec<u8>,
+) -> Result<(), NoMemory>
+    ensures { OnOk result (line.new.items
+        ≡ line.old.items ++ rule_text some_ins_rule (some_ins_fill (names_of names.now) values.now)) }
+{
+    match values {
+        [] => Ok(()),
+        [_, ..] => write_ins(names, values, line),
+    }
 }
 
 /// Appends the last operand with its type, or blanks alone where there is none.

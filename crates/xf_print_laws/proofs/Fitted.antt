@@ -1,4 +1,4 @@
--- The operations of a valid module of core kinds have what their slots need, where they stand.
+-- The operations of a valid module have what their slots need, where they stand.
 use Rattle.std.proofs.Common.{◌≡◌, ◌⊎◌, inl, inr, ℕ, suc, ◌+◌, ◌^◌, ◌<◌, ◌≤◌, Bool, true, false, List, [], ◌∷◌, ◌++◌}
 use Rattle.std.proofs.Common.{length, Option, Some, None, refl, sym, ap, subst, ◌∙◌, arith, slice_get, append-nil}
 use Rattle.std.specs.Prelude.{◌&&◌, ◌||◌, ◌==◌, map, not, is_some, nat_lt, if◌then◌else◌}
@@ -35,7 +35,6 @@ use Rattle.xf_ir.proofs.Root.{one_block}
 use Rattle.xf_ir.specs.Bounds.{HasShortLists}
 use Rattle.xf_printed.specs.Names.{Names, no_names, first_args, next_number, number_of}
 use Rattle.xf_printed.specs.Names.{first_of}
-use Rattle.xf_print_laws.specs.Core.{is_core_op, IsCore}
 use Rattle.xf_print_laws.specs.Naming.{FunctionsNumber}
 use Rattle.xf_print_laws.proofs.Needs.{Known, TypeFits, names_in, tree, Fits, OpsFit}
 use Rattle.xf_print_laws.proofs.Needs.{RegionsFit, FunctionsFit, ModuleFits}
@@ -54,6 +53,12 @@ use Rattle.xf_print_laws.proofs.Needs.{Named}
 use Rattle.xf_ir.specs.RuleAttributes.{type_fits, has_types_in_range}
 use Rattle.xf_print_laws.proofs.Needs.{TypeKnown}
 use Rattle.xf_print_laws.proofs.Ruled.{type_is, types_stored, first_stored, counts, carried_right, blocks_right}
+use Rattle.xf_print_laws.proofs.RuledStructured.{dense_right, maps_right, window_right, KnownFits, properties_right}
+use Rattle.xf_print_laws.proofs.RuledStructured.{HolderFits, holder_fits, yields_right}
+use Rattle.xf_ir.specs.RuleSlices.{has_its_slices}
+use Rattle.std.proofs.lemmas.List.{length-map}
+use Rattle.xf_ir.specs.RuleLinalg.{has_its_maps}
+use Rattle.xf_print_laws.specs.Stored.{HasShortProperties}
 use Rattle.xf_print_laws.proofs.Ruled.{args_right, attrs_right, symbol_fits, Within, Narrow}
 
 -- ---- visible values
@@ -123,6 +128,12 @@ module _ {names : Names} {n : OpName} {k a : ℕ} {ts args : List PayloadType} (
       ]
   inside_known room s i ins within v t e = w v t e
 
+-- their types fit
+known_fit : (names : Names) (env : Typed) (os : List ValueName) → Sees env names
+    → Each KnownFits (map (type_at env) os)
+known_fit names env [] w = tt
+known_fit names env (v ∷ vs) w = (λ t e. (w v t e).1.0, known_fit names env vs w)
+
 -- ---- the rules
 
 -- what is asked of each operation where it stands
@@ -132,58 +143,72 @@ pub record Rules (sigs : Signatures) (p : Placed) : Type 0 where
   pub types : has_its_types sigs p ≡ true
   pub attributes : has_its_attributes p ≡ true
   pub ranges : has_types_in_range p ≡ true
-  pub core : is_core_op p.tree ≡ true
+  pub maps : has_its_maps p ≡ true
+  pub slices : has_its_slices p ≡ true
   pub short : HasShortLists p.tree
   pub bytes : AllBytes p
+  pub properties : HasShortProperties p.tree
 
 rules_of : (sigs : Signatures) (xs : List Placed) → Each (λ p. has_its_regions p ≡ true) xs
     → Each (λ p. ends_its_blocks p ≡ true) xs → Each (λ p. has_its_types sigs p ≡ true) xs
     → Each (λ p. has_its_attributes p ≡ true) xs → Each (λ p. has_types_in_range p ≡ true) xs
-    → Each (λ (p : Placed). is_core_op p.tree ≡ true) xs → Each (λ (p : Placed). HasShortLists p.tree) xs
-    → Each AllBytes xs → Each (Rules sigs) xs
-rules_of sigs [] a b c d r e f g = tt
-rules_of sigs (x ∷ xs) a b c d r e f g = (
+    → Each (λ p. has_its_maps p ≡ true) xs → Each (λ p. has_its_slices p ≡ true) xs
+    → Each (λ (p : Placed). HasShortLists p.tree) xs
+    → Each AllBytes xs → Each (λ (p : Placed). HasShortProperties p.tree) xs → Each (Rules sigs) xs
+rules_of sigs [] a b c d r e s f g h = tt
+rules_of sigs (x ∷ xs) a b c d r e s f g h = (
   record {
     regions = a.0;
     blocks = b.0;
     types = c.0;
     attributes = d.0;
     ranges = r.0;
-    core = e.0;
+    maps = e.0;
+    slices = s.0;
     short = f.0;
     bytes = g.0;
+    properties = h.0;
   },
-  rules_of sigs xs a.1 b.1 c.1 d.1 r.1 e.1 f.1 g.1,
+  rules_of sigs xs a.1 b.1 c.1 d.1 r.1 e.1 s.1 f.1 g.1 h.1,
 )
 
 -- an operation that keeps the rules fits, where its entry and its operands are known
 op_fits : {names : Names} {sigs : Signatures} {h : Holder} (env : Typed) {t : Tree} {after rest : Ops}
-    → Rules sigs (place h env t after) → (not (is_terminator t.kind) || is_end rest) ≡ true
+    → Rules sigs (place h env t after) → HolderFits h → (not (is_terminator t.kind) || is_end rest) ≡ true
     → Sees env names → every known (map (type_at env) t.operands) ≡ true → number_of (names.entry t.name.0) < 2 ^ 64
     → first_of (names.entry t.name.0) + length (first_args t.regions) < 2 ^ 64 → Fits names t rest
-op_fits {names} {sigs} {h} env {t} r last w seen number first =
+op_fits {names} {sigs} {h} env {t} {after} r holds last w seen number first =
     let at = both_true (kind_fits t.kind) (attributes_fit t.attrs) r.attributes in
     let d = both_true (every type_fits t.results) _ r.ranges in
     let e = both_true (every type_fits (returned_types t.kind)) _ d.1 in
     let types = map (type_at env) t.operands in
     let o = all_known names env t.operands w seen in
     let ruled = subst (λ os. type_row sigs h.gives t.kind os t.results ≡ true) (sym o.1) r.types in
+    let yields = yields_right h t.kind after holds (both_true (blocks_end t.kind t.regions) _ r.blocks).1 in
+    let count = counts sigs h.gives names t.kind t.operands t.results yields ruled in
+    let results = types_stored t.results d.0 in
+    let known = known_fit names env t.operands w in
+    let few : length types < 2 ^ 32 = (let n = length-map t.operands (type_at env) in
+    omega (arith, n, r.short.operands)) in
     record {
-      core = r.core;
       kind_fit = at.0;
       symbol = symbol_fits t.kind at.0 r.short.symbol;
       attrs = attrs_right t.attrs at.1 r.bytes r.short.names;
       values = o.0;
-      count = counts sigs h.gives names t.kind t.operands t.results ruled;
+      count = count;
       regions = (blocks_right t.kind types t.results t.regions r.regions).0;
-      arguments = args_right t.kind types t.results t.regions r.core r.regions;
+      arguments = args_right t.kind types t.results t.regions r.regions;
       carried = carried_right sigs h.gives names t.kind t.operands t.results ruled;
-      results = types_stored t.results d.0;
+      results = results;
       args = first_stored t.regions e.1;
       returned = types_stored (returned_types t.kind) e.0;
       number = number;
       first = first;
       few = r.short;
+      dense = dense_right sigs h.gives t.kind types t.results at.0 r.types results;
+      maps = maps_right t.kind types r.properties.iterators r.maps known;
+      window = window_right names t.kind t.operands t.results count;
+      properties = properties_right sigs h.gives t types r.properties r.types r.maps few known;
       last = last;
       ends = (both_true (blocks_end t.kind t.regions) _ r.blocks).0;
     }
@@ -203,11 +228,11 @@ last_right {p = p} r =
 
 module _ (names : Names) (sigs : Signatures) where
   mutual
-    ops_fit : (ops : Ops) (h : Holder) (env : Typed) (k a : ℕ) → OpsObey (Rules sigs) h env ops
+    ops_fit : (ops : Ops) (h : Holder) (env : Typed) (k a : ℕ) → HolderFits h → OpsObey (Rules sigs) h env ops
         → OpsObey AreKnown h env ops → OpsInner ops → Entered names k a ops → ops_number k ops < 2 ^ 64
         → ops_argument a ops < 2 ^ 64 → Sees env names → OpsFit names ops
-    ops_fit no_ops h env k a o s i en kl al w = tt
-    ops_fit (op n kd ds os ts rs rest) h env k a o s i en kl al w =
+    ops_fit no_ops h env k a hf o s i en kl al w = tt
+    ops_fit (op n kd ds os ts rs rest) h env k a hf o s i en kl al w =
         let x : HasEntry names n k a ts (first_args rs) = en.0 in
         let k1 = next_number k ts in
         let a1 = a + length (first_args rs) in
@@ -220,27 +245,28 @@ module _ (names : Names) (sigs : Signatures) where
         let na = ap first_of x.is ∙ x.first in
         let few = (o.0).short.results in
         let types = map (type_at env) os in
-        let f : Fits names (tree n kd ds os ts rs) rest = op_fits env o.0 (last_right o.0) w s.0 (omega arith)
+        let f : Fits names (tree n kd ds os ts rs) rest = op_fits env o.0 hf (last_right o.0) w s.0 (omega arith)
         (omega arith) in
-        let inside = regions_fit rs n (holder_of kd types ts) env (first_args rs) 0 k1 a1 o.1.0 s.1.0 i.1.0 en.1.0
+        let inside = regions_fit rs n (holder_of kd types ts) env (first_args rs) 0 k1 a1
+        (holder_fits sigs h.gives kd types ts (o.0).types) o.1.0 s.1.0 i.1.0 en.1.0
         (omega arith) (omega arith) (blocks_right kd types ts rs (o.0).regions).1
         (inside_known x env w (omega arith) f.args) in
-        let later = ops_fit rest h _ (regions_number k1 rs) (regions_argument a1 rs) o.1.1 s.1.1 i.1.1 en.1.1 kl al
+        let later = ops_fit rest h _ (regions_number k1 rs) (regions_argument a1 rs) hf o.1.1 s.1.1 i.1.1 en.1.1 kl al
         (done_known x env w (omega arith) few f.results) in
         (i.0, (f, (inside, later)))
 
     regions_fit : (rs : Regions) (n : OpName) (h : Holder) (env : Typed) (first : List PayloadType) (i k a : ℕ)
-        → RegionsObey (Rules sigs) h env n i rs → RegionsObey AreKnown h env n i rs → RegionsInner rs
+        → HolderFits h → RegionsObey (Rules sigs) h env n i rs → RegionsObey AreKnown h env n i rs → RegionsInner rs
         → RegionsEntered names k a rs → regions_number k rs < 2 ^ 64 → regions_argument a rs < 2 ^ 64
         → Narrow first rs
         → ((j : ℕ) (args : List PayloadType) → Within args first → Sees ((inside n j (length args), args) ∷ env) names)
         → RegionsFit names rs
-    regions_fit no_regions n h env first i k a o s inner en kl al nr w = tt
-    regions_fit (region args ops rest) n h env first i k a o s inner en kl al nr w =
+    regions_fit no_regions n h env first i k a hf o s inner en kl al nr w = tt
+    regions_fit (region args ops rest) n h env first i k a hf o s inner en kl al nr w =
         let m = regions_number_more (ops_number k ops) rest in
         let l = regions_argument_more (ops_argument a ops) rest in
-        let one = ops_fit ops h _ k a o.0 s.0 inner.0 en.0 (omega arith) (omega arith) (w i args nr.0) in
-        (one, regions_fit rest n h env first (suc i) _ _ o.1 s.1 inner.1 en.1 kl al nr.1 w)
+        let one = ops_fit ops h _ k a hf o.0 s.0 inner.0 en.0 (omega arith) (omega arith) (w i args nr.0) in
+        (one, regions_fit rest n h env first (suc i) _ _ hf o.1 s.1 inner.1 en.1 kl al nr.1 w)
 
 -- ---- functions
 
@@ -267,10 +293,10 @@ container_bare sigs gives (kind.Func symbol private results) os ts c e =
     types_are ts [] (both_true (have_types os []) _ e).1
 container_bare sigs gives k os ts c e = absurd cc
 
-functions_fit : (sigs : Signatures) (fs : Ops) (h : Holder) → FunctionsObey (Rules sigs) h fs
+functions_fit : (sigs : Signatures) (fs : Ops) (h : Holder) → HolderFits h → FunctionsObey (Rules sigs) h fs
     → FunctionsObey AreKnown h fs → FunctionsAlone fs → FunctionsNumber fs → Once (ops_names fs) → FunctionsFit fs
-functions_fit sigs no_ops h o s i st once = tt
-functions_fit sigs (op n k ds os ts rs rest) h o s i st once =
+functions_fit sigs no_ops h hf o s i st once = tt
+functions_fit sigs (op n k ds os ts rs rest) h hf o s i st once =
     let f : Ops = op n k ds os ts rs no_ops in
     let names : Names = names_in n k ds os ts rs in
     let en = function_entered n k ds os ts rs rest once in
@@ -283,23 +309,25 @@ functions_fit sigs (op n k ds os ts rs rest) h o s i st once =
     let none : Sees [] names = λ v t e. absurd cc in
     let types = map (type_at []) os in
     let bare = container_bare sigs h.gives k types ts (or_right (is_module k) (is_function k) i.0) (o.0).types in
-    let fit : Fits names (tree n k ds os ts rs) no_ops = op_fits [] o.0
+    let fit : Fits names (tree n k ds os ts rs) no_ops = op_fits [] o.0 hf
     (or_right (not (is_terminator k)) true refl) none s.0 (omega arith) (omega arith) in
-    let inside = regions_fit names sigs rs n (holder_of k types ts) [] (first_args rs) 0 _ _ o.1.0 s.1.0 i.1.0 en.1.0 kl
+    let inside = regions_fit names sigs rs n (holder_of k types ts) [] (first_args rs) 0 _ _
+    (holder_fits sigs h.gives k types ts (o.0).types) o.1.0 s.1.0 i.1.0 en.1.0 kl
     al (blocks_right k types ts rs (o.0).regions).1 (inside_known x [] none (omega arith) fit.args) in
-    let later = functions_fit sigs rest h o.1.1 s.1.1 i.1.1 st.1.1
+    let later = functions_fit sigs rest h hf o.1.1 s.1.1 i.1.1 st.1.1
     (once_right (n ∷ regions_names rs) (ops_names rest) once) in
     (i.0, (bare, (fit, (inside, later))))
 
 -- ---- the module
 
-pub module_fits : (m : Module) → IsValid m → IsCore m → IsStored m → tree_count m.root ≤ most_operations → ModuleFits m
-module_fits m v core st few =
+pub module_fits : (m : Module) → IsValid m → IsStored m → tree_count m.root ≤ most_operations → ModuleFits m
+module_fits m v st few =
     let t = m.root in
     let sigs = signatures m in
     let h = root_holder t in
-    let rules = rules_of sigs (placed m) v.regions v.blocks v.types v.attributes v.ranges core
-    (short_placed m st.lists) st.bytes in
+    let rules = rules_of sigs (placed m) v.regions v.blocks v.types v.attributes v.ranges v.maps v.slices
+    (short_placed m st.lists) st.bytes st.properties in
+    let holds = holder_fits sigs [] t.kind (map (type_at []) t.operands) t.results v.types.0 in
     let one : t.regions ≡ region [] (block_of t.regions) no_regions = one_block t.kind v.functions.root
     (map (type_at []) t.operands) t.results t.regions v.regions.0 in
     let functions = rw one at (blocks_obey (Rules sigs) h t.regions rules.1) in
@@ -311,9 +339,9 @@ module_fits m v core st few =
       no_results = container_bare sigs [] t.kind (map (type_at []) t.operands) t.results
           (or_left (is_module t.kind) (is_function t.kind) v.functions.root) v.types.0;
       one = one;
-      root = op_fits [] rules.0 (or_right (not (is_terminator t.kind)) true refl) (λ v t e. absurd cc)
+      root = op_fits [] rules.0 (λ g. absurd cc) (or_right (not (is_terminator t.kind)) true refl) (λ v t e. absurd cc)
           (root_known t.operands v.uses.root) (omega arith) (omega arith);
-      functions = functions_fit sigs (functions_of m) h functions.0
+      functions = functions_fit sigs (functions_of m) h holds functions.0
           (functions_known h (functions_of m) v.uses.functions) alone.0 (module_numbers m st.lists few)
           (once_left (ops_names (block_of t.regions)) [] once);
     }

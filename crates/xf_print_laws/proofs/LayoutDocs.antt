@@ -9,6 +9,6 @@ use Rattle.xf_print_laws.proofs.LayoutTable.{classes, known_classes, rows_apart,
 use Rattle.xf_print_laws.proofs.Printed.{printed_goes}
 
 pub printed_is_laid_out : PrintedIsLaidOut
-printed_is_laid_out m v core st within =
-    let go = printed_goes m v core st within in
+printed_is_laid_out m v st within =
+    let go = printed_goes m v st within in
     docs_laid_out format classes known_classes rows_apart shapes_lex level.File 0 (module_docs m) the_end go.fit go.lex

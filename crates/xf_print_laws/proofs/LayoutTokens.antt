@@ -25,6 +25,9 @@ use Rattle.xf_ir.specs.Words.{is_word}
 use Rattle.xf_printed.specs.Attributes.{hex_digit, is_plain, byte_text, string_text}
 use Rattle.xf_printed.specs.Fills.{number_name}
 use Rattle.xf_printed.specs.Names.{argument_text}
+use Rattle.xf_printed.specs.Words.{iterator_text, dimension_text}
+use Rattle.xf_ir.specs.declared.kind.IteratorKind.{IteratorKind}
+use Rattle.xf_ir.specs.declared.kind.IteratorKind.TheVariants.{Parallel, Reduction}
 use Rattle.xf_print_laws.proofs.Strings.{hex_is, plain_apart}
 
 -- ---- bytes that pass a test
@@ -131,11 +134,22 @@ integer_lexes n lt =
 pub argument_lexes : (n : ℕ) → n < 2 ^ 64 → IsLexeme (terminal kind.Value (argument_text n))
 argument_lexes n lt = argument_by (decimal n) (decimal_digits n lt)
 
+digit_word_byte : (b : ℕ) → is_digit b ≡ true → is_word_byte b ≡ true
+digit_word_byte b e = grind (arith, nat_tests)
+
+dimension_by : (ds : List ℕ) → Digits ds → IsLexeme (terminal kind.Word (100 ∷ ds))
+dimension_by ds d =
+    let r = run_pass is_word_byte ds (pass_more is_digit is_word_byte digit_word_byte ds d.all) in
+    known_token kind.Word (100 ∷ ds) (rw r refl) refl (low_bytes is_digit digit_low ds d.all)
+
+pub dimension_lexes : (n : ℕ) → n < 2 ^ 64 → IsLexeme (terminal kind.Word (dimension_text n))
+dimension_lexes n lt = dimension_by (decimal n) (decimal_digits n lt)
+
 -- ---- marks
 
 -- the marks of payloads
 abbrev marks : List ℕ
-marks = 40 ∷ 41 ∷ 44 ∷ 45 ∷ 58 ∷ 61 ∷ 91 ∷ 93 ∷ 123 ∷ 125 ∷ []
+marks = 40 ∷ 41 ∷ 44 ∷ 45 ∷ 58 ∷ 60 ∷ 61 ∷ 62 ∷ 91 ∷ 93 ∷ 123 ∷ 125 ∷ []
 
 abbrev pub is_mark : ℕ → Bool
 is_mark b = some (λ m. m == b) marks
@@ -144,28 +158,12 @@ abbrev IsAlone : ℕ → Type 0
 IsAlone b = (token_at false (b ∷ []) ≡ front.Token (kind.Mark b) 1) × (is_low b ≡ true)
 
 all_alone : Each IsAlone marks
-all_alone = (
-  (refl, refl),
-  (
-    (refl, refl),
-    (
-      (refl, refl),
-      (
-        (refl, refl),
-        (
-          (refl, refl),
-          (
-            (refl, refl),
-            (
-              (refl, refl),
-              ((refl, refl), ((refl, refl), ((refl, refl), tt))),
-            ),
-          ),
-        ),
-      ),
-    ),
-  ),
-)
+all_alone =
+    let last : Each IsAlone (91 ∷ 93 ∷ 123 ∷ 125 ∷ []) =
+    ((refl, refl), ((refl, refl), ((refl, refl), ((refl, refl), tt)))) in
+    let middle : Each IsAlone (58 ∷ 60 ∷ 61 ∷ 62 ∷ 91 ∷ 93 ∷ 123 ∷ 125 ∷ []) =
+    ((refl, refl), ((refl, refl), ((refl, refl), ((refl, refl), last)))) in
+    ((refl, refl), ((refl, refl), ((refl, refl), ((refl, refl), middle))))
 
 one_of : (P : ℕ → Type 0) (b : ℕ) (ms : List ℕ) → some (λ m. m == b) ms ≡ true → Each P ms → P b
 one_of P b [] e h = absurd cc
@@ -269,3 +267,13 @@ string_by text o =
 
 pub string_lexes : (bytes : List ℕ) → Each (λ b. b < 256) bytes → IsLexeme (terminal kind.Text (string_text bytes))
 string_lexes bytes h = string_by (flat_map byte_text bytes) (over_bytes bytes h)
+
+pub iterator_lexes : (k : IteratorKind) → IsLexeme (terminal kind.Text (iterator_text k))
+iterator_lexes Parallel = known_token kind.Text (codes "\"parallel\"") refl refl refl
+iterator_lexes Reduction = known_token kind.Text (codes "\"reduction\"") refl refl refl
+
+pub block_name_lexes : IsLexeme (terminal kind.BlockName (codes "^bb0"))
+block_name_lexes = known_token kind.BlockName (codes "^bb0") refl refl refl
+
+pub one_lexes : IsLexeme (terminal kind.Integer (codes "1"))
+one_lexes = known_token kind.Integer (codes "1") refl refl refl

@@ -1,4 +1,6 @@
+pub mod Classes
 pub mod Count
+pub mod Dense
 pub mod Entries
 pub mod Fitted
 pub mod Goes
@@ -6,14 +8,19 @@ pub mod LayoutDocs
 pub mod LayoutTable
 pub mod LayoutTokens
 pub mod Lists
+pub mod Maps
 pub mod Needs
 pub mod Numbers
 pub mod Operations
 pub mod Printed
 pub mod Rows
 pub mod Ruled
+pub mod RuledStructured
+pub mod Runs
 pub mod Signed
 pub mod Single
+pub mod SlotTable
 pub mod Slots
 pub mod Strings
+pub mod Structured
 pub mod Words

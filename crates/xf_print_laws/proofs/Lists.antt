@@ -32,7 +32,8 @@ use Rattle.xf_print_laws.specs.Naming.{use_printed, arguments_printed}
 use Rattle.xf_print_laws.specs.SaidPrinted.{known_types, value_printed, integer_printed, entry_printed}
 use Rattle.xf_print_laws.proofs.Goes.{add_args, add_uses, add_types, add_results, room, Goes, skips, take_goes}
 use Rattle.xf_print_laws.proofs.Goes.{off_goes, peek_goes, peek_off_goes, so_said, both_go, silent_goes, begins_item}
-use Rattle.xf_print_laws.proofs.Goes.{Items, paren_ends, list_goes, until_goes, add_entries, few_entries, brace_ends}
+use Rattle.xf_print_laws.proofs.Goes.{Items, All, paren_ends, list_goes, until_goes, add_entries, few_entries}
+use Rattle.xf_print_laws.proofs.Goes.{brace_ends}
 use Rattle.xf_print_laws.proofs.LayoutTokens.{word_lexes, mark_lexes, string_lexes}
 use Rattle.xf_print_laws.proofs.Needs.{Known, TypeFits, AttrFits}
 use Rattle.xf_print_laws.proofs.Single.{argument_goes, value_goes, type_goes, one_result_goes, short_is}
@@ -52,8 +53,9 @@ use Rattle.xf_print_laws.proofs.Needs.{TypeKnown}
 use Rattle.std.proofs.Common.{zero, slice_get}
 use Rattle.std.specs.Prelude.{is_some}
 use Rattle.xf_ir.specs.Lists.{is_empty}
-use Rattle.xf_format.specs.Rules.{ins_rule, typed_rule, outs_rule}
-use Rattle.xf_printed.specs.Fills.{ins_fill, outs_fill}
+use Rattle.xf_format.specs.Rules.{ins_rule, typed_rule, outs_rule, some_ins_rule, marked_rule}
+use Rattle.xf_printed.specs.Fills.{ins_fill, outs_fill, typed_uses_fill}
+use Rattle.xf_printed.specs.Structured.{some_ins_fill, marked_fill}
 use Rattle.xf_print_laws.proofs.Single.{word_goes}
 
 -- ---- entries
@@ -143,11 +145,12 @@ entry_goes name (attr.Text bytes) y d h e =
 abbrev pub with_attrs : List Attr → Said → Said
 with_attrs ds d = add_entries d (map entry_printed ds)
 
-entry_items : Items entry_rule entry_fill with_attrs AttrFits (λ y. not (is_kind equals y))
+entry_items : Items entry_rule entry_fill with_attrs (All AttrFits) (λ y. not (is_kind equals y))
 unfolding entry_rule
 entry_items = record {
-  one = λ a y d h e. entry_goes a.name a.value y d h e;
-  begins = λ a y h. refl;
+  one = λ a ds y d h e. entry_goes a.name a.value y d h.0 e;
+  later = λ a ds d h. h.1;
+  begins = λ a ds y d h. refl;
   none = λ d. ap (λ es. record d { entries = es }) (sym (append-nil d.entries));
   more = λ a ds d h. ap (λ es. record d { entries = es }) (append_assoc d.entries _ (map entry_printed ds));
   behind = refl;
@@ -171,6 +174,15 @@ attributes_goes (a ∷ ds) y d h e =
     take_goes (word_lexes (codes "attributes") refl) refl
     (both_go (silent_goes true due.Other open_brace (mark_lexes 123 refl) refl) (entries_go (a ∷ ds) y d h))
 
+pub marked_goes : (ds : List Attr) (y : Terminal) (d : Said) → Each AttrFits ds
+    → not (is_word (codes "attrs") y) ≡ true → Goes marked_rule (marked_fill ds) y d (with_attrs ds d)
+unfolding marked_rule
+marked_goes [] y d h e = so_said (entry_items.none d) (off_goes e skips)
+marked_goes (a ∷ ds) y d h e =
+    take_goes (word_lexes (codes "attrs") refl) refl
+    (both_go (silent_goes true due.Other equals (mark_lexes 61 refl) refl)
+    (both_go (silent_goes true due.Other open_brace (mark_lexes 123 refl) refl) (entries_go (a ∷ ds) y d h)))
+
 pub none_by_length : {A : Type 0} (xs : List A) → length xs ≡ 0 → xs ≡ []
 none_by_length [] e = refl
 none_by_length (x ∷ xs) e = absurd (omega arith)
@@ -184,11 +196,12 @@ abbrev pub with_values : Names → List ValueName → Said → Said
 with_values names os d = add_uses d (map (use_printed names) os)
 
 pub value_items : (names : Names) (gap : Bool)
-    → Items (use_rule gap) (value_fill names) (with_values names) (Known names) (λ y. not (is_index y))
+    → Items (use_rule gap) (value_fill names) (with_values names) (All (Known names)) (λ y. not (is_index y))
 unfolding use_rule
 value_items names gap = record {
-  one = λ v y d h e. value_goes names v gap y d h e;
-  begins = λ v y h. refl;
+  one = λ v os y d h e. value_goes names v gap y d h.0 e;
+  later = λ v os d h. h.1;
+  begins = λ v os y d h. refl;
   none = λ d. ap (λ us. record d { uses = us }) (sym (append-nil d.uses));
   more = λ v os d h. ap (λ us. record d { uses = us }) (append_assoc d.uses _ (map (use_printed names) os));
   behind = refl;
@@ -212,13 +225,14 @@ types_more None os ts e = absurd e
 types_more (Some t) os ts e = append_assoc ts (t ∷ []) (known_types os)
 
 pub type_items : (names : Names) (gap : Bool)
-    → Items (type_rule gap) (value_type_fill names) (with_types_of names) (Known names) (λ y. true)
+    → Items (type_rule gap) (value_type_fill names) (with_types_of names) (All (Known names)) (λ y. true)
 type_items names gap = record {
-  one = λ v y d h e. type_goes gap (type_of names v) y d h.0;
-  begins = λ v y h. type_begins gap (type_of names v) y h.0;
+  one = λ v os y d h e. type_goes gap (type_of names v) y d h.0.0;
+  later = λ v os d h. h.1;
+  begins = λ v os y d h. type_begins gap (type_of names v) y h.0.0;
   none = λ d. ap (λ ts. record d { types = ts }) (sym (append-nil d.types));
   more = λ v os d h. ap (λ ts. record d { types = ts })
-      (types_more (type_of names v) (map (type_of names) os) d.types h.0);
+      (types_more (type_of names v) (map (type_of names) os) d.types h.0.0);
   behind = refl;
 }
 
@@ -242,18 +256,35 @@ operands_go names (v ∷ os) y d h e c =
 
 -- ---- ins and outs
 
-pub ins_goes : (names : Names) (os : List ValueName) (y : Terminal) (d : Said) → Each (Known names) os
-    → not (is_empty os) ≡ true → Goes ins_rule (ins_fill names os) y d (with_operands names os d)
-unfolding ins_rule typed_rule kind_rule
-ins_goes names [] y d h e = absurd cc
-ins_goes names (v ∷ os) y d h e =
+-- operands and their types up to a parenthesis
+typed_go : (names : Names) (v : ValueName) (os : List ValueName) (y : Terminal) (d : Said) → Each (Known names) (v ∷ os)
+    → Goes typed_rule (typed_uses_fill names (v ∷ os)) y d (with_operands names (v ∷ os) d)
+unfolding typed_rule kind_rule
+typed_go names v os y d h =
     let uses = list_goes (value_items names false) v os (terminal colon []) d h refl refl in
     let types = list_goes (type_items names true) v os (terminal close_paren []) (with_values names (v ∷ os) d) h refl
     refl in
-    both_go (word_goes (codes "ins") _ d refl refl)
-    (both_go (silent_goes false due.Other open_paren (mark_lexes 40 refl) refl)
-    (both_go uses (both_go (silent_goes true due.Other colon (mark_lexes 58 refl) refl)
-    (both_go types (silent_goes false due.Other close_paren (mark_lexes 41 refl) refl)))))
+    both_go uses (both_go (silent_goes true due.Other colon (mark_lexes 58 refl) refl)
+    (both_go types (silent_goes false due.Other close_paren (mark_lexes 41 refl) refl)))
+
+pub ins_goes : (names : Names) (os : List ValueName) (y : Terminal) (d : Said) → Each (Known names) os
+    → not (is_empty os) ≡ true → Goes ins_rule (ins_fill names os) y d (with_operands names os d)
+unfolding ins_rule
+ins_goes names [] y d h e = absurd cc
+ins_goes names (v ∷ os) y d h e =
+    both_go (word_goes true (codes "ins") _ d refl refl)
+    (both_go (silent_goes false due.Other open_paren (mark_lexes 40 refl) refl) (typed_go names v os y d h))
+
+-- the same where there may be none
+pub some_ins_go : (names : Names) (os : List ValueName) (y : Terminal) (d : Said) → Each (Known names) os
+    → not (is_word (codes "ins") y) ≡ true → Goes some_ins_rule (some_ins_fill names os) y d (with_operands names os d)
+unfolding some_ins_rule
+some_ins_go names [] y d h e =
+    so_said ((value_items names true).none d ∙ (type_items names true).none (with_values names [] d))
+    (off_goes e skips)
+some_ins_go names (v ∷ os) y d h e =
+    take_goes (word_lexes (codes "ins") refl) refl
+    (both_go (silent_goes false due.Other open_paren (mark_lexes 40 refl) refl) (typed_go names v os y d h))
 
 -- an operand and its type
 abbrev pub with_out : Names → Option ValueName → Said → Said
@@ -290,10 +321,11 @@ unfolding result_rule
 result_begins (Scalar w) y h = refl
 result_begins (Tensor s) y h = refl
 
-result_items : Items (result_rule false) type_fill with_results TypeFits (λ y. true)
+result_items : Items (result_rule false) type_fill with_results (All TypeFits) (λ y. true)
 result_items = record {
-  one = λ t y d h e. one_result_goes false t y d h;
-  begins = result_begins;
+  one = λ t ts y d h e. one_result_goes false t y d h.0;
+  later = λ t ts d h. h.1;
+  begins = λ t ts y d h. result_begins t y h.0;
   none = λ d. ap (λ ts. record d { results = ts }) (sym (append-nil d.results));
   more = λ t ts d h. ap (λ us. record d { results = us }) (append_assoc d.results (t ∷ []) ts);
   behind = refl;
@@ -341,13 +373,14 @@ param_name p = argument_text p.number
 abbrev with_params : List Param → Said → Said
 with_params ps d = add_types (add_args d (map param_name ps)) (map (λ (p : Param). p.of) ps)
 
-param_items : Items param_rule param_fill with_params ParamFits (λ y. true)
+param_items : Items param_rule param_fill with_params (All ParamFits) (λ y. true)
 unfolding param_rule argument_rule
 param_items = record {
-  one = λ p y d h e. (let t = type_goes true (Some p.of) y (add_args d (param_name p ∷ [])) h.0 in
-      both_go (argument_goes false p.number _ d h.1)
+  one = λ p ps y d h e. (let t = type_goes true (Some p.of) y (add_args d (param_name p ∷ [])) h.0.0 in
+      both_go (argument_goes false p.number _ d h.0.1)
       (both_go (silent_goes false due.Other colon (mark_lexes 58 refl) refl) t));
-  begins = λ p y h. refl;
+  later = λ p ps d h. h.1;
+  begins = λ p ps y d h. refl;
   none = λ d i. record d { args = sym (append-nil d.args) i; types = sym (append-nil d.types) i };
   more = λ p ps d h i. record d {
     args = append_assoc d.args (param_name p ∷ []) (map param_name ps) i;
@@ -369,13 +402,14 @@ params_are k (t ∷ ts) lt h =
 abbrev pub with_arguments : ℕ → List PayloadType → Said → Said
 with_arguments k ts d = add_types (add_args d (arguments_printed k ts)) ts
 
-pub params_go : (k : ℕ) (ts : List PayloadType) (y : Terminal) (d : Said) → Each TypeFits ts → k + length ts < 2 ^ 64
-    → Goes (enclosed_rule item.Param due.AfterArgument) (until_fill close_paren param_fill (params k ts)) y d
+pub params_go : (due_behind : Expected) (k : ℕ) (ts : List PayloadType) (y : Terminal) (d : Said)
+    → Each TypeFits ts → k + length ts < 2 ^ 64
+    → Goes (enclosed_rule item.Param due_behind) (until_fill close_paren param_fill (params k ts)) y d
     (with_arguments k ts d)
-params_go k ts y d h lt =
+params_go due_behind k ts y d h lt =
     let r = params_are k ts lt h in
     so_said (λ i. add_types (add_args d (r.1.0 i)) (r.1.1 i))
-    (until_goes item.Param close_paren due.AfterArgument param_items (paren_ends refl) (params k ts) y d r.0)
+    (until_goes item.Param close_paren due_behind param_items (paren_ends refl) (params k ts) y d r.0)
 
 -- ---- what a loop carries
 
@@ -392,14 +426,15 @@ abbrev with_pairs : Names → List Pair → Said → Said
 with_pairs names ps d = add_uses (add_args d (map pair_name ps)) (map (pair_use names) ps)
 
 pair_items : (names : Names)
-    → Items pair_rule (pair_fill names) (with_pairs names) (PairFits names) (λ y. not (is_index y))
+    → Items pair_rule (pair_fill names) (with_pairs names) (All (PairFits names)) (λ y. not (is_index y))
 unfolding pair_rule argument_rule
 pair_items names = record {
-  one = λ p y d h e. (let v = value_goes names p.first_value true y (add_args d (pair_name p ∷ [])) h.0 e in
+  one = λ p ps y d h e. (let v = value_goes names p.first_value true y (add_args d (pair_name p ∷ [])) h.0.0 e in
       let named = silent_goes true due.Other equals (mark_lexes 61 refl) refl in
-      let g = both_go (argument_goes false p.number _ d h.1) (both_go named v) in
+      let g = both_go (argument_goes false p.number _ d h.0.1) (both_go named v) in
       record { fit = λ s. and_is _ _ (room d.uses _ s.1.1.0) (g.fit s); say = g.say; few = g.few; lex = g.lex });
-  begins = λ p y h. refl;
+  later = λ p ps d h. h.1;
+  begins = λ p ps y d h. refl;
   none = λ d i. record d { args = sym (append-nil d.args) i; uses = sym (append-nil d.uses) i };
   more = λ p ps d h i. record d {
     args = append_assoc d.args (pair_name p ∷ []) (map pair_name ps) i;

@@ -19,13 +19,20 @@ use Rattle.xf_ir.specs.RuleBlocks.{is_end, blocks_end}
 use Rattle.xf_ir.specs.Tree.{Ops, no_ops, op, Regions, no_regions, region, Tree}
 use Rattle.xf_ir.specs.Words.{is_word}
 use Rattle.xf_printed.specs.Names.{DefinedValues, Names, no_names, with_ops, first_args, number_of, first_of, type_of}
-use Rattle.xf_print_laws.specs.Core.{is_core}
-use Rattle.xf_print_laws.specs.Stored.{HasBytes}
+use Rattle.xf_print_laws.specs.Stored.{HasBytes, IsShortIndex}
 use Rattle.xf_printed.specs.Fills.{symbol_printed}
 use Rattle.xf_shape.specs.Laws.{AreStored}
 use Rattle.std.specs.Prelude.{option_and_then, slice_get}
 use Rattle.xf_ir.specs.RuleTypes.{is_one_tensor}
-use Rattle.xf_ir.specs.Types.{is_tensor_with}
+use Rattle.xf_ir.specs.Types.{is_tensor_with, is_scalar}
+use Rattle.std.specs.Prelude.{◌≤◌, ◌==◌, nat_lt}
+use Rattle.xf_type.specs.declared.attribute.AffineMap.{AffineMap}
+use Rattle.xf_ir.specs.Lists.{every, is_empty}
+use Rattle.xf_ir.specs.RuleAttributes.{dense_fits}
+use Rattle.xf_ir.specs.RuleLinalg.{numbers_once}
+use Rattle.xf_ir.specs.RuleTypes.{open_count}
+use Rattle.xf_printed.specs.Structured.{offsets_of, sizes_of, maps_of, iterators_of, window_values}
+use Rattle.xf_ir.specs.Kinds.{is_generic}
 
 -- what is printed for a value of such an entry has numbers of 64 bits
 abbrev pub NamedResult : Option DefinedValues → ℕ → Type 0
@@ -41,10 +48,10 @@ Named names (Result o num) = NamedResult (names.entry o.0) num
 Named names (Arg o r num) = NamedArgument (names.entry o.0) num
 Named names (Free num) = ⊥
 
--- a type whose extents are numbers of 32 bits
+-- a type whose extents are numbers of 32 bits, and of a rank of at most 8
 abbrev pub TypeFits : PayloadType → Type 0
 TypeFits (Scalar w) = Unit {0}
-TypeFits (Tensor s) = AreStored s.dims
+TypeFits (Tensor s) = AreStored s.dims × (length s.dims ≤ 8)
 
 abbrev pub TypeKnown : Option PayloadType → Type 0
 TypeKnown None = ⊥
@@ -65,6 +72,28 @@ pub record AttrFits (d : Attr) : Type 0 where
   pub value : value_fits d.value ≡ true
   pub bytes : HasBytes d.value
   pub short : IsShortAttr d
+
+-- a map that gives different ones of its dimensions
+pub record MapFits (m : AffineMap) : Type 0 where
+  pub dims : m.dims < 2 ^ 32
+  pub few : length m.results < 2 ^ 32
+  pub below : every (λ k. nat_lt k m.dims) m.results ≡ true
+  pub once : numbers_once m.results ≡ true
+
+-- what a kind has is short, and its windows have numbers of 64 bits
+pub record PropertiesFit (t : Tree) : Type 0 where
+  pub offsets : length (offsets_of t.kind) < 2 ^ 32
+  pub sizes : length (sizes_of t.kind) < 2 ^ 32
+  pub offset_numbers : Each IsShortIndex (offsets_of t.kind)
+  pub size_numbers : Each IsShortIndex (sizes_of t.kind)
+  pub maps : length (maps_of t.kind) < 2 ^ 32
+  pub iterators : length (iterators_of t.kind) < 2 ^ 32
+  pub types : is_generic t.kind ≡ true → length t.operands + length (first_args t.regions) < 2 ^ 32
+
+-- the numbers of a fixed shape
+abbrev pub DenseFits : Kind → Type 0
+DenseFits (kind.Dense shape numbers) = (dense_fits shape numbers ≡ true) × AreStored shape.dims
+DenseFits k = Unit {0}
 
 -- whether there are so many
 abbrev pub has_count : {A : Type 0} → ℕ → List A → Bool
@@ -89,6 +118,10 @@ is_tensor o = is_tensor_with (λ s. true) o
 abbrev pub typed : Names → List ValueName → ℕ → Option PayloadType
 typed names os i = option_and_then (type_of names) (slice_get os i)
 
+-- a value for each offset and size that is no number
+abbrev pub has_window : Kind → List ValueName → Bool
+has_window k os = length (window_values k os) == open_count (offsets_of k) + open_count (sizes_of k)
+
 -- operands and results as the kind has them in print: so many, and tensors where its row asks for some
 abbrev pub counted : Names → Kind → List ValueName → List PayloadType → Bool
 counted names (kind.Module symbol) os ts = has_count 0 os
@@ -106,6 +139,13 @@ counted names kind.Extract os ts = is_tensor (typed names os 0)
 counted names kind.Insert os ts = is_tensor (typed names os 1)
 counted names kind.Cast os ts = has_count 1 os && has_count 1 ts
 counted names (kind.Named which) os ts = has_two_or_three os && has_count 1 ts
+counted names (kind.Dense shape numbers) os ts = has_count 0 os
+counted names (kind.ExtractSlice offsets sizes) os ts =
+    not (is_empty os) && (has_count 1 ts && has_window (kind.ExtractSlice offsets sizes) os)
+counted names (kind.InsertSlice offsets sizes) os ts =
+    not (is_empty (drop 1 os)) && has_window (kind.InsertSlice offsets sizes) os
+counted names (kind.Generic maps iterators) os ts = not (is_empty os) && has_count 1 ts
+counted names kind.LinalgYield os ts = has_count 1 os && is_scalar (typed names os 0)
 counted names k os ts = true
 
 abbrev pub is_none : Regions → Bool
@@ -121,10 +161,11 @@ abbrev pub has_regions : Kind → Regions → Bool
 has_regions k no_regions = not (has_body k)
 has_regions k (region args ops rest) = has_body k && has_others k rest
 
--- the arguments of the first block: of a loop its number and what it carries
+-- the arguments of the first block: of a loop its number and what it carries; of a linalg.generic those that it has
 abbrev pub arguments_of : Kind → List PayloadType → List PayloadType → List PayloadType
 arguments_of (kind.Func symbol private results) ts args = args
 arguments_of (kind.For width) ts args = Scalar width ∷ ts
+arguments_of (kind.Generic maps iterators) ts args = args
 arguments_of k ts args = []
 
 -- a loop carries as many values as it has results
@@ -137,7 +178,6 @@ tree n k ds os ts rs = record { name = n; kind = k; attrs = ds; operands = os; r
 
 -- what an operation before others has, so that what it writes fits
 pub record Fits (names : Names) (t : Tree) (rest : Ops) : Type 0 where
-  pub core : is_core t.kind ≡ true
   pub kind_fit : kind_fits t.kind ≡ true
   pub symbol : SymbolFits (symbol_printed t.kind)
   pub attrs : Each AttrFits t.attrs
@@ -152,6 +192,10 @@ pub record Fits (names : Names) (t : Tree) (rest : Ops) : Type 0 where
   pub number : number_of (names.entry t.name.0) < 2 ^ 64
   pub first : first_of (names.entry t.name.0) + length (first_args t.regions) < 2 ^ 64
   pub few : HasShortLists t
+  pub dense : DenseFits t.kind
+  pub maps : Each MapFits (maps_of t.kind)
+  pub window : open_count (offsets_of t.kind) + open_count (sizes_of t.kind) ≤ length (window_values t.kind t.operands)
+  pub properties : PropertiesFit t
   pub last : (not (is_terminator t.kind) || is_end rest) ≡ true
   pub ends : blocks_end t.kind t.regions ≡ true
 

@@ -15,6 +15,7 @@ use Rattle.xf_grammar.specs.Tokens.{terminal, number_of}
 use Rattle.xf_format.specs.Tests.{room_for}
 use Rattle.xf_ir.specs.RuleAttributes.{fits_bits}
 use Rattle.xf_printed.specs.Fills.{has_minus, digits_of}
+use Rattle.xf_print_laws.specs.Stored.{IsShortNumber}
 use Rattle.xf_print_laws.proofs.LayoutTokens.{integer_lexes}
 use Rattle.xf_ir.proofs.Lists.{at_cases}
 
@@ -41,8 +42,7 @@ in_range n half full h e =
 
 -- the digits of an integer are those of a number below 2 ^ 64
 abbrev pub IsShort : ℤ → Type 0
-IsShort (pos n) = n < 2 ^ 64
-IsShort (negsuc n) = suc n < 2 ^ 64
+IsShort z = IsShortNumber z
 
 -- a number of a width: there is room for it in the width and in 64 bits, and its digits are those of a number of 64
 -- bits

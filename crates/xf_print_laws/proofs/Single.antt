@@ -68,10 +68,10 @@ use Rattle.xf_ir.specs.Types.{is_scalar}
 
 -- ---- words
 
-pub word_goes : (w : List ℕ) (y : Terminal) (d : Said) → is_word w ≡ true → bytes_eq w w ≡ true
-    → Goes (word_rule w) (word_fill w) y d d
+pub word_goes : (gap : Bool) (w : List ℕ) (y : Terminal) (d : Said) → is_word w ≡ true → bytes_eq w w ≡ true
+    → Goes (word_rule gap w) (word_fill w) y d d
 unfolding word_rule
-word_goes w y d word e = record { fit = λ s. rw e refl; say = refl; few = λ s. s; lex = (word_lexes w word, tt) }
+word_goes gap w y d word e = record { fit = λ s. rw e refl; say = refl; few = λ s. s; lex = (word_lexes w word, tt) }
 
 -- ---- names
 
@@ -164,12 +164,12 @@ width_goes gap due w y d = let p = width_found w in
     }
 
 -- a token that means a shape and no width
-record MeansShape (x : Terminal) (s : Shape) : Type 0 where
-  shape : shape_meant x ≡ Some s
-  word : lookup widths (word_of x) ≡ None
-  lex : IsLexeme x
+pub record MeansShape (x : Terminal) (s : Shape) : Type 0 where
+  pub shape : shape_meant x ≡ Some s
+  pub word : lookup widths (word_of x) ≡ None
+  pub lex : IsLexeme x
 
-shape_written : (s : Shape) → AreStored s.dims → MeansShape (terminal token.Shape (shape_text s)) s
+pub shape_written : (s : Shape) → AreStored s.dims → MeansShape (terminal token.Shape (shape_text s)) s
 shape_written s h = record {
   shape = shapes_are_read_again s h;
   word = refl;
@@ -179,7 +179,7 @@ shape_written s h = record {
 }
 
 -- the word tensor, and a token
-abbrev tensor_by : Terminal → Fill
+abbrev pub tensor_by : Terminal → Fill
 tensor_by x = here (yes (terminal token.Word (codes "tensor")) (yes x nothing))
 
 module _ (gap : Bool) (x : Terminal) (s : Shape) (y : Terminal) (d : Said) (h : MeansShape x s) where
@@ -200,7 +200,7 @@ module _ (gap : Bool) (x : Terminal) (s : Shape) (y : Terminal) (d : Said) (h : 
   unfolding result_tensor_rule
   result_tensor_goes = let p = h.shape in let q = h.word in
       record {
-        fit = λ few. rw (room d.results _ few.1.1.1.1, p) refl;
+        fit = λ few. rw (room d.results _ few.1.1.1.1.0, p) refl;
         say = rw (q, p) refl;
         few = few_results d _;
         lex = tensor_lexes;
@@ -212,14 +212,14 @@ pub tensor_of_goes : (o : Option PayloadType) (y : Terminal) (d : Said) → is_t
 tensor_of_goes None y d e h = absurd h
 tensor_of_goes (Some (Scalar w)) y d e h = absurd cc
 tensor_of_goes (Some (Tensor s)) y d e h =
-    tensor_goes true (terminal token.Shape (shape_text s)) s y d (shape_written s h)
+    tensor_goes true (terminal token.Shape (shape_text s)) s y d (shape_written s h.0)
 
 pub tensor_result_goes : (o : Option PayloadType) (y : Terminal) (d : Said) → is_tensor o ≡ true → TypeKnown o
     → Goes (result_tensor_rule true) (tensor_or_none o) y d (add_results d (known_types (o ∷ [])))
 tensor_result_goes None y d e h = absurd h
 tensor_result_goes (Some (Scalar w)) y d e h = absurd cc
 tensor_result_goes (Some (Tensor s)) y d e h =
-    result_tensor_goes true (terminal token.Shape (shape_text s)) s y d (shape_written s h)
+    result_tensor_goes true (terminal token.Shape (shape_text s)) s y d (shape_written s h.0)
 
 pub width_of_goes : (o : Option PayloadType) (y : Terminal) (d : Said) → is_scalar o ≡ true
     → Goes (width_rule true due.Width) (scalar_or_none o) y d (add_types d (known_types (o ∷ [])))
@@ -239,20 +239,20 @@ type_goes gap (Some (Scalar w)) y d h = let p = width_found w in
       lex = (width_lexes w, tt);
     }
 type_goes gap (Some (Tensor s)) y d h =
-    peek_off_goes refl (tensor_goes gap (terminal token.Shape (shape_text s)) s y d (shape_written s h))
+    peek_off_goes refl (tensor_goes gap (terminal token.Shape (shape_text s)) s y d (shape_written s h.0))
 
 pub one_result_goes : (gap : Bool) (t : PayloadType) (y : Terminal) (d : Said) → TypeFits t
     → Goes (result_rule gap) (type_fill t) y d (add_results d (t ∷ []))
 unfolding result_rule result_tensor_rule
 one_result_goes gap (Scalar w) y d h = let p = width_found w in
     record {
-      fit = λ s. rw (p, room d.results _ s.1.1.1.1) refl;
+      fit = λ s. rw (p, room d.results _ s.1.1.1.1.0) refl;
       say = rw p refl;
       few = few_results d _;
       lex = (width_lexes w, tt);
     }
 one_result_goes gap (Tensor s) y d h =
-    peek_off_goes refl (result_tensor_goes gap (terminal token.Shape (shape_text s)) s y d (shape_written s h))
+    peek_off_goes refl (result_tensor_goes gap (terminal token.Shape (shape_text s)) s y d (shape_written s h.0))
 
 pub result_goes : (o : Option PayloadType) (y : Terminal) (d : Said) → TypeKnown o
     → Goes (result_rule true) (type_or_none o) y d (add_results d (known_types (o ∷ [])))

@@ -1,8 +1,7 @@
--- The slots of rows, one by one: what each of them says, and which tokens may not stand behind it; and rows of slots,
--- by tests over the table.
+-- The slots of rows, one by one: what each of them writes fits, and with what it begins.
 use Rattle.std.proofs.Common.{◌≡◌, ℕ, zero, suc, Bool, true, false, List, [], ◌∷◌, length, drop, Option}
 use Rattle.std.proofs.Common.{Some, None, refl, ap, subst, arith, slice_get}
-use Rattle.std.specs.Prelude.{not, ◌&&◌, ◌||◌, codes, is_some}
+use Rattle.std.specs.Prelude.{not, ◌||◌, codes, is_some}
 use Rattle.std.proofs.lemmas.Bool.{eq-eqb}
 use Rattle.xf_type.specs.declared.kind.CmpKind.{CmpKind}
 use Rattle.xf_type.specs.declared.payload_type.PayloadType.{PayloadType}
@@ -10,15 +9,14 @@ use Rattle.xf_type.specs.declared.payload_type.Width.{Width}
 use Rattle.xf_type.specs.declared.payload_type.Width.TheVariants.{I1, Index}
 use Rattle.xf_lex.specs.declared.token.TokenKind.{TokenKind}
 use Rattle.xf_lex.specs.declared.token.TokenKind.TheVariants as token
-use Rattle.xf_grammar.specs.Tokens.{Terminal, terminal, is_kind, is_word, is_index, comma, minus, colon}
-use Rattle.xf_grammar.specs.Tokens.{open_brace}
+use Rattle.xf_grammar.specs.Tokens.{Terminal, terminal, is_kind, is_word, is_index, minus, colon}
 use Rattle.xf_grammar.specs.Grammar.{Fill, written, tokens, first_seen}
 use Rattle.xf_grammar.proofs.Basics.{both_true, and_is, not_false}
 use Rattle.xf_format.specs.declared.expected.Expected.TheVariants as due
 use Rattle.xf_format.specs.declared.row.FormatElement.{FormatElement}
 use Rattle.xf_format.specs.declared.row.FormatElement.TheVariants as slot
 use Rattle.xf_format.specs.declared.row.Keyword.TheVariants as key
-use Rattle.xf_format.specs.Parts.{Said, says_predicate, says_literal, says_type}
+use Rattle.xf_format.specs.Parts.{Said}
 use Rattle.xf_format.specs.Rules.{Rule, language, slot_rule, slots_rule, kind_rule, word_rule, attributes_rule}
 use Rattle.xf_format.specs.Rules.{dictionary_rule, literal_rule, number_rule, predicate_rule, operands_rule, use_rule}
 use Rattle.xf_format.specs.Rules.{if_results_rule, iter_args_rule, loop_width_rule}
@@ -33,13 +31,12 @@ use Rattle.xf_ir.specs.Tree.{Ops, Tree}
 use Rattle.xf_printed.specs.Fills.{use_of, signed_fill, truth_fill, literal_fill, predicate_or_none, word_fill}
 use Rattle.xf_printed.specs.Fills.{attributes_fill, dictionary_fill, operands_fill}
 use Rattle.xf_printed.specs.Fills.{if_results_fill, iter_args_fill, loop_width_fill, widths_of, symbol_printed}
-use Rattle.xf_printed.specs.Fills.{is_private, is_set, slot_fill, slots_fill}
-use Rattle.xf_printed.specs.Names.{Names, first_args, first_of, argument_text}
-use Rattle.xf_print_laws.specs.SaidPrinted.{predicate_printed, constant_printed, literal_printed}
-use Rattle.xf_print_laws.proofs.Goes.{add_args, Goes, skips, both_go, silent_goes, seen_both}
-use Rattle.xf_print_laws.proofs.LayoutTokens.{is_mark, mark_lexes}
-use Rattle.xf_print_laws.proofs.Lists.{with_attrs, dictionary_goes, attributes_goes, with_values, with_types_of}
-use Rattle.xf_print_laws.proofs.Lists.{with_operands, with_results, with_arguments, with_carried}
+use Rattle.xf_printed.specs.Fills.{is_private, is_set, slot_fill}
+use Rattle.xf_printed.specs.Names.{Names, first_args}
+use Rattle.xf_print_laws.specs.SaidPrinted.{predicate_printed, constant_printed}
+use Rattle.xf_print_laws.proofs.Goes.{Goes, skips, both_go, silent_goes, seen_both}
+use Rattle.xf_print_laws.proofs.LayoutTokens.{mark_lexes}
+use Rattle.xf_print_laws.proofs.Lists.{dictionary_goes, attributes_goes}
 use Rattle.xf_print_laws.proofs.Lists.{operands_go, params_go, function_results_go, if_results_go}
 use Rattle.xf_print_laws.proofs.Lists.{iter_args_go}
 use Rattle.xf_print_laws.proofs.Needs.{Known, arguments_of, CarriedRight, Fits}
@@ -52,12 +49,9 @@ use Rattle.xf_format.specs.Rules.{call_results_rule}
 use Rattle.xf_print_laws.proofs.Goes.{until_goes, paren_ends}
 use Rattle.xf_print_laws.proofs.Lists.{value_items, type_items, result_types_go, arrow_lexes}
 use Rattle.xf_print_laws.proofs.Words.{predicate_found, predicate_lexes}
-use Rattle.xf_type.specs.declared.payload_type.PayloadType.TheVariants.{Scalar}
-use Rattle.std.proofs.Common.{◌==◌}
-use Rattle.xf_ir.specs.Types.{is_scalar}
+use Rattle.std.proofs.Common.{◌∙◌}
 use Rattle.xf_printed.specs.Fills.{operand_type}
-use Rattle.xf_print_laws.specs.SaidPrinted.{known_types}
-use Rattle.xf_print_laws.proofs.Goes.{add_types, list_ends}
+use Rattle.xf_print_laws.proofs.Goes.{list_ends}
 use Rattle.xf_print_laws.proofs.Needs.{TypeFits, TypeKnown, is_tensor, typed}
 use Rattle.xf_print_laws.proofs.Single.{type_goes, tensor_of_goes, width_of_goes, result_goes, tensor_result_goes}
 use Rattle.std.specs.Prelude.{option_and_then}
@@ -69,154 +63,20 @@ use Rattle.xf_format.specs.Rules.{ins_rule}
 use Rattle.std.proofs.Common.{◌++◌}
 use Rattle.std.proofs.lemmas.List.{take-append-drop}
 use Rattle.xf_ir.proofs.Lists.{each_left, each_right}
-
--- ---- what slots say
-
-abbrev literal_says : Kind → Said → Said
-literal_says (kind.Constant w bits) d = says_type (Scalar w) (says_literal (literal_printed w bits) d)
-literal_says _ d = d
-
-abbrev predicate_says : Option CmpKind → Said → Said
-predicate_says None d = d
-predicate_says (Some which) d = says_predicate which d
-
-abbrev pub first_in : Names → Tree → ℕ
-first_in names t = first_of (names.entry t.name.0)
-
-module _ (names : Names) (t : Tree) where
-  abbrev pub slot_says : FormatElement → Said → Said
-  slot_says slot.ModuleName d = with_symbol (symbol_printed t.kind) d
-  slot_says slot.FunctionName d = with_symbol (symbol_printed t.kind) (with_privacy (is_private t.kind) d)
-  slot_says slot.Symbol d = with_symbol (symbol_printed t.kind) d
-  slot_says slot.Attributes d = with_attrs t.attrs d
-  slot_says slot.Dictionary d = with_attrs t.attrs d
-  slot_says slot.Literal d = literal_says t.kind d
-  slot_says slot.Predicate d = predicate_says (predicate_printed t.kind) d
-  slot_says slot.Argument d = add_args d (argument_text (first_in names t) ∷ [])
-  slot_says (slot.Use i) d = with_use names (slice_get t.operands i) d
-  slot_says (slot.Width i) d = with_width (slice_get (widths_of t.kind) i) d
-  slot_says (slot.Uses k b) d = with_values names (drop k t.operands) d
-  slot_says (slot.TypeOf i) d = add_types d (known_types (operand_type names t i ∷ []))
-  slot_says (slot.TensorOf i) d = add_types d (known_types (operand_type names t i ∷ []))
-  slot_says (slot.WidthOf i) d = add_types d (known_types (operand_type names t i ∷ []))
-  slot_says slot.Ins d = with_operands names (take (length t.operands - 1) t.operands) d
-  slot_says slot.Outs d = with_out names (slice_get t.operands (length t.operands - 1)) d
-  slot_says slot.ResultType d = with_results (known_types (slice_get t.results 0 ∷ [])) d
-  slot_says slot.ResultTensor d = with_results (known_types (slice_get t.results 0 ∷ [])) d
-  slot_says slot.Types d = with_types_of names t.operands d
-  slot_says slot.Params d = with_arguments (first_in names t) (first_args t.regions) d
-  slot_says slot.Operands d = with_operands names t.operands d
-  slot_says slot.CallResults d = with_results t.results d
-  slot_says slot.FunctionResults d = with_results (returned_types t.kind) d
-  slot_says slot.IfResults d = with_results t.results d
-  slot_says slot.IterArgs d = with_carried names (suc (first_in names t)) (drop 3 t.operands) t.results d
-  slot_says slot.LoopWidth d = with_width (slice_get (widths_of t.kind) 0) d
-  slot_says s d = d
-
-  abbrev pub slots_say : List FormatElement → Said → Said
-  slots_say [] d = d
-  slots_say (s ∷ ss) d = slots_say ss (slot_says s d)
-
-  -- what they are filled with
-  abbrev pub filled : List FormatElement → Fill
-  filled ss = slots_fill names (first_in names t) t ss
-
--- ---- which operations have them
-
-abbrev is_loop : Kind → Bool
-is_loop (kind.For width) = true
-is_loop _ = false
-
-module _ (names : Names) (t : Tree) where
-  abbrev pub offers : FormatElement → Bool
-  offers (slot.Mark gap b) = is_mark b
-  offers slot.FunctionName = is_some (symbol_printed t.kind)
-  offers slot.Symbol = is_some (symbol_printed t.kind)
-  offers slot.Literal = is_some (constant_printed t.kind)
-  offers slot.Predicate = is_some (predicate_printed t.kind)
-  offers (slot.Use i) = is_some (slice_get t.operands i)
-  offers (slot.Width i) = is_some (slice_get (widths_of t.kind) i)
-  offers slot.IterArgs = is_loop t.kind
-  offers slot.LoopWidth = is_some (slice_get (widths_of t.kind) 0)
-  offers (slot.Uses k b) = (b == 41) || (b == 93)
-  offers (slot.TypeOf i) = is_some (slice_get t.operands i)
-  offers (slot.TensorOf i) = is_tensor (operand_type names t i)
-  offers slot.ResultType = is_some (slice_get t.results 0)
-  offers slot.ResultTensor = is_tensor (slice_get t.results 0)
-  offers (slot.WidthOf i) = is_scalar (operand_type names t i)
-  offers slot.Ins = not (is_empty (take (length t.operands - 1) t.operands))
-  offers slot.Outs = is_some (slice_get t.operands (length t.operands - 1))
-  offers slot.BlockName = false
-  offers slot.Unread = false
-  offers s = true
-
--- ---- what stands behind them
-
--- tokens that may not stand behind a slot
-pub data Stop : Type 0 where
-  a_kind : (k : TokenKind) → Stop
-  a_word : (w : List ℕ) → Stop
-
-abbrev pub avoids : Terminal → Stop → Bool
-avoids y (a_kind k) = not (is_kind k y)
-avoids y (a_word w) = not (is_word w y)
-
-abbrev stops : FormatElement → List Stop
-stops slot.ModuleName = a_kind token.Symbol ∷ []
-stops slot.Attributes = a_word (codes "attributes") ∷ []
-stops slot.Dictionary = a_kind open_brace ∷ []
-stops (slot.Use i) = a_kind token.Hash ∷ []
-stops slot.Operands = a_kind token.Value ∷ (a_kind comma ∷ [])
-stops slot.FunctionResults = a_kind token.Arrow ∷ []
-stops slot.IfResults = a_kind token.Arrow ∷ []
-stops slot.IterArgs = a_word (codes "iter_args") ∷ []
-stops slot.LoopWidth = a_kind colon ∷ []
-stops s = []
-
--- the tokens that a slot may begin with, with bytes or without; none where nothing is said of them
-abbrev pub firsts : FormatElement → List Terminal
-firsts (slot.Mark gap b) = terminal (token.Mark b) [] ∷ []
-firsts (slot.Word k) = terminal token.Word (spelling k) ∷ []
-firsts slot.Attributes = terminal token.Word (codes "attributes") ∷ []
-firsts slot.Dictionary = terminal open_brace [] ∷ []
-firsts slot.Literal =
-    terminal token.Word (codes "true") ∷
-    (terminal token.Word (codes "false") ∷ (terminal minus [] ∷ (terminal token.Integer [] ∷ [])))
-firsts (slot.Use i) = terminal token.Value [] ∷ []
-firsts slot.Ins = terminal token.Word (codes "ins") ∷ []
-firsts slot.Operands = terminal token.Value [] ∷ []
-firsts slot.IfResults = terminal token.Arrow [] ∷ []
-firsts slot.IterArgs = terminal token.Word (codes "iter_args") ∷ []
-firsts slot.LoopWidth = terminal colon [] ∷ []
-firsts s = []
-
--- those that may be empty, of which that is said
-abbrev pub may_skip : FormatElement → Bool
-may_skip slot.Attributes = true
-may_skip slot.Dictionary = true
-may_skip slot.Operands = true
-may_skip slot.IfResults = true
-may_skip slot.IterArgs = true
-may_skip slot.LoopWidth = true
-may_skip s = false
-
-abbrev pub none_of : List Stop → Terminal → Bool
-none_of xs y = every (avoids y) xs
-
-abbrev pub meets_none : List Stop → List Terminal → Bool
-meets_none xs [] = is_empty xs
-meets_none xs (y ∷ []) = none_of xs y
-meets_none xs ys = every (none_of xs) ys
-
--- whether slots before a token begin with none of these
-abbrev pub clear : List Stop → List FormatElement → Terminal → Bool
-clear xs [] y = none_of xs y
-clear xs (s ∷ ss) y = meets_none xs (firsts s) && (not (may_skip s) || clear xs ss y)
-
--- whether what stands behind each slot may stand there
-abbrev pub apart : List FormatElement → Terminal → Bool
-apart [] y = true
-apart (s ∷ ss) y = clear (stops s) ss y && apart ss y
+use Rattle.xf_format.specs.declared.row.Side.TheVariants.{Offsets, Sizes}
+use Rattle.xf_format.specs.Parts.{no_map}
+use Rattle.xf_format.specs.Rules.{dense_rule, outs_rule, block_name_rule}
+use Rattle.xf_printed.specs.Structured.{offsets_of, sizes_of, maps_of, iterators_of, window_values, values_behind}
+use Rattle.xf_print_laws.proofs.Goes.{take_goes, peek_off_goes}
+use Rattle.xf_print_laws.proofs.LayoutTokens.{word_lexes, block_name_lexes}
+use Rattle.xf_print_laws.proofs.Lists.{some_ins_go, marked_goes}
+use Rattle.xf_print_laws.proofs.Maps.{maps_go}
+use Rattle.xf_print_laws.proofs.Needs.{DenseFits}
+use Rattle.xf_print_laws.proofs.Structured.{places_go, values_left, strides_go}
+use Rattle.xf_print_laws.proofs.Structured.{iterators_go, dense_goes}
+use Rattle.xf_print_laws.proofs.SlotTable.{literal_says, predicate_says, first_in, slot_says, slots_say, filled}
+use Rattle.xf_print_laws.proofs.SlotTable.{is_loop, offers, stops, firsts, may_skip, none_of, meets_none}
+use Rattle.xf_print_laws.proofs.SlotTable.{clear, apart, Stop, a_kind, a_word}
 
 -- ---- the first token of slots
 
@@ -256,8 +116,11 @@ truth_seen xs false z e = every_at (none_of xs) (firsts slot.Literal) 1 (termina
 
 literal_seen : (xs : List Stop) (k : Kind) (z : Terminal) → is_some (constant_printed k) ≡ true
     → meets_none xs (firsts slot.Literal) ≡ true → Seen xs z literal_rule (literal_fill k)
+unfolding literal_rule dense_rule
 literal_seen xs (kind.Constant I1 bits) z o e = truth_seen xs (is_set bits) z e
 literal_seen xs (kind.Constant w bits) z o e = signed_seen xs _ _ w z e
+literal_seen xs (kind.Dense shape numbers) z o e =
+    every_at (none_of xs) (firsts slot.Literal) 4 (terminal token.Word (codes "dense")) e refl
 literal_seen xs k z o e = absurd cc
 
 loop_width_seen : (xs : List Stop) (o : Option Width) (z : Terminal) → none_of xs (terminal colon []) ≡ true
@@ -272,9 +135,9 @@ module _ (names : Names) (t : Tree) where
       → offers names t s ≡ true → meets_none xs (firsts s) ≡ true → (may_skip s ≡ true → none_of xs z ≡ true)
       → Seen xs z (slot_rule s) (slot_fill names (first_in names t) t s)
   unfolding kind_rule word_rule attributes_rule dictionary_rule operands_rule use_rule if_results_rule iter_args_rule
-      ins_rule
+      ins_rule outs_rule
   slot_seen (slot.Mark gap b) xs z o e f = e
-  slot_seen (slot.Word k) xs z o e f = e
+  slot_seen (slot.Word gap k) xs z o e f = e
   slot_seen slot.Attributes xs z o e f =
       elim t.attrs as (λ ds. Seen xs z attributes_rule (attributes_fill ds)) [ [] ↦ f refl | d ∷ ds ↦ e ]
   slot_seen slot.Dictionary xs z o e f =
@@ -291,6 +154,8 @@ module _ (names : Names) (t : Tree) where
         | Some v ↦ bytes_free token.Value (λ w b. refl) xs (use_of names v).name e
       ]
   slot_seen slot.Ins xs z o e f = e
+  slot_seen slot.Arrow xs z o e f = e
+  slot_seen slot.Outs xs z o e f = e
   slot_seen slot.IfResults xs z o e f =
       elim t.results as (λ ts. Seen xs z if_results_rule (if_results_fill ts)) [ [] ↦ f refl | r ∷ ts ↦ e ]
   slot_seen slot.IterArgs xs z o e f =
@@ -317,10 +182,14 @@ module _ (names : Names) (t : Tree) where
 
 -- ---- what slots write
 
-literal_slot_goes : (k : Kind) (y : Terminal) (d : Said) → kind_fits k ≡ true → is_some (constant_printed k) ≡ true
-    → Goes literal_rule (literal_fill k) y d (literal_says k d)
-literal_slot_goes (kind.Constant w bits) y d f o = literal_goes w bits y d f
-literal_slot_goes k y d f o = absurd cc
+literal_slot_goes : (k : Kind) (y : Terminal) (d : Said) → kind_fits k ≡ true → DenseFits k
+    → is_some (constant_printed k) ≡ true → Goes literal_rule (literal_fill k) y d (literal_says k d)
+unfolding literal_rule
+literal_slot_goes (kind.Constant w bits) y d f n o = literal_goes w bits y d f
+literal_slot_goes (kind.Dense shape numbers) y d f n o =
+    peek_off_goes refl (peek_off_goes refl
+    (take_goes (word_lexes (codes "dense") refl) refl (dense_goes shape numbers y d n.0 n.1)))
+literal_slot_goes k y d f n o = absurd cc
 
 predicate_slot_goes : (k : Kind) (y : Terminal) (d : Said) → is_some (predicate_printed k) ≡ true
     → Goes predicate_rule (word_fill (predicate_or_none k)) y d (predicate_says (predicate_printed k) d)
@@ -340,6 +209,12 @@ known_parts : (names : Names) (n : ℕ) (os : List ValueName) → Each (Known na
 known_parts names n os h =
     let p : Each (Known names) (take n os ++ drop n os) = rw (take-append-drop n os) h in
     (each_left (Known names) (take n os) (drop n os) p, each_right (Known names) (take n os) (drop n os) p)
+
+-- the values of a window are some of the operands
+window_known : (names : Names) (k : Kind) (os : List ValueName) → Each (Known names) os
+    → Each (Known names) (window_values k os)
+window_known names (kind.ExtractSlice offsets sizes) os h = (known_parts names 1 os h).1
+window_known names k os h = (known_parts names 2 os h).1
 
 -- the types of operands and of the first result are known
 typed_known : (names : Names) (os : List ValueName) (i : ℕ) → Each (Known names) os
@@ -365,71 +240,147 @@ no_index : (y : Terminal) → not (is_kind token.Hash y) ≡ true → not (is_in
 no_index (terminal token.Hash b) e = absurd cc
 no_index y e = refl
 
+-- no slot says anything of a map that is being read
+module _ (names : Names) (t : Tree) where
+  symbol_map : (o : Option (List ℕ)) (d : Said) → (with_symbol o d).map ≡ d.map
+  symbol_map None d = refl
+  symbol_map (Some s) d = refl
+
+  privacy_map : (b : Bool) (d : Said) → (with_privacy b d).map ≡ d.map
+  privacy_map true d = refl
+  privacy_map false d = refl
+
+  width_map : (o : Option Width) (d : Said) → (with_width o d).map ≡ d.map
+  width_map None d = refl
+  width_map (Some w) d = refl
+
+  use_map : (o : Option ValueName) (d : Said) → (with_use names o d).map ≡ d.map
+  use_map None d = refl
+  use_map (Some v) d = refl
+
+  out_map : (o : Option ValueName) (d : Said) → (with_out names o d).map ≡ d.map
+  out_map None d = refl
+  out_map (Some v) d = refl
+
+  literal_map : (k : Kind) (d : Said) → (literal_says k d).map ≡ d.map
+  literal_map (kind.Constant w bits) d = refl
+  literal_map k d = refl
+
+  predicate_map : (o : Option CmpKind) (d : Said) → (predicate_says o d).map ≡ d.map
+  predicate_map None d = refl
+  predicate_map (Some which) d = refl
+
+  slot_map : (s : FormatElement) (d : Said) → (slot_says names t s d).map ≡ d.map
+  slot_map slot.ModuleName d = symbol_map (symbol_printed t.kind) d
+  slot_map slot.FunctionName d =
+      symbol_map (symbol_printed t.kind) (with_privacy (is_private t.kind) d) ∙ privacy_map (is_private t.kind) d
+  slot_map slot.Symbol d = symbol_map (symbol_printed t.kind) d
+  slot_map slot.Literal d = literal_map t.kind d
+  slot_map slot.Predicate d = predicate_map (predicate_printed t.kind) d
+  slot_map (slot.Use i) d = use_map (slice_get t.operands i) d
+  slot_map (slot.Width i) d = width_map (slice_get (widths_of t.kind) i) d
+  slot_map slot.Outs d = out_map (slice_get t.operands (length t.operands - 1)) d
+  slot_map slot.LoopWidth d = width_map (slice_get (widths_of t.kind) 0) d
+  slot_map (slot.Places Offsets) d = refl
+  slot_map (slot.Places Sizes) d = refl
+  slot_map s d = refl
+
 module _ {names : Names} {t : Tree} {rest : Ops} (w : Fits names t rest) where
+  -- values for the places of a window
+  offsets_go : (y : Terminal) (d : Said)
+      → Goes (slot_rule (slot.Places Offsets)) (slot_fill names (first_in names t) t (slot.Places Offsets)) y d
+      (slot_says names t (slot.Places Offsets) d)
+  offsets_go y d =
+      let v = window_known names t.kind t.operands w.values in
+      places_go names Offsets (offsets_of t.kind) (window_values t.kind t.operands) y d w.properties.offset_numbers v
+      (omega (arith, w.window))
+
+  sizes_go : (y : Terminal) (d : Said)
+      → Goes (slot_rule (slot.Places Sizes)) (slot_fill names (first_in names t) t (slot.Places Sizes)) y d
+      (slot_says names t (slot.Places Sizes) d)
+  sizes_go y d =
+      let v = window_known names t.kind t.operands w.values in
+      let vs = window_values t.kind t.operands in
+      let l = values_left names (offsets_of t.kind) vs w.properties.offset_numbers v (omega (arith, w.window)) in
+      places_go names Sizes (sizes_of t.kind) (values_behind (offsets_of t.kind) vs) y d w.properties.size_numbers l.0
+      (omega (arith, w.window, l.1))
+
   slot_goes : (s : FormatElement) (y : Terminal)
-      (d : Said) → offers names t s ≡ true → none_of (stops s) y ≡ true
+      (d : Said) → d.map ≡ no_map → offers names t s ≡ true → none_of (stops s) y ≡ true
       → Goes (slot_rule s) (slot_fill names (first_in names t) t s) y d (slot_says names t s d)
-  unfolding call_results_rule
-  slot_goes (slot.Mark gap b) y d o e = silent_goes gap due.Other (token.Mark b) (mark_lexes b o) (eq-eqb b b refl)
-  slot_goes (slot.Word key.To) y d o e = word_goes (spelling key.To) y d refl refl
-  slot_goes (slot.Word k) y d o e = word_goes (spelling k) y d refl refl
-  slot_goes slot.ModuleName y d o e =
+  unfolding call_results_rule block_name_rule
+  slot_goes (slot.Mark gap b) y d m o e = silent_goes gap due.Other (token.Mark b) (mark_lexes b o) (eq-eqb b b refl)
+  slot_goes (slot.Word gap key.To) y d m o e = word_goes gap (spelling key.To) y d refl refl
+  slot_goes (slot.Word gap k) y d m o e = word_goes gap (spelling k) y d refl refl
+  slot_goes slot.ModuleName y d m o e =
       module_name_goes (symbol_printed t.kind) y d w.symbol (both_true _ _ e).0
-  slot_goes slot.FunctionName y d o e =
+  slot_goes slot.FunctionName y d m o e =
       function_name_goes (is_private t.kind) (symbol_printed t.kind) y d w.symbol o
-  slot_goes slot.Symbol y d o e = symbol_goes (symbol_printed t.kind) y d w.symbol o
-  slot_goes slot.Attributes y d o e = attributes_goes t.attrs y d w.attrs (both_true _ _ e).0
-  slot_goes slot.Dictionary y d o e = dictionary_goes t.attrs y d w.attrs (both_true _ _ e).0
-  slot_goes slot.Literal y d o e = literal_slot_goes t.kind y d w.kind_fit o
-  slot_goes slot.Predicate y d o e = predicate_slot_goes t.kind y d o
-  slot_goes slot.Argument y d o e = let few = w.first in argument_goes true _ y d (omega arith)
-  slot_goes (slot.Use i) y d o e =
+  slot_goes slot.Symbol y d m o e = symbol_goes (symbol_printed t.kind) y d w.symbol o
+  slot_goes slot.Attributes y d m o e = attributes_goes t.attrs y d w.attrs (both_true _ _ e).0
+  slot_goes slot.Dictionary y d m o e = dictionary_goes t.attrs y d w.attrs (both_true _ _ e).0
+  slot_goes slot.Literal y d m o e = literal_slot_goes t.kind y d w.kind_fit w.dense o
+  slot_goes slot.Predicate y d m o e = predicate_slot_goes t.kind y d o
+  slot_goes slot.Argument y d m o e = let few = w.first in argument_goes true _ y d (omega arith)
+  slot_goes (slot.Use i) y d m o e =
       operand_goes names t.operands i y d w.values o (no_index y (both_true _ _ e).0)
-  slot_goes (slot.Width i) y d o e = width_slot_goes due.ArithWidth (slice_get (widths_of t.kind) i) y d o
-  slot_goes (slot.Uses k b) y d o e =
+  slot_goes (slot.Width i) y d m o e = width_slot_goes due.ArithWidth (slice_get (widths_of t.kind) i) y d o
+  slot_goes (slot.Uses k b) y d m o e =
       until_goes (item.Use false) (token.Mark b) due.Other (value_items names false) (list_ends refl refl b o)
       (drop k t.operands) y d (known_parts names k t.operands w.values).1
-  slot_goes (slot.TypeOf i) y d o e =
+  slot_goes (slot.TypeOf i) y d m o e =
       type_goes true (operand_type names t i) y d (typed_known names t.operands i w.values o)
-  slot_goes (slot.TensorOf i) y d o e =
+  slot_goes (slot.TensorOf i) y d m o e =
       tensor_of_goes (operand_type names t i) y d o
       (typed_known names t.operands i w.values (tensor_there (type_of names) (slice_get t.operands i) o))
-  slot_goes (slot.WidthOf i) y d o e = width_of_goes (operand_type names t i) y d o
-  slot_goes slot.ResultType y d o e = result_goes (slice_get t.results 0) y d (first_fits t.results w.results o)
-  slot_goes slot.ResultTensor y d o e =
+  slot_goes (slot.WidthOf i) y d m o e = width_of_goes (operand_type names t i) y d o
+  slot_goes slot.ResultType y d m o e = result_goes (slice_get t.results 0) y d (first_fits t.results w.results o)
+  slot_goes slot.ResultTensor y d m o e =
       tensor_result_goes (slice_get t.results 0) y d o
       (first_fits t.results w.results (first_tensor t.results o))
-  slot_goes slot.Ins y d o e =
+  slot_goes slot.Ins y d m o e =
       let n = length t.operands - 1 in
       ins_goes names (take n t.operands) y d (known_parts names n t.operands w.values).0 o
-  slot_goes slot.Outs y d o e = outs_goes names t.operands (length t.operands - 1) y d w.values o
-  slot_goes slot.Arrow y d o e = silent_goes true due.Other token.Arrow arrow_lexes refl
-  slot_goes slot.Types y d o e =
+  slot_goes slot.Outs y d m o e = outs_goes names t.operands (length t.operands - 1) y d w.values o
+  slot_goes slot.Arrow y d m o e = silent_goes true due.Other token.Arrow arrow_lexes refl
+  slot_goes slot.Types y d m o e =
       until_goes (item.Type false) close_paren due.Other (type_items names false) (paren_ends refl) t.operands y d
       w.values
-  slot_goes slot.Params y d o e = params_go _ (first_args t.regions) y d w.args w.first
-  slot_goes slot.Operands y d o e =
+  slot_goes slot.Params y d m o e = params_go due.AfterArgument _ (first_args t.regions) y d w.args w.first
+  slot_goes slot.Operands y d m o e =
       let p = both_true _ _ e in operands_go names t.operands y d w.values p.0 (both_true _ _ p.1).0
-  slot_goes slot.CallResults y d o e =
+  slot_goes slot.CallResults y d m o e =
       both_go (silent_goes true due.Other token.Arrow arrow_lexes refl)
       (result_types_go due.Other t.results y d w.results)
-  slot_goes slot.FunctionResults y d o e =
+  slot_goes slot.FunctionResults y d m o e =
       function_results_go (returned_types t.kind) y d w.returned (both_true _ _ e).0
-  slot_goes slot.IfResults y d o e = if_results_go t.results y d w.results (both_true _ _ e).0
-  slot_goes slot.IterArgs y d o e =
+  slot_goes slot.IfResults y d m o e = if_results_go t.results y d w.results (both_true _ _ e).0
+  slot_goes slot.IterArgs y d m o e =
       let c = loop_carries t.kind t.operands t.results (first_args t.regions) o w.carried w.arguments in
       let few = w.first in
       iter_args_go names _ t.operands t.results y d (known_parts names 3 t.operands w.values).1 w.results c.0
       (omega arith) (both_true _ _ e).0
-  slot_goes slot.LoopWidth y d o e = loop_width_goes (slice_get (widths_of t.kind) 0) y d o (both_true _ _ e).0
-  slot_goes s y d o e = absurd cc
+  slot_goes slot.LoopWidth y d m o e = loop_width_goes (slice_get (widths_of t.kind) 0) y d o (both_true _ _ e).0
+  slot_goes slot.SomeIns y d m o e =
+      let n = length t.operands - 1 in
+      some_ins_go names (take n t.operands) y d (known_parts names n t.operands w.values).0 (both_true _ _ e).0
+  slot_goes slot.MarkedAttributes y d m o e = marked_goes t.attrs y d w.attrs (both_true _ _ e).0
+  slot_goes slot.BlockParams y d m o e = params_go due.Other _ (first_args t.regions) y d w.args w.first
+  slot_goes slot.BlockName y d m o e =
+      record { fit = λ s. refl; say = refl; few = λ s. s; lex = (block_name_lexes, tt) }
+  slot_goes (slot.Places Offsets) y d m o e = offsets_go y d
+  slot_goes (slot.Places Sizes) y d m o e = sizes_go y d
+  slot_goes slot.Strides y d m o e = strides_go (offsets_of t.kind) y d
+  slot_goes slot.Maps y d m o e = maps_go (maps_of t.kind) y d m w.maps
+  slot_goes slot.Iterators y d m o e = iterators_go (iterators_of t.kind) y d
 
   pub slots_go : (ss : List FormatElement) (y : Terminal)
-      (d : Said) → every (offers names t) ss ≡ true → apart ss y ≡ true
+      (d : Said) → d.map ≡ no_map → every (offers names t) ss ≡ true → apart ss y ≡ true
       → Goes (slots_rule ss) (filled names t ss) y d
       (slots_say names t ss d)
-  slots_go [] y d o e = skips
-  slots_go (s ∷ ss) y d o e =
+  slots_go [] y d m o e = skips
+  slots_go (s ∷ ss) y d m o e =
       let p = both_true (offers names t s) _ o in
       let q = both_true (clear (stops s) ss y) _ e in
-      both_go (slot_goes s _ d p.0 (clear_seen names t ss (stops s) y p.1 q.0)) (slots_go ss y _ p.1 q.1)
+      both_go (slot_goes s _ d m p.0 (clear_seen names t ss (stops s) y p.1 q.0))
+      (slots_go ss y _ (slot_map names t s d ∙ m) p.1 q.1)

@@ -29,7 +29,6 @@ use Rattle.xf_ir.specs.Lists.{every}
 use Rattle.xf_ir.specs.Words.{is_word}
 use Rattle.xf_printed.specs.PrintedForm.{word_of}
 use Rattle.xf_printed.specs.PrintedForm.{row_of as row_of_word}
-use Rattle.xf_print_laws.specs.Core.{is_core}
 use Rattle.xf_print_laws.specs.SaidPrinted.{row_of}
 use Rattle.xf_print_laws.proofs.LayoutTokens.{word_lexes}
 use Rattle.xf_ir.specs.declared.kind.NamedKind.{NamedKind}
@@ -50,19 +49,20 @@ conversion_row : (c : ConvKind) → lookup words (conversion_spelling c) ≡ Som
 conversion_row Extsi = refl
 conversion_row c = refl
 
-pub word_row : (k : Kind) → is_core k ≡ true → lookup words (word_of k) ≡ Some (row_of k)
-word_row (kind.Binary which width) c = binary_row which
-word_row (kind.Convert which from to) c = conversion_row which
-word_row (kind.Named which) c = named_row which
-word_row k c = cc
+pub word_row : (k : Kind) → lookup words (word_of k) ≡ Some (row_of k)
+word_row (kind.Binary which width) = binary_row which
+word_row (kind.Convert which from to) = conversion_row which
+word_row (kind.Named which) = named_row which
+word_row kind.If = refl
+word_row k = refl
 
-pub same_row : (k : Kind) → is_core k ≡ true → row_of_word k ≡ row_of k
-same_row k c = ap the_row (word_row k c)
+pub same_row : (k : Kind) → row_of_word k ≡ row_of k
+same_row k = ap the_row (word_row k)
 
 -- inside a body no module and no function stands
-pub body_opens : (k : Kind) → is_core k ≡ true → is_container k ≡ false → opens level.Body (Some (row_of k)) ≡ true
-body_opens (kind.Module symbol) c e = absurd cc
-body_opens k c e = cc
+pub body_opens : (k : Kind) → is_container k ≡ false → opens level.Body (Some (row_of k)) ≡ true
+body_opens (kind.Module symbol) e = absurd cc
+body_opens k e = cc
 
 pub width_found : (w : Width) → lookup widths (width_spelling w) ≡ Some w
 width_found I1 = refl

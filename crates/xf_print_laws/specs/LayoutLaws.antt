@@ -8,11 +8,10 @@ use Rattle.xf_ir.specs.declared.op.Module.{Module}
 use Rattle.xf_ir.specs.Limits.{IsWithinLimits}
 use Rattle.xf_ir.specs.Valid.{IsValid}
 use Rattle.xf_printed.specs.PrintedForm.{module_docs, printed_form}
-use Rattle.xf_print_laws.specs.Core.{IsCore}
 use Rattle.xf_print_laws.specs.Stored.{IsStored}
 
 -- the lexer reads it back as the tokens that were written
 abbrev pub PrintedIsLaidOut : Type 0
 PrintedIsLaidOut =
-    (m : Module) → IsValid m → IsCore m → IsStored m → IsWithinLimits m
+    (m : Module) → IsValid m → IsStored m → IsWithinLimits m
     → IsLaidOut (printed_form m) (tokens_of (docs_written format level.File 0 (module_docs m)))

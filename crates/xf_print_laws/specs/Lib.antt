@@ -1,4 +1,3 @@
-pub mod Core
 pub mod Laws
 pub mod LayoutLaws
 pub mod Naming

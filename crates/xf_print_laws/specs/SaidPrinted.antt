@@ -1,19 +1,28 @@
--- What the printed heads of a module say, of the operations that are rows of slots.
-use Rattle.std.specs.Prelude.{ℕ, zero, suc, List, [], ◌∷◌, map, Option, Some, None, Bool, option_map, if◌then◌else◌, ℤ}
+-- What the printed heads of a module say.
+use Rattle.std.specs.Prelude.{ℕ, zero, suc, List, [], ◌∷◌, ◌++◌, map, Option, Some, None, Bool, option_map}
+use Rattle.std.specs.Prelude.{if◌then◌else◌, ℤ}
 use Rattle.xf_type.specs.declared.attribute.AttrValue.{AttrValue}
 use Rattle.xf_type.specs.declared.attribute.AttrValue.TheVariants as attr
 use Rattle.xf_type.specs.declared.kind.CmpKind.{CmpKind}
 use Rattle.xf_type.specs.declared.payload_type.PayloadType.{PayloadType}
-use Rattle.xf_type.specs.declared.payload_type.PayloadType.TheVariants.{Scalar}
+use Rattle.xf_type.specs.declared.payload_type.Dim.{Dim}
+use Rattle.xf_type.specs.declared.payload_type.Dim.TheVariants.{Fixed, Dynamic}
+use Rattle.xf_type.specs.declared.payload_type.PayloadType.TheVariants.{Scalar, Tensor}
+use Rattle.xf_type.specs.declared.payload_type.Shape.{Shape}
 use Rattle.xf_type.specs.declared.payload_type.Width.{Width}
 use Rattle.xf_type.specs.declared.payload_type.Width.TheVariants.{I1}
 use Rattle.xf_type.specs.Integers.{signed_value}
 use Rattle.xf_format.specs.declared.row.Row.{Row}
 use Rattle.xf_format.specs.declared.row.Row.TheVariants as row
 use Rattle.xf_format.specs.Parts.{LiteralSaid, truth, number, ValueSaid, no_value, truth_value, number_value}
-use Rattle.xf_format.specs.Parts.{text_value, EntrySaid, Said}
+use Rattle.xf_format.specs.Parts.{text_value, EntrySaid, Said, elements, PlaceSaid, place_number, place_value}
+use Rattle.xf_format.specs.Parts.{MapSaid, written_map, no_map}
+use Rattle.xf_dense.specs.Actions.{SaidBody, no_body_said}
+use Rattle.xf_dense.specs.Printed.{literal_of}
 use Rattle.xf_ir.specs.declared.kind.Attr.{Attr}
 use Rattle.xf_ir.specs.declared.kind.Kind.{Kind}
+use Rattle.xf_ir.specs.declared.kind.SliceIndex.{SliceIndex}
+use Rattle.xf_ir.specs.declared.kind.SliceIndex.TheVariants as index
 use Rattle.xf_ir.specs.declared.kind.Kind.TheVariants as kind
 use Rattle.xf_ir.specs.declared.name.ValueName.{ValueName}
 use Rattle.xf_ir.specs.declared.op.Module.{Module}
@@ -24,6 +33,7 @@ use Rattle.xf_printed.specs.Attributes.{string_text}
 use Rattle.xf_printed.specs.Fills.{has_minus, digits_of, is_set, symbol_printed, is_private}
 use Rattle.xf_printed.specs.Names.{Names, no_names, with_ops, first_args, number_of, first_of, type_of}
 use Rattle.xf_printed.specs.PrintedForm.{is_empty_yield}
+use Rattle.xf_printed.specs.Structured.{offsets_of, sizes_of, maps_of, iterators_of}
 use Rattle.xf_print_laws.specs.Naming.{use_printed, defines_printed, arguments_printed}
 
 -- ---- numbers
@@ -71,7 +81,12 @@ row_of kind.Extract = row.Extract
 row_of kind.Insert = row.Insert
 row_of kind.Cast = row.Cast
 row_of (kind.Named which) = row.Named which
-row_of _ = row.Module
+row_of (kind.Dense shape numbers) = row.Constant
+row_of (kind.ExtractSlice offsets sizes) = row.ExtractSlice
+row_of (kind.InsertSlice offsets sizes) = row.InsertSlice
+row_of (kind.Generic maps iterators) = row.Generic
+row_of kind.LinalgYield = row.LinalgYield
+row_of (kind.Module symbol) = row.Module
 
 -- with its @
 abbrev pub symbol_said : Kind → Option (List ℕ)
@@ -83,7 +98,33 @@ predicate_printed _ = None
 
 abbrev pub constant_printed : Kind → Option LiteralSaid
 constant_printed (kind.Constant width bits) = Some (literal_printed width bits)
+constant_printed (kind.Dense shape numbers) = Some elements
 constant_printed _ = None
+
+-- the dimensions of a fixed shape
+abbrev pub extents_of : List Dim → List ℕ
+extents_of [] = []
+extents_of (Fixed extent ∷ ds) = extent ∷ extents_of ds
+extents_of (Dynamic ∷ ds) = extents_of ds
+
+-- nothing, one number for all elements, or nested lists
+abbrev pub body_printed : Shape → List ℕ → SaidBody
+body_printed shape [] = no_body_said
+body_printed shape (n ∷ []) = record { literals = literal_of shape.elem n ∷ []; extents = None }
+body_printed shape ns =
+    record { literals = map (literal_of shape.elem) ns; extents = Some (extents_of shape.dims) }
+
+abbrev pub dense_printed : Kind → SaidBody
+dense_printed (kind.Dense shape numbers) = body_printed shape numbers
+dense_printed _ = no_body_said
+
+-- an offset or a size: a number, or the next operand
+abbrev pub index_printed : SliceIndex → PlaceSaid
+index_printed (index.Fixed n) = signed_said place_number n
+index_printed index.Dynamic = place_value
+
+abbrev pub maps_printed : Kind → List MapSaid
+maps_printed k = map written_map (maps_of k)
 
 -- the types that are known
 abbrev pub known_types : List (Option PayloadType) → List PayloadType
@@ -98,7 +139,7 @@ known_at (o ∷ os) zero = known_types (o ∷ [])
 known_at (o ∷ os) (suc i) = known_at os i
 
 -- the types that stand in a head, but for those behind its arrow: for a function those of its arguments, else those of
--- its operands or its widths
+-- its operands or its widths; those of the block of a linalg.generic stand behind those of its operands
 abbrev pub types_printed : Kind → List PayloadType → List (Option PayloadType) → List PayloadType
 types_printed (kind.Func symbol private results) args os = args
 types_printed kind.Return args os = known_types os
@@ -115,6 +156,11 @@ types_printed kind.Extract args os = known_at os 0
 types_printed kind.Insert args os = known_at os 1
 types_printed kind.Cast args os = known_at os 0
 types_printed (kind.Named which) args os = known_types os
+types_printed (kind.Dense shape numbers) args os = Tensor shape ∷ []
+types_printed (kind.ExtractSlice offsets sizes) args os = known_at os 0
+types_printed (kind.InsertSlice offsets sizes) args os = known_at os 0 ++ known_at os 1
+types_printed (kind.Generic maps iterators) args os = known_types os ++ args
+types_printed kind.LinalgYield args os = known_types os
 types_printed _ args os = []
 
 -- the types behind the arrow
@@ -126,6 +172,8 @@ results_printed kind.If ts = ts
 results_printed kind.Empty ts = ts
 results_printed kind.Cast ts = ts
 results_printed (kind.Named which) ts = ts
+results_printed (kind.ExtractSlice offsets sizes) ts = ts
+results_printed (kind.Generic maps iterators) ts = ts
 results_printed _ ts = []
 
 -- ---- heads
@@ -138,6 +186,12 @@ head_by names i first k ds os ts args = record {
   private = is_private k;
   predicate = predicate_printed k;
   literal = constant_printed k;
+  dense = dense_printed k;
+  offsets = map index_printed (offsets_of k);
+  sizes = map index_printed (sizes_of k);
+  map = no_map;
+  maps = maps_printed k;
+  iterators = iterators_of k;
   entries = map entry_printed ds;
   defines = defines_printed i ts;
   args = arguments_printed first args;

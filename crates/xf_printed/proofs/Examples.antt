@@ -1,5 +1,5 @@
 -- The printed form of worked modules.
-use Rattle.std.specs.Prelude.{◌≡◌, ℕ, pos, List, [], ◌∷◌, ◌++◌, codes, None, Some, true, false}
+use Rattle.std.specs.Prelude.{◌≡◌, ℕ, pos, negsuc, List, [], ◌∷◌, ◌++◌, codes, None, Some, true, false}
 use Rattle.std.specs.Fmt.{digits}
 use Rattle.std.proofs.Common.{refl}
 use Rattle.xf_type.specs.declared.payload_type.Width.TheVariants.{I1, I8, I32, I64, Index}
@@ -12,7 +12,7 @@ use Rattle.xf_type.specs.declared.kind.ConvKind.TheVariants.{IndexCast}
 use Rattle.xf_ir.specs.declared.name.OpName.{OpName}
 use Rattle.xf_ir.specs.declared.name.ValueName.{ValueName}
 use Rattle.xf_ir.specs.declared.name.ValueName.TheVariants.{Result, Arg}
-use Rattle.xf_ir.specs.declared.kind.IteratorKind.TheVariants.{Parallel}
+use Rattle.xf_ir.specs.declared.kind.IteratorKind.TheVariants.{Parallel, Reduction}
 use Rattle.xf_ir.specs.declared.kind.NamedKind.TheVariants.{Fill}
 use Rattle.xf_ir.specs.declared.kind.SliceIndex.TheVariants.{Fixed as At, Dynamic as Next}
 use Rattle.xf_ir.specs.declared.kind.Kind.{Kind}
@@ -26,7 +26,9 @@ use Rattle.xf_format.specs.Rules.{entry_value_rule, entry_rule, param_rule, pair
 use Rattle.xf_format.specs.Rules.{attributes_rule, result_types_rule, call_results_rule, function_results_rule}
 use Rattle.xf_format.specs.Rules.{listed_results_rule, if_results_rule, operands_rule, iter_args_rule, loop_width_rule}
 use Rattle.xf_format.specs.Rules.{tensor_rule, result_tensor_rule, typed_rule, ins_rule, outs_rule, row_rule}
-use Rattle.xf_format.specs.Rules.{defines_rule, head_rule}
+use Rattle.xf_format.specs.Rules.{defines_rule, head_rule, dense_type_rule, dense_rule, place_rule, stride_rule}
+use Rattle.xf_format.specs.Rules.{iterator_rule, dimension_rule, given_rule, map_form_rule, map_rule, maps_rule}
+use Rattle.xf_format.specs.Rules.{marked_rule, some_ins_rule}
 use Rattle.xf_printed.specs.PrintedForm.{printed_form}
 
 abbrev op_name : ℕ → OpName
@@ -97,6 +99,8 @@ unfolding digits kind_rule word_rule symbol_rule module_name_rule function_name_
     entry_value_rule entry_rule param_rule pair_rule until_rule dictionary_rule attributes_rule result_types_rule
     call_results_rule function_results_rule listed_results_rule if_results_rule operands_rule iter_args_rule
     loop_width_rule tensor_rule result_tensor_rule typed_rule ins_rule outs_rule row_rule defines_rule head_rule
+    dense_type_rule dense_rule place_rule stride_rule iterator_rule dimension_rule given_rule map_form_rule map_rule
+    maps_rule marked_rule some_ins_rule
 turns_printed = refl
 
 abbrev pair : PayloadType
@@ -149,6 +153,8 @@ unfolding digits kind_rule word_rule symbol_rule module_name_rule function_name_
     entry_value_rule entry_rule param_rule pair_rule until_rule dictionary_rule attributes_rule result_types_rule
     call_results_rule function_results_rule listed_results_rule if_results_rule operands_rule iter_args_rule
     loop_width_rule tensor_rule result_tensor_rule typed_rule ins_rule outs_rule row_rule defines_rule head_rule
+    dense_type_rule dense_rule place_rule stride_rule iterator_rule dimension_rule given_rule map_form_rule map_rule
+    maps_rule marked_rule some_ins_rule
 structured_printed = refl
 
 -- a function with attributes, a call of it, and an empty yield
@@ -186,6 +192,8 @@ unfolding digits kind_rule word_rule symbol_rule module_name_rule function_name_
     entry_value_rule entry_rule param_rule pair_rule until_rule dictionary_rule attributes_rule result_types_rule
     call_results_rule function_results_rule listed_results_rule if_results_rule operands_rule iter_args_rule
     loop_width_rule tensor_rule result_tensor_rule typed_rule ins_rule outs_rule row_rule defines_rule head_rule
+    dense_type_rule dense_rule place_rule stride_rule iterator_rule dimension_rule given_rule map_form_rule map_rule
+    maps_rule marked_rule some_ins_rule
 called_printed = refl
 
 abbrev grid : PayloadType
@@ -243,4 +251,70 @@ unfolding digits kind_rule word_rule symbol_rule module_name_rule function_name_
     entry_value_rule entry_rule param_rule pair_rule until_rule dictionary_rule attributes_rule result_types_rule
     call_results_rule function_results_rule listed_results_rule if_results_rule operands_rule iter_args_rule
     loop_width_rule tensor_rule result_tensor_rule typed_rule ins_rule outs_rule row_rule defines_rule head_rule
+    dense_type_rule dense_rule place_rule stride_rule iterator_rule dimension_rule given_rule map_form_rule map_rule
+    maps_rule marked_rule some_ins_rule
 tensors_printed = refl
+
+abbrev one_number : PayloadType
+one_number = Tensor (record { dims = []; elem = I32 })
+
+abbrev truths : PayloadType
+truths = Tensor (record { dims = Fixed 2 ∷ Fixed 1 ∷ []; elem = I1 })
+
+abbrev no_truths : PayloadType
+no_truths = Tensor (record { dims = Fixed 0 ∷ []; elem = I1 })
+
+-- nested lists, none and truth values; a sum over the columns, with attributes; a body that reads nothing; and a window
+-- with a number below 0
+abbrev sums : Module
+sums = module_of (op (op_name 1) (kind.Func (codes "r") false []) [] [] [] (region (pair ∷ one_number ∷ [])
+    (plain 2 (kind.Dense (record { dims = Fixed 2 ∷ Fixed 2 ∷ []; elem = I32 }) (1 ∷ 2 ∷ 3 ∷ 4 ∷ [])) [] (square ∷ [])
+    (plain 3 (kind.Dense (record { dims = Fixed 2 ∷ Fixed 1 ∷ []; elem = I1 }) (1 ∷ 0 ∷ [])) [] (truths ∷ [])
+    (plain 4 (kind.Dense (record { dims = Fixed 0 ∷ []; elem = I1 }) []) [] (no_truths ∷ [])
+    (op (op_name 5)
+    (kind.Generic (record { dims = 2; results = 0 ∷ 1 ∷ [] } ∷ record { dims = 2; results = 0 ∷ [] } ∷ [])
+    (Parallel ∷ Reduction ∷ []))
+    (record { name = codes "n"; value = Int I64 5 } ∷ record { name = codes "x"; value = unit_attr } ∷ [])
+    (result 2 ∷ argument 1 0 ∷ []) (pair ∷ []) (region (i32 ∷ i32 ∷ [])
+    (plain 6 (kind.Binary Addi I32) (argument 5 1 ∷ argument 5 0 ∷ []) (i32 ∷ [])
+    (plain 7 kind.LinalgYield (result 6 ∷ []) [] no_ops))
+    no_regions)
+    (op (op_name 8) (kind.Generic (record { dims = 0; results = [] } ∷ []) []) [] (argument 1 1 ∷ [])
+    (one_number ∷ []) (region (i32 ∷ [])
+    (plain 9 kind.LinalgYield (argument 8 0 ∷ []) [] no_ops)
+    no_regions)
+    (plain 10 (kind.ExtractSlice (At (negsuc 0) ∷ []) (At (pos 2) ∷ [])) (result 5 ∷ []) (pair ∷ [])
+    (plain 11 kind.Return [] [] no_ops)))))))
+    no_regions) no_ops)
+
+sums_printed : printed_form sums
+    ≡ lines (codes "module {"
+    ∷ codes "  func.func @r(%arg0: tensor<2xi32>, %arg1: tensor<i32>) {"
+    ∷ codes "    %0 = arith.constant dense<[[1, 2], [3, 4]]> : tensor<2x2xi32>"
+    ∷ codes "    %1 = arith.constant dense<[[true], [false]]> : tensor<2x1xi1>"
+    ∷ codes "    %2 = arith.constant dense<> : tensor<0xi1>"
+    ∷ (codes "    %3 = linalg.generic {indexing_maps = [affine_map<(d0, d1) -> (d0, d1)>, affine_map<(d0, d1) -> "
+    ++ (codes "(d0)>], iterator_types = [\"parallel\", \"reduction\"]} ins(%0 : tensor<2x2xi32>) "
+    ++ codes "outs(%arg0 : tensor<2xi32>) attrs = {n = 5 : i64, x} {"))
+    ∷ codes "    ^bb0(%arg2: i32, %arg3: i32):"
+    ∷ codes "      %4 = arith.addi %arg3, %arg2 : i32"
+    ∷ codes "      linalg.yield %4 : i32"
+    ∷ codes "    } -> tensor<2xi32>"
+    ∷ (codes "    %5 = linalg.generic {indexing_maps = [affine_map<() -> ()>], iterator_types = []} "
+    ++ codes "outs(%arg1 : tensor<i32>) {")
+    ∷ codes "    ^bb0(%arg4: i32):"
+    ∷ codes "      linalg.yield %arg4 : i32"
+    ∷ codes "    } -> tensor<i32>"
+    ∷ codes "    %6 = tensor.extract_slice %3[-1] [2] [1] : tensor<2xi32> to tensor<2xi32>"
+    ∷ codes "    func.return"
+    ∷ codes "  }"
+    ∷ codes "}"
+    ∷ [])
+unfolding digits kind_rule word_rule symbol_rule module_name_rule function_name_rule argument_rule use_rule width_rule
+    type_rule result_rule predicate_rule block_name_rule number_rule literal_rule entry_width_rule entry_number_rule
+    entry_value_rule entry_rule param_rule pair_rule until_rule dictionary_rule attributes_rule result_types_rule
+    call_results_rule function_results_rule listed_results_rule if_results_rule operands_rule iter_args_rule
+    loop_width_rule tensor_rule result_tensor_rule typed_rule ins_rule outs_rule row_rule defines_rule head_rule
+    dense_type_rule dense_rule place_rule stride_rule iterator_rule dimension_rule given_rule map_form_rule map_rule
+    maps_rule marked_rule some_ins_rule
+sums_printed = refl

@@ -1,5 +1,6 @@
 -- The earlier of tokens, and of faults.
-use Rattle.std.proofs.Common.{◌≡◌, ℕ, min, Option, Some, None, refl, ap, arith}
+use Rattle.std.proofs.Common.{◌≡◌, ℕ, min, Bool, true, false, Option, Some, None, refl, ap, arith}
+use Rattle.std.specs.Prelude.{if◌then◌else◌}
 use Rattle.xf_read.specs.declared.faults.Faults.{Faults}
 use Rattle.xf_read.specs.Names.{earlier, with_faults, no_faults}
 
@@ -28,3 +29,14 @@ faults_regrouped a b c =
 pub faults_not : (a : Faults) → with_faults a no_faults ≡ a
 faults_not a = same_faults (with_faults a no_faults) a (earlier_none a.undefined) (earlier_none a.twice)
     (earlier_none a.mismatch)
+
+-- ---- faults of types and numbers
+
+pub none_earlier : (a b : Option ℕ) → earlier a b ≡ None → (a ≡ None) × (b ≡ None)
+none_earlier None b e = (refl, e)
+none_earlier (Some i) None e = absurd cc
+none_earlier (Some i) (Some j) e = absurd cc
+
+pub unless : (b : Bool) (n : ℕ) → (let f : Option ℕ = if b then None else Some n in f ≡ None) → b ≡ true
+unless true n e = refl
+unless false n e = absurd cc

@@ -1,10 +1,12 @@
 pub mod Arguments
 pub mod Counting
 pub mod Earlier
+pub mod Everywhere
 pub mod Heads
 pub mod Joining
 pub mod Limits
 pub mod Meanings
+pub mod Properties
 pub mod Scoping
 pub mod ShortLists
 pub mod ShortNames

@@ -15,8 +15,10 @@ use Rattle.xf_format.specs.declared.columns.ResultTypes.{ResultTypes}
 use Rattle.xf_format.specs.declared.columns.ResultTypes.TheVariants as given
 use Rattle.xf_format.specs.Columns.{result_types, types_given, element_of}
 use Rattle.xf_format.specs.Short.{HasShortParts}
-use Rattle.xf_format.specs.Parts.{EntrySaid, use_said, entry_said, arg_said, Said, said}
-use Rattle.xf_read_base.specs.Values.{attr_said, with_attr, with_said, kind_said}
+use Rattle.xf_format.specs.Parts.{EntrySaid, use_said, entry_said, arg_said, Said, said, LiteralSaid, truth, number}
+use Rattle.xf_format.specs.Parts.{elements}
+use Rattle.xf_read_base.specs.Structured.{no_aliases}
+use Rattle.xf_read_base.specs.Values.{attr_said, with_attr, with_said, constant_said, kind_said}
 use Rattle.xf_ir.specs.declared.kind.Attr.{Attr}
 use Rattle.xf_ir.specs.declared.kind.Kind.TheVariants as kind
 use Rattle.xf_ir.specs.Bounds.{regions_length, blocks_of, HasShortLists, OpsShort, RegionsShort, ListsAreShort}
@@ -28,7 +30,7 @@ use Rattle.xf_ir.specs.Count.{ops_count, regions_count}
 use Rattle.xf_ir.specs.Tree.{Ops, no_ops, op, Regions, no_regions, region}
 use Rattle.xf_read.specs.declared.faults.Faults.{Faults}
 use Rattle.xf_read.specs.Meant.{joined, lacks_yield, yield_said, ops_said, regions_said, tree_said}
-use Rattle.xf_read.specs.Names.{op_name, earlier, inside, behind, types_agree, nodes_faults, bodies_faults}
+use Rattle.xf_read.specs.Names.{op_name, inside, behind, types_agree, nodes_faults, bodies_faults}
 use Rattle.xf_read.specs.Scopes.{Meanings, no_names, use_value}
 use Rattle.xf_read.specs.Short.{SpeltIsShort}
 use Rattle.xf_grammar.specs.Holding.{NodesHave, BodiesHave}
@@ -39,6 +41,7 @@ use Rattle.xf_grammar.proofs.TreesNest.{bodies_number, NodesNest, BodiesNest}
 use Rattle.xf_format.specs.Format.{most_open}
 use Rattle.xf_read.specs.Types.{one_type, argument_types}
 use Rattle.xf_read.proofs.Counting.{few_operations}
+use Rattle.xf_read.proofs.Earlier.{none_earlier, unless}
 use Rattle.xf_read.proofs.Limits.{regions_counted}
 use Rattle.xf_format.proofs.OfKind.{Inside}
 use Rattle.xf_read.proofs.ShortNames.{by_order, entries_short, symbol_short}
@@ -71,8 +74,16 @@ results_short given.Element types results t s =
     let o = one_at_most (option_map element_of (slice_get types 0)) in omega (arith, o)
 results_short r types results t s = omega arith
 
-returned_short : (r : Row) (t : Said) → length t.results < 2 ^ 32 → length (returned_types (kind_said r t)) < 2 ^ 32
+constant_returns : (t : Said) (l : Option LiteralSaid)
+    → length (returned_types (constant_said t.types t.dense l)) < 2 ^ 32
+constant_returns t None = omega arith
+constant_returns t (Some (truth b)) = omega arith
+constant_returns t (Some (number negative digits)) = omega arith
+constant_returns t (Some elements) = omega arith
+
+returned_short : (r : Row) (t : Said) → length t.results < 2 ^ 32 → length (returned_types (kind_said no_aliases r t)) < 2 ^ 32
 returned_short row.Function t s = s
+returned_short row.Constant t s = constant_returns t t.literal
 returned_short r t s = omega arith
 
 arguments_short : (n : ℕ) (t : Said) (scope : Meanings) (bs : SaidBodies) → length (argument_types t) < 2 ^ 32
@@ -134,17 +145,6 @@ head_lists all n scope p bs s i two few e =
       symbol = symbol_short all p.row p i;
       returned = returned_short p.row t s.results;
     }
-
--- ---- faults of types and numbers
-
-none_earlier : (a b : Option ℕ) → earlier a b ≡ None → (a ≡ None) × (b ≡ None)
-none_earlier None b e = (refl, e)
-none_earlier (Some i) None e = absurd cc
-none_earlier (Some i) (Some j) e = absurd cc
-
-unless : (b : Bool) (n : ℕ) → (let f : Option ℕ = if b then None else Some n in f ≡ None) → b ≡ true
-unless true n e = refl
-unless false n e = absurd cc
 
 -- ---- all operations
 

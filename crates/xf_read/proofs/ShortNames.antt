@@ -17,9 +17,10 @@ use Rattle.xf_format.specs.declared.parts.Parts.{Parts}
 use Rattle.xf_format.specs.declared.row.Row.{Row}
 use Rattle.xf_format.specs.declared.row.Row.TheVariants as row
 use Rattle.xf_format.specs.Tests.{is_symbol, is_name, is_string}
-use Rattle.xf_format.specs.Parts.{text_of, value_said, entry_said, said}
+use Rattle.xf_format.specs.Parts.{text_of, value_said, entry_said, Said, said, LiteralSaid, truth, number, elements}
 use Rattle.xf_format.specs.Strings.{decoded}
-use Rattle.xf_read_base.specs.Values.{attr_value, attr_said, with_attr, with_said, kind_said}
+use Rattle.xf_read_base.specs.Structured.{no_aliases}
+use Rattle.xf_read_base.specs.Values.{attr_value, attr_said, with_attr, with_said, constant_said, kind_said}
 use Rattle.xf_ir.specs.declared.kind.Attr.{Attr}
 use Rattle.xf_ir.specs.Lists.{Each}
 use Rattle.xf_ir.specs.Bounds.{HasShortText, IsShortAttr, HasShortSymbol}
@@ -71,15 +72,22 @@ entries_short all (e ∷ es) xs w s = entries_short all es (with_attr (attr_said
 
 -- ---- symbols
 
+constant_short : (t : Said) (l : Option LiteralSaid) → HasShortSymbol (constant_said t.types t.dense l)
+constant_short t None = tt
+constant_short t (Some (truth b)) = tt
+constant_short t (Some (number negative digits)) = tt
+constant_short t (Some elements) = tt
+
 kind_short : (all : List Token) (r : Row) (p : Parts) (s : Option ℕ) → p.symbol ≡ s → SymbolOf all s
-    → HasShortSymbol (kind_said r (said all p))
+    → HasShortSymbol (kind_said no_aliases r (said all p))
 kind_short all row.Module p None e w = rw e tt
 kind_short all row.Module p (Some at) e w = rw e (symbol_token (terminal_at all at) w)
 kind_short all row.Function p None e w = rw e (omega arith)
 kind_short all row.Function p (Some at) e w = rw e (symbol_token (terminal_at all at) w)
 kind_short all row.Call p None e w = rw e (omega arith)
 kind_short all row.Call p (Some at) e w = rw e (symbol_token (terminal_at all at) w)
+kind_short all row.Constant p s e w = constant_short (said all p) (said all p).literal
 kind_short all r p s e w = tt
 
-pub symbol_short : (all : List Token) (r : Row) (p : Parts) → Inside all p → HasShortSymbol (kind_said r (said all p))
+pub symbol_short : (all : List Token) (r : Row) (p : Parts) → Inside all p → HasShortSymbol (kind_said no_aliases r (said all p))
 symbol_short all r p w = kind_short all r p p.symbol refl w.symbol

@@ -17,6 +17,7 @@ use Rattle.xf_syntax.specs.Telling.{Nodes, no_nodes, node, Bodies, no_bodies, bo
 use Rattle.xf_syntax.specs.Telling.{SaidNodes, no_nodes_said, node_said, SaidBodies, no_bodies_said, body_said}
 use Rattle.xf_syntax.specs.Telling.{operations, left_out, operations_inside}
 use Rattle.xf_syntax.specs.Written.{file_said}
+use Rattle.xf_read_base.specs.Structured.{no_aliases}
 use Rattle.xf_read_base.specs.Values.{attrs_said, kind_said}
 use Rattle.xf_read.specs.declared.faults.Faults.{Faults}
 use Rattle.xf_read.specs.Names.{op_name, tree_count, inside, behind, tree_faults}
@@ -53,7 +54,8 @@ abbrev mutual
   pub ops_said : ℕ → Meanings → SaidNodes → Ops
   ops_said n scope no_nodes_said = no_ops
   ops_said n scope (node_said t bs rest) =
-      op (op_name n) (kind_said t.row t) (attrs_said t.entries) (map (use_value scope) t.uses) (result_types t)
+      op (op_name n) (kind_said no_aliases t.row t) (attrs_said t.entries) (map (use_value scope) t.uses)
+      (result_types t)
       (regions_said (n + 1) t (inside n t scope) bs)
       (ops_said (n + (1 + operations_inside t bs)) (behind n t scope) rest)
 
@@ -67,7 +69,7 @@ abbrev mutual
 abbrev pub tree_said : ℕ → Meanings → Said → SaidBodies → Op
 tree_said n scope t bs = record {
   name = op_name n;
-  kind = kind_said t.row t;
+  kind = kind_said no_aliases t.row t;
   attrs = attrs_said t.entries;
   operands = map (use_value scope) t.uses;
   results = result_types t;

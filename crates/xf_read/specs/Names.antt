@@ -1,9 +1,12 @@
 -- The checks of names and types: the first token in the text that each of them refuses.
 use Rattle.std.specs.Prelude.{ℕ, ◌+◌, ◌==◌, ◌&&◌, min, List, [], ◌∷◌, length, Option, Some, None, Bool, true, false}
 use Rattle.std.specs.Prelude.{if◌then◌else◌, is_some, slice_get}
+use Rattle.std.specs.Option.{option_or}
 use Rattle.xf_type.specs.declared.payload_type.PayloadType.{PayloadType}
 use Rattle.xf_lex.specs.declared.token.Token.{Token}
 use Rattle.xf_grammar.specs.Tree.{Tree}
+use Rattle.xf_format.specs.declared.parts.MapEntry.{MapEntry}
+use Rattle.xf_format.specs.declared.parts.MapEntry.TheVariants as map_entry
 use Rattle.xf_format.specs.declared.parts.Parts.{Parts}
 use Rattle.xf_format.specs.declared.parts.Ref.{Ref}
 use Rattle.xf_format.specs.declared.parts.Use.{Use}
@@ -95,10 +98,20 @@ behind n t scope =
 
 -- ---- undefined names
 
+-- the first alias of a map: a text defines none yet
+abbrev pub alias_in : List MapEntry → Option ℕ
+alias_in [] = None
+alias_in (map_entry.Written m ∷ ms) = alias_in ms
+alias_in (map_entry.Alias at ∷ ms) = Some at
+
 -- the first use that stands for no value
 abbrev pub undefined_in : List Token → Meanings → List Use → Option ℕ
 undefined_in all scope [] = None
 undefined_in all scope (u ∷ us) = if use_means scope (use_said all u) then undefined_in all scope us else Some u.token
+
+-- the first name that stands for nothing: aliases stand before uses
+abbrev pub undefined : List Token → Meanings → Parts → Option ℕ
+undefined all scope p = option_or (alias_in p.maps) (undefined_in all scope p.uses)
 
 -- ---- names twice
 
@@ -153,7 +166,7 @@ types_agree t scope =
 
 abbrev pub head_faults : List Token → ℕ → ℕ → Parts → Meanings → Faults
 head_faults all n first p scope = record {
-  undefined = undefined_in all scope p.uses;
+  undefined = undefined all scope p;
   twice = twice all n p scope;
   mismatch = if types_agree (said all p) scope then None else Some first;
 }

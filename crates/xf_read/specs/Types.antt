@@ -10,7 +10,7 @@ abbrev pub result_types : Said → List PayloadType
 result_types t = columns.types_given (columns.result_types t.row) t.types t.results
 
 abbrev pub argument_types : Said → List PayloadType
-argument_types t = columns.types_taken (columns.argument_types t.row) t.types t.results
+argument_types t = columns.types_taken (columns.argument_types t.row) (length t.uses) t.types t.results
 
 -- whether there are as many operands as there are to be
 abbrev pub is_counted : Said → Bool

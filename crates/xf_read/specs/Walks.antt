@@ -16,10 +16,11 @@ use Rattle.xf_syntax.specs.declared.tree.File.{File}
 use Rattle.xf_syntax.specs.Telling.{SaidNodes, operations}
 use Rattle.xf_read.specs.Meant.{meant, places_of, file_faults, joined, ops_said, yield_said}
 use Rattle.xf_read_base.specs.Attributes.{entries_twice}
-use Rattle.xf_read.specs.Names.{op_name, earlier, with_faults, undefined_in, names_twice}
+use Rattle.xf_read.specs.Names.{op_name, earlier, with_faults, undefined, names_twice}
 use Rattle.xf_read.specs.Names.{types_agree}
 use Rattle.xf_read.specs.Scopes.{Meanings, use_value}
 use Rattle.xf_read.specs.Types.{result_types, argument_types}
+use Rattle.xf_read_base.specs.Structured.{no_aliases}
 use Rattle.xf_read_base.specs.Values.{attrs_said, kind_said}
 use Rattle.xf_read.specs.Visible.{names_in}
 
@@ -37,12 +38,12 @@ pub record Same (old new : Visible) : Type 0 where
 -- what an operation holds beside its name and its regions, and its faults but for names of its arguments that stand
 -- twice
 pub record IsHead (all : List Token) (scope : Meanings) (first : ℕ) (p : Parts) (h : MeantHead) : Type 0 where
-  pub kind : h.kind ≡ kind_said p.row (said all p)
+  pub kind : h.kind ≡ kind_said no_aliases p.row (said all p)
   pub attrs : h.attrs ≡ attrs_said (said all p).entries
   pub operands : h.operands ≡ map (use_value scope) (said all p).uses
   pub results : h.results ≡ result_types (said all p)
   pub args : h.args ≡ argument_types (said all p)
-  pub undefined : h.faults.undefined ≡ undefined_in all scope p.uses
+  pub undefined : h.faults.undefined ≡ undefined all scope p
   pub twice : h.faults.twice ≡ earlier (entries_twice all (λ name. false) p.entries) (names_twice all p scope)
   pub mismatch : h.faults.mismatch ≡ (if types_agree (said all p) scope then None else Some first)
 

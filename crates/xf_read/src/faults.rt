@@ -13,7 +13,7 @@ use xf_read_base::text;
 /// The first token in the text at which each check finds a fault.
 #[derive(Clone, Copy, Debug, PartialEq, Eq)]
 pub struct Faults {
-    /// A use of a name that stands for no value there.
+    /// A use of a name that stands for no value there, or an alias that stands for no map.
     pub undefined: Option<usize>,
     /// A name that is visible already, a function's symbol or an attribute's name that stands
     /// before.

@@ -6,7 +6,7 @@ ghost use Rattle.xf_read.specs.Walks.{IsHead};
 use crate::faults::{Faults, earlier, names_twice, token_unless};
 use crate::scope::VisibleNames;
 use crate::types::agrees;
-use crate::uses::look_up_all;
+use crate::uses::{alias_in, look_up_all};
 use std::alloc::Global;
 use xf_format::{Parts, types_given, types_taken};
 use xf_ir::{AttrList, Kind, ValueList};
@@ -41,12 +41,12 @@ pub fn head_of(
     let (attrs, twice) = attributes(alloc, tokens, parts.entries.as_slice())?;
     let used = look_up_all(alloc, tokens, scope, parts, parts.uses.as_slice())?;
     let faults = Faults {
-        undefined: used.undefined,
+        undefined: alias_in(parts.maps.as_slice()).or(used.undefined),
         twice: earlier(twice, names_twice(tokens, scope, parts)),
         mismatch: token_unless(agrees(parts, used.fit, &results, &args), first),
     };
     Ok(MeantHead {
-        kind: kind_of(alloc, tokens, parts)?,
+        kind: kind_of(alloc, tokens, &[], parts)?,
         attrs,
         operands: used.values,
         results,

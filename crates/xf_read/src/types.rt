@@ -54,7 +54,8 @@ pub fn agrees(parts: &Parts, fit: bool, results: &TypeList, args: &TypeList) -> 
     requires results { results.now
         ≡ columns.types_given (columns.result_types parts.now.row) parts.now.types parts.now.results }
     requires args { args.now
-        ≡ columns.types_taken (columns.argument_types parts.now.row) parts.now.types parts.now.results }
+        ≡ columns.types_taken (columns.argument_types parts.now.row) (length parts.now.uses) parts.now.types
+        parts.now.results }
     ensures { (all : List GhostToken) (scope : Meanings)
         → fit ≡ uses_fit scope (said all parts.now) 0 (map (use_said all) parts.now.uses)
         → result ≡ types_agree (said all parts.now) scope }

@@ -2,7 +2,7 @@
 ghost use Rattle.std.specs.Prelude.{◌≡◌, ◌∷◌, ◌++◌, [], ◌&&◌, IfOk, OnOk, map, None, Some, if◌then◌else◌};
 ghost use Rattle.std.specs.Option.{option_copied, option_or};
 ghost use Rattle.xf_format.specs.Parts.{said, use_said};
-ghost use Rattle.xf_read.specs.Names.{undefined_in, uses_fit};
+ghost use Rattle.xf_read.specs.Names.{alias_in, undefined_in, uses_fit};
 ghost use Rattle.xf_read.specs.Scopes.{has_use, value_in, type_in, use_means, use_value, use_type};
 ghost use Rattle.xf_read.specs.Types.{fits};
 ghost use Rattle.xf_read.specs.Visible.{names_in};
@@ -11,7 +11,7 @@ use crate::faults::token_unless;
 use crate::scope::{Definer, Named, VisibleNames};
 use crate::types::fits;
 use std::alloc::Global;
-use xf_format::{Parts, Use, operand_type};
+use xf_format::{MapEntry, Parts, Use, operand_type};
 use xf_ir::{ValueList, ValueName};
 use xf_lex::Token;
 use xf_read_base::{count_used, text};
@@ -87,6 +87,18 @@ fn look_up(
     used.undefined = used.undefined.or(token_unless(defined, name.token));
     used.fit = used.fit && fits(stated, type_in(named, at));
     Ok(())
+}
+
+/// The first alias of a map: a text defines none yet.
+pub fn alias_in(maps: &[MapEntry]) -> Option<usize>
+    ensures { result ≡ alias_in maps.now }
+{
+    for map in maps {
+        if let MapEntry::Alias(token) = map {
+            return Some(*token);
+        }
+    }
+    None
 }
 
 /// What the uses of an operation stand for, each of which is looked up once. Refuses for want of memory

@@ -1,3 +1,5 @@
+pub mod Braces
 pub mod Ends
 pub mod Sorting
 pub mod Stops
+pub mod Told

@@ -1,6 +1,5 @@
 -- What a head means by what it says in bytes: the kind of the operation, and its attributes.
-use Rattle.std.specs.Prelude.{ℕ, ◌-◌, ◌^◌, ℤ, pos, neg_ℤ, List, [], ◌∷◌, drop, Option, Some, None, Bool}
-use Rattle.std.specs.Prelude.{if◌then◌else◌, slice_get}
+use Rattle.std.specs.Prelude.{ℕ, List, [], ◌∷◌, drop, Option, Some, None, slice_get}
 use Rattle.std.specs.Option.{option_map}
 use Rattle.std.specs.Ordering.{nat_cmp, match_ordering}
 use Rattle.std.specs.Cmp.Lexicographic.{slice_cmp}
@@ -10,39 +9,32 @@ use Rattle.xf_type.specs.declared.kind.CmpKind.{CmpKind}
 use Rattle.xf_type.specs.declared.kind.CmpKind.TheVariants as cmp
 use Rattle.xf_type.specs.declared.payload_type.PayloadType.{PayloadType}
 use Rattle.xf_type.specs.declared.payload_type.PayloadType.TheVariants.{Scalar, Tensor}
+use Rattle.xf_type.specs.declared.payload_type.Shape.{Shape}
 use Rattle.xf_type.specs.declared.payload_type.Width.{Width}
 use Rattle.xf_type.specs.declared.payload_type.Width.TheVariants.{I1, Index}
 use Rattle.xf_type.specs.Integers.{wrapped}
 use Rattle.xf_grammar.specs.Tokens.{number_of}
 use Rattle.xf_format.specs.declared.row.Row.{Row}
 use Rattle.xf_format.specs.declared.row.Row.TheVariants as row
-use Rattle.xf_format.specs.Parts.{LiteralSaid, truth, number, ValueSaid, no_value, truth_value, number_value}
+use Rattle.xf_dense.specs.Actions.{SaidBody}
+use Rattle.xf_format.specs.Parts.{LiteralSaid, truth, number, elements, ValueSaid, no_value, truth_value, number_value}
 use Rattle.xf_format.specs.Parts.{text_value}
 use Rattle.xf_format.specs.Parts.{EntrySaid, Said}
 use Rattle.xf_format.specs.Strings.{decoded}
-use Rattle.xf_format.specs.Tests.{has_room}
 use Rattle.xf_ir.specs.declared.kind.Attr.{Attr}
 use Rattle.xf_ir.specs.declared.kind.Kind.{Kind}
 use Rattle.xf_ir.specs.declared.kind.Kind.TheVariants as kind
+use Rattle.xf_read_base.specs.Elements.{shape_at, numbers_meant}
+pub use Rattle.xf_read_base.specs.Numbers.{signed, truth_bits, integer_bits}
+use Rattle.xf_read_base.specs.Structured.{Aliases, window_meant, maps_meant}
 
--- ---- numbers
-
--- the integer that digits write, with a - before them or not
-abbrev pub signed : Bool → ℕ → ℤ
-signed negative n = if negative then neg_ℤ (pos n) else pos n
-
-abbrev pub truth_bits : Bool → ℕ
-truth_bits b = if b then 1 else 0
-
--- the number of a literal of a width: that of its bits where the width has room for it, else one that no width has
-abbrev pub integer_bits : Width → Bool → ℕ → ℕ
-integer_bits w negative n =
-    if has_room w negative n then wrapped w (signed negative n) else (if negative then 2 ^ 128 - n else n)
+-- ---- literals
 
 abbrev pub bits_said : Width → Option LiteralSaid → ℕ
 bits_said w None = 0
 bits_said w (Some (truth b)) = truth_bits b
 bits_said w (Some (number negative digits)) = integer_bits w negative (number_of digits)
+bits_said w (Some elements) = 0
 
 -- ---- attributes
 
@@ -90,26 +82,36 @@ abbrev pub predicate_or : Option CmpKind → CmpKind
 predicate_or None = cmp.Eq
 predicate_or (Some k) = k
 
-abbrev pub kind_said : Row → Said → Kind
-kind_said row.Module t = kind.Module (option_map (drop 1) t.symbol)
-kind_said row.Function t = kind.Func (word_said t.symbol) t.private t.results
-kind_said row.Return t = kind.Return
-kind_said row.Call t = kind.Call (word_said t.symbol)
-kind_said row.Constant t = kind.Constant (width_at t.types 0) (bits_said (width_at t.types 0) t.literal)
-kind_said (row.Binary k) t = kind.Binary k (width_at t.types 0)
-kind_said row.Compare t = kind.Compare (predicate_or t.predicate) (width_at t.types 0)
-kind_said row.Select t = kind.Select (width_at t.types 0)
-kind_said (row.Convert k) t = kind.Convert k (width_at t.types 0) (width_at t.types 1)
-kind_said row.For t = kind.For (width_at t.types 0)
-kind_said row.If t = kind.If
-kind_said row.Yield t = kind.Yield
-kind_said row.Empty t = kind.Empty
-kind_said row.Dim t = kind.Dim
-kind_said row.Extract t = kind.Extract
-kind_said row.Insert t = kind.Insert
-kind_said row.Cast t = kind.Cast
-kind_said (row.Named k) t = kind.Named k
-kind_said row.LinalgYield t = kind.LinalgYield
--- any of an operation that is not read yet
-kind_said row.Other t = kind.Yield
-kind_said row.Generic t = kind.Yield
+abbrev pub dense_said : Shape → SaidBody → Kind
+dense_said s b = kind.Dense s (numbers_meant s.elem b)
+
+-- a constant is a tensor where it has a body
+abbrev pub constant_said : List PayloadType → SaidBody → Option LiteralSaid → Kind
+constant_said ts b None = kind.Constant (width_at ts 0) (bits_said (width_at ts 0) None)
+constant_said ts b (Some elements) = dense_said (shape_at ts 0) b
+constant_said ts b (Some l) = kind.Constant (width_at ts 0) (bits_said (width_at ts 0) (Some l))
+
+-- the kind of an operation, by what the aliases of maps stand for
+abbrev pub kind_said : Aliases → Row → Said → Kind
+kind_said aliases row.Module t = kind.Module (option_map (drop 1) t.symbol)
+kind_said aliases row.Function t = kind.Func (word_said t.symbol) t.private t.results
+kind_said aliases row.Return t = kind.Return
+kind_said aliases row.Call t = kind.Call (word_said t.symbol)
+kind_said aliases row.Constant t = constant_said t.types t.dense t.literal
+kind_said aliases (row.Binary k) t = kind.Binary k (width_at t.types 0)
+kind_said aliases row.Compare t = kind.Compare (predicate_or t.predicate) (width_at t.types 0)
+kind_said aliases row.Select t = kind.Select (width_at t.types 0)
+kind_said aliases (row.Convert k) t = kind.Convert k (width_at t.types 0) (width_at t.types 1)
+kind_said aliases row.For t = kind.For (width_at t.types 0)
+kind_said aliases row.If t = kind.If
+kind_said aliases row.Yield t = kind.Yield
+kind_said aliases row.Empty t = kind.Empty
+kind_said aliases row.Dim t = kind.Dim
+kind_said aliases row.Extract t = kind.Extract
+kind_said aliases row.Insert t = kind.Insert
+kind_said aliases row.ExtractSlice t = kind.ExtractSlice (window_meant t.offsets) (window_meant t.sizes)
+kind_said aliases row.InsertSlice t = kind.InsertSlice (window_meant t.offsets) (window_meant t.sizes)
+kind_said aliases row.Cast t = kind.Cast
+kind_said aliases (row.Named k) t = kind.Named k
+kind_said aliases row.Generic t = kind.Generic (maps_meant aliases t.maps) t.iterators
+kind_said aliases row.LinalgYield t = kind.LinalgYield

@@ -9,7 +9,7 @@ use Rattle.xf_lex.specs.declared.token.TokenKind.TheVariants as kind
 use Rattle.xf_shape.specs.Shapes.{inside_marks, shape_number}
 use Rattle.xf_shape.specs.TypeWords.{one_of, begins, type_number}
 use Rattle.xf_grammar.specs.Tokens.{Terminal, is_kind, is_word, word_of, less, open_paren, open_bracket}
-use Rattle.xf_grammar.specs.Tokens.{open_brace, close_brace, close_paren, comma}
+use Rattle.xf_grammar.specs.Tokens.{open_brace, close_brace, close_paren, comma, minus}
 use Rattle.xf_format.specs.declared.expected.Expected.{Expected}
 use Rattle.xf_format.specs.declared.expected.Expected.TheVariants as due
 use Rattle.xf_format.specs.declared.row.Row.{Row}
@@ -98,6 +98,25 @@ abbrev pub number_if : Bool → ℕ → Option ℕ
 number_if true n = Some n
 number_if false n = None
 
+-- ---- windows and maps
+
+-- a stride
+abbrev pub begins_stride : Terminal → Bool
+begins_stride x = is_kind kind.Integer x || (is_kind minus x || is_kind kind.Value x)
+
+-- a result of an affine map that is no dimension (MLIR: affine expressions)
+abbrev pub begins_result : Terminal → Bool
+begins_result x = is_kind kind.Integer x || (is_kind minus x || is_kind open_paren x)
+
+abbrev pub affine_words : List (List ℕ)
+affine_words = codes "floordiv" ∷ codes "ceildiv" ∷ codes "mod" ∷ []
+
+-- what may follow a dimension in an affine expression
+abbrev pub goes_on_affine : Terminal → Bool
+goes_on_affine x = is_kind minus x || one_of affine_words (word_of x)
+
+-- ---- places of operations
+
 -- a string, or the name of a block
 abbrev pub unnamed_number : Terminal → Option ℕ
 unnamed_number x = if is_kind kind.Text x then Some 11 else (if is_kind kind.BlockName x then Some 7 else None)
@@ -117,7 +136,6 @@ abbrev pub listed_number : Expected → Terminal → Option ℕ
 listed_number due.File x = file_number x
 listed_number due.Function x = operation_number x
 listed_number due.Operation x = operation_number x
-listed_number due.OtherReader x = None
 listed_number due.Type x = type_number (word_of x)
 listed_number due.Shape x = shape_number (inside_marks (text_of x))
 listed_number due.Width x = type_number (word_of x)
@@ -127,6 +145,12 @@ listed_number due.ConstantValue x = value_number (begins_constant x) x
 listed_number due.FunctionName x = number_if (one_of (codes "public" ∷ codes "nested" ∷ []) (word_of x)) 19
 listed_number due.AfterArgument x = number_if (is_kind open_brace x) 13
 listed_number due.AfterResult x = number_if (is_kind open_brace x) 13
+listed_number due.DenseItem x = number_if (is_kind kind.Text x) 14
+listed_number due.Stride x = number_if (begins_stride x) 16
+listed_number due.AfterDimensions x = number_if (is_kind open_bracket x) 6
+listed_number due.MapResult x = number_if (begins_result x) 6
+listed_number due.DimensionTwice x = Some 6
+listed_number due.AfterMapResult x = number_if (goes_on_affine x) 6
 listed_number due.Outs x = number_if (is_kind kind.Arrow x || (is_kind open_brace x || is_word (codes "attrs") x)) 20
 listed_number due.OutsOperand x = number_if (is_kind close_paren x) 20
 listed_number due.AfterOut x = number_if (is_kind comma x) 20
@@ -135,10 +159,9 @@ listed_number due.ListEnd x = None
 listed_number due.NestLimit x = None
 listed_number due.Other x = None
 
--- what is a text, and not built yet: an alias, an operation that is not read yet
+-- what is a text, and not built yet: an alias
 abbrev pub is_not_built : Expected → Terminal → Bool
 is_not_built due.File x = is_kind kind.Hash x
-is_not_built due.OtherReader x = true
 is_not_built d x = false
 
 abbrev pub numbered : Option ℕ → Verdict

@@ -1,20 +1,30 @@
 //! The kinds of operations.
 ghost use Rattle.std.specs.Prelude.{◌≡◌, drop, IfOk};
 ghost use Rattle.std.specs.Option.{option_map};
+ghost use Rattle.xf_dense.specs.Actions as elements;
 ghost use Rattle.xf_format.specs.Parts.{text_at, literal_said, said};
-ghost use Rattle.xf_read_base.specs.Values.{integer_bits, bits_said, word_said, width_at, predicate_or, kind_said};
+ghost use Rattle.xf_read_base.specs.Numbers.{integer_bits};
+ghost use Rattle.xf_read_base.specs.Structured.{aliases_in};
+ghost use Rattle.xf_read_base.specs.Values.{bits_said, word_said, width_at, predicate_or, dense_said};
+ghost use Rattle.xf_read_base.specs.Values.{constant_said, kind_said};
 
+use crate::alias::Alias;
+use crate::elements::{numbers, shape_at};
 use crate::entries::{signed, truth_bits};
+use crate::structured::{maps, window};
 use crate::texts::text;
 use std::alloc::Global;
+use xf_dense::Body;
 use xf_format::{Literal, Parts, Row, behind_first, has_room};
 use xf_grammar::number;
 use xf_ir::Kind;
 use xf_lex::Token;
-use xf_type::{ByteList, CmpKind, Duplicate, NoMemory, PayloadType, TypeList, Width, wrap};
+use xf_type::{
+    ByteList, CmpKind, Duplicate, ListOf, NoMemory, PayloadType, Shape, TypeList, Width, wrap,
+};
 
 /// The number of a literal of a width.
-fn integer_bits(width: Width, negative: bool, number: u64) -> u128
+pub fn integer_bits(width: Width, negative: bool, number: u64) -> u128
     ensures { result ≡ integer_bits width negative number }
 {
     if has_room(width, negative, number) {
@@ -30,7 +40,7 @@ fn literal_bits(tokens: &[Token], width: Width, literal: Option<Literal>) -> u12
     ensures { result ≡ bits_said width (option_map (literal_said tokens.now) literal) }
 {
     match literal {
-        None => 0,
+        None | Some(Literal::Elements) => 0,
         Some(Literal::Truth(truth)) => u128::from(truth_bits(truth)),
         Some(Literal::Integer { negative, token }) => {
             integer_bits(width, negative, number(text(tokens, token)))
@@ -87,10 +97,43 @@ fn predicate_or(predicate: Option<CmpKind>) -> CmpKind
     }
 }
 
-/// The kind of an operation, with the attributes of its own; any of one that is not read yet. Refuses
-/// for want of memory alone.
-pub fn kind_of(alloc: Global, tokens: &[Token], parts: &Parts) -> Result<Kind, NoMemory>
-    ensures { IfOk result (λ kind. kind ≡ kind_said parts.now.row (said tokens.now parts.now)) }
+/// A constant that is a tensor of this shape. Refuses for want of memory alone.
+fn dense(alloc: Global, tokens: &[Token], shape: Shape, body: &Body) -> Result<Kind, NoMemory>
+    ensures { IfOk result (λ kind. kind ≡ dense_said shape (elements.said tokens.now body.now)) }
+{
+    let numbers = numbers(alloc, tokens, shape.elem, body)?;
+    Ok(Kind::Dense { shape, numbers })
+}
+
+/// A constant, which is a tensor where it has a body. Refuses for want of memory alone.
+fn constant(alloc: Global, tokens: &[Token], parts: &Parts) -> Result<Kind, NoMemory>
+    ensures { IfOk result (λ kind. kind ≡ constant_said parts.now.types (elements.said tokens.now parts.now.dense)
+        (option_map (literal_said tokens.now) parts.now.literal)) }
+{
+    match parts.literal {
+        Some(Literal::Elements) => {
+            let shape = shape_at(alloc, &parts.types, 0)?;
+            dense(alloc, tokens, shape, &parts.dense)
+        }
+        literal => {
+            let width = width_at(&parts.types, 0);
+            let bits = literal_bits(tokens, width, literal);
+            Ok(Kind::Constant { width, bits })
+        }
+    }
+}
+
+/// The kind of an operation, with the attributes of its own, by what the aliases of maps stand for; an
+/// alias that is not among them for the map without dimensions. It takes time in the length of the head
+/// and the number of its aliases among all. Refuses for want of memory alone.
+pub fn kind_of(
+    alloc: Global,
+    tokens: &[Token],
+    aliases: &[Alias],
+    parts: &Parts,
+) -> Result<Kind, NoMemory>
+    ensures { IfOk result (λ kind. kind
+        ≡ kind_said (aliases_in aliases.now) parts.now.row (said tokens.now parts.now)) }
 {
     let width = width_at(&parts.types, 0);
     Ok(match parts.row {
@@ -106,10 +149,7 @@ pub fn kind_of(alloc: Global, tokens: &[Token], parts: &Parts) -> Result<Kind, N
         Row::Call => Kind::Call {
             callee: symbol_or(alloc, tokens, parts.symbol)?,
         },
-        Row::Constant => Kind::Constant {
-            width,
-            bits: literal_bits(tokens, width, parts.literal),
-        },
+        Row::Constant => constant(alloc, tokens, parts)?,
         Row::Binary(kind) => Kind::Binary { kind, width },
         Row::Compare => Kind::Compare {
             kind: predicate_or(parts.predicate),
@@ -127,9 +167,21 @@ pub fn kind_of(alloc: Global, tokens: &[Token], parts: &Parts) -> Result<Kind, N
         Row::Dim => Kind::Dim,
         Row::Extract => Kind::Extract,
         Row::Insert => Kind::Insert,
+        Row::ExtractSlice => Kind::ExtractSlice {
+            offsets: window(alloc, tokens, parts.offsets.as_slice())?,
+            sizes: window(alloc, tokens, parts.sizes.as_slice())?,
+        },
+        Row::InsertSlice => Kind::InsertSlice {
+            offsets: window(alloc, tokens, parts.offsets.as_slice())?,
+            sizes: window(alloc, tokens, parts.sizes.as_slice())?,
+        },
         Row::Cast => Kind::Cast,
         Row::Named(kind) => Kind::Named { kind },
+        Row::Generic => Kind::Generic {
+            maps: maps(alloc, tokens, aliases, parts.maps.as_slice())?,
+            iterators: ListOf::from_slice(alloc, parts.iterators.as_slice())?,
+        },
         Row::LinalgYield => Kind::LinalgYield,
-        Row::Yield | Row::Other | Row::Generic => Kind::Yield,
+        Row::Yield => Kind::Yield,
     })
 }

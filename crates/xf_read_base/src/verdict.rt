@@ -6,6 +6,7 @@ ghost use Rattle.xf_read_base.specs.Verdicts.{has_dot, is_row, divisions, dotted
 ghost use Rattle.xf_read_base.specs.Verdicts.{word_number, attribute_words, begins_attribute, begins_constant};
 ghost use Rattle.xf_read_base.specs.Verdicts.{anywhere, number_if, unnamed_number, operation_number, file_number};
 ghost use Rattle.xf_read_base.specs.Verdicts.{value_number, listed_number, is_not_built, listed, verdict};
+ghost use Rattle.xf_read_base.specs.Verdicts.{begins_stride, begins_result, goes_on_affine};
 
 use crate::texts::text;
 use xf_format::{Expected, Row, row_of};
@@ -212,6 +213,35 @@ fn value_number(tokens: &[Token], at: usize, is_value: bool) -> Option<u32>
     type_number(word_at(tokens, at)).or(number_if(is_value, 14))
 }
 
+/// Whether a token begins a stride, which is another than 1.
+fn begins_stride(tokens: &[Token], at: usize) -> bool
+    ensures { result ≡ begins_stride (terminal_at tokens.now at) }
+{
+    looks(tokens, at, TokenKind::Integer)
+        || looks(tokens, at, TokenKind::Mark(b'-'))
+        || looks(tokens, at, TokenKind::Value)
+}
+
+/// Whether a token begins a result of an affine map, which is no dimension.
+fn begins_result(tokens: &[Token], at: usize) -> bool
+    ensures { result ≡ begins_result (terminal_at tokens.now at) }
+{
+    looks(tokens, at, TokenKind::Integer)
+        || looks(tokens, at, TokenKind::Mark(b'-'))
+        || looks(tokens, at, TokenKind::Mark(b'('))
+}
+
+/// Whether an affine expression goes on with a token behind a dimension.
+fn goes_on_affine(tokens: &[Token], at: usize) -> bool
+    ensures { result ≡ goes_on_affine (terminal_at tokens.now at) }
+{
+    let word = word_at(tokens, at);
+    looks(tokens, at, TokenKind::Mark(b'-'))
+        || word == b"floordiv".as_slice()
+        || word == b"ceildiv".as_slice()
+        || word == b"mod".as_slice()
+}
+
 /// The number of what is not supported in the place of what was due.
 fn listed_number(tokens: &[Token], at: usize, due: Expected) -> Option<u32>
     ensures { result ≡ listed_number due (terminal_at tokens.now at) }
@@ -232,6 +262,12 @@ fn listed_number(tokens: &[Token], at: usize, due: Expected) -> Option<u32>
         Expected::AfterArgument | Expected::AfterResult => {
             number_if(looks(tokens, at, TokenKind::Mark(b'{')), 13)
         }
+        Expected::DenseItem => number_if(looks(tokens, at, TokenKind::Text), 14),
+        Expected::Stride => number_if(begins_stride(tokens, at), 16),
+        Expected::AfterDimensions => number_if(looks(tokens, at, TokenKind::Mark(b'[')), 6),
+        Expected::MapResult => number_if(begins_result(tokens, at), 6),
+        Expected::DimensionTwice => Some(6),
+        Expected::AfterMapResult => number_if(goes_on_affine(tokens, at), 6),
         Expected::Outs => number_if(
             looks(tokens, at, TokenKind::Arrow)
                 || looks(tokens, at, TokenKind::Mark(b'{'))
@@ -244,7 +280,7 @@ fn listed_number(tokens: &[Token], at: usize, due: Expected) -> Option<u32>
             looks(tokens, at, TokenKind::Mark(b'}')) || is_function(word),
             19,
         ),
-        Expected::OtherReader | Expected::ListEnd | Expected::NestLimit | Expected::Other => None,
+        Expected::ListEnd | Expected::NestLimit | Expected::Other => None,
     }
 }
 
@@ -254,7 +290,6 @@ fn is_not_built(tokens: &[Token], at: usize, due: Expected) -> bool
 {
     match due {
         Expected::File => looks(tokens, at, TokenKind::Hash),
-        Expected::OtherReader => true,
         _ => false,
     }
 }

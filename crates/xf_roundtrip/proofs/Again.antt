@@ -1,13 +1,15 @@
 -- What the printed heads of operations say is right, and means these operations again, with names in preorder.
 use Rattle.std.proofs.Common.{◌≡◌, ℕ, suc, ◌+◌, ◌^◌, ◌<◌, Bool, true, false, cond, List, [], ◌∷◌, length, Option, None}
 use Rattle.std.proofs.Common.{inl, inr, refl, sym, ap, subst, ◌∙◌, arith}
-use Rattle.std.specs.Prelude.{◌&&◌, ◌==◌, map, not}
+use Rattle.std.specs.Prelude.{◌&&◌, map, not}
 use Rattle.std.proofs.lemmas.Bool.{cases_Bool, and_parts, eq-eqb}
-use Rattle.std.proofs.lemmas.List.{length-map}
 use Rattle.xf_type.specs.declared.payload_type.PayloadType.{PayloadType}
 use Rattle.xf_grammar.proofs.Basics.{and_is}
 use Rattle.xf_format.specs.Format.{ends_open}
-use Rattle.xf_format.specs.Parts.{UseSaid, Said}
+use Rattle.xf_format.specs.Parts.{UseSaid, Said, written_map}
+use Rattle.xf_type.specs.declared.attribute.AffineMap.{AffineMap}
+use Rattle.xf_ir.specs.Lists.{every}
+use Rattle.xf_printed.specs.Structured.{maps_of}
 use Rattle.xf_ir.specs.declared.kind.Attr.{Attr}
 use Rattle.xf_ir.specs.declared.kind.Kind.{Kind}
 use Rattle.xf_ir.specs.declared.kind.Kind.TheVariants as kind
@@ -20,7 +22,7 @@ use Rattle.xf_ir.specs.Placed.{Typed, type_at, Holder, holder_of, Placed, place}
 use Rattle.xf_ir.specs.Places.{done, inside, AllSeen}
 use Rattle.xf_ir.specs.Renamed.{ops_renamed, regions_renamed}
 use Rattle.xf_ir.specs.RuleBlocks.{block_ends, blocks_end}
-use Rattle.xf_ir.specs.Tree.{Tree, Ops, no_ops, op, Regions, no_regions, region, cons}
+use Rattle.xf_ir.specs.Tree.{Ops, no_ops, op, Regions, no_regions, region, cons}
 use Rattle.xf_ir.specs.Valid.{OpsInner, RegionsInner, OpsSee, RegionsSee}
 use Rattle.xf_ir.specs.Walk.{ops_names, regions_names}
 use Rattle.xf_ir.proofs.Found.{tree}
@@ -28,27 +30,27 @@ use Rattle.xf_ir_laws.proofs.Obeys.{OpsObey, RegionsObey}
 use Rattle.xf_ir_laws.proofs.SeenTypes.{seen_of}
 use Rattle.xf_read.specs.Meant.{joined, yield_tree, lacks_yield, ops_said, regions_said}
 use Rattle.xf_read.specs.Names.{op_name, with_arguments, with_defines, with_function, function_symbol}
-use Rattle.xf_read.specs.Names.{inside as inside_said, behind as behind_said, uses_fit, defines_fit, types_agree}
+use Rattle.xf_read.specs.Names.{inside as inside_said, behind as behind_said, uses_fit, defines_fit}
 use Rattle.xf_read.specs.Scopes.{Meanings, use_type}
 use Rattle.xf_read.specs.Types.{stated_type, fits, result_types, argument_types}
 use Rattle.xf_syntax.specs.Telling.{SaidNodes, no_nodes_said, node_said, SaidBodies, body_said, operations}
 use Rattle.xf_syntax.specs.Telling.{left_out, operations_inside, says_yield_last}
 use Rattle.xf_printed.specs.Names.{Names, first_args, next_number, number_of, first_of}
 use Rattle.xf_printed.specs.PrintedForm.{is_empty_yield}
-use Rattle.xf_print_laws.specs.Naming.{use_printed, defines_printed, arguments_printed}
+use Rattle.xf_print_laws.specs.Naming.{defines_printed, arguments_printed}
 use Rattle.xf_print_laws.specs.SaidPrinted.{row_of, results_printed, head_by, head_printed, ops_printed}
 use Rattle.xf_print_laws.specs.SaidPrinted.{regions_printed}
 use Rattle.xf_print_laws.proofs.Entries.{ops_number, regions_number, ops_argument, regions_argument, number_more}
 use Rattle.xf_print_laws.proofs.Entries.{ops_number_more, regions_number_more, ops_argument_more, regions_argument_more}
 use Rattle.xf_print_laws.proofs.Entries.{HasEntry, Entered, RegionsEntered}
 use Rattle.xf_print_laws.proofs.Numbers.{first_short}
-use Rattle.xf_roundtrip.specs.SaidWell.{symbol_new, head_well, nodes_well, bodies_well}
+use Rattle.xf_roundtrip.specs.SaidWell.{is_written, symbol_new, head_well, nodes_well, bodies_well}
 use Rattle.xf_roundtrip.proofs.Blocks.{ArgsSo, args_so}
 use Rattle.xf_roundtrip.proofs.Fits.{all_fit}
 use Rattle.xf_roundtrip.proofs.Names.{IsFirst, named_by, Clear, clear_more, results_in, arguments_in, ResultsIn}
-use Rattle.xf_roundtrip.proofs.Names.{ArgumentsIn, Knows, knows_results, knows_arguments, uses_again, UsesAgain}
+use Rattle.xf_roundtrip.proofs.Names.{Knows, knows_results, knows_arguments, uses_again}
 use Rattle.xf_roundtrip.proofs.Places.{Counts, counts_split, ops_names_count, regions_names_count}
-use Rattle.xf_roundtrip.proofs.Says.{symbol_named, Good, SaysIt, says_it}
+use Rattle.xf_roundtrip.proofs.Says.{symbol_named, Good, says_it}
 use Rattle.xf_roundtrip.proofs.Yields.{ends_empty, stands_there, yield_is, block_yields}
 
 abbrev one_if : Bool → ℕ
@@ -73,6 +75,11 @@ defines_fit_by k (t ∷ ts) us e = eq-eqb (length (t ∷ ts)) (length us) (ap le
 arguments_length : (a : ℕ) (ts : List PayloadType) → length (arguments_printed a ts) ≡ length ts
 arguments_length a [] = refl
 arguments_length a (t ∷ ts) = ap suc (arguments_length (suc a) ts)
+
+-- maps are printed where they stand
+all_written : (ms : List AffineMap) → every is_written (map written_map ms) ≡ true
+all_written [] = refl
+all_written (m ∷ ms) = all_written ms
 
 inner_symbol : (k : Kind) → is_container k ≡ false → symbol_named k ≡ None
 inner_symbol (kind.Func symbol private results) e = absurd cc
@@ -151,7 +158,8 @@ module _ (g : OpName → ℕ) where
         let lengths = eq-eqb (length t.args) (length (argument_types t))
         (arguments_length a first ∙ ap length (sym ys)) in
         let agree = and_is _ _ (and_is _ _ says.values.count fit) (and_is _ _ (defines_fit_by k ts (result_types t) x5) lengths) in
-        let well : head_well n t scope ≡ true = and_is _ _ us.mean (and_is _ _ (and_is _ _ says.once argued) agree) in
+        let named = and_is _ _ (all_written (maps_of kd)) us.mean in
+        let well : head_well n t scope ≡ true = and_is _ _ named (and_is _ _ (and_is _ _ says.once argued) agree) in
         let u : operations (node_said t bs ns) ≡ 1 + (operations_inside t bs + operations ns) = refl in
         let v : ops_count (op m kd ds os ts rs rest) ≡ 1 + regions_count rs + ops_count rest = refl in
         let end : n + operations (node_said t bs ns) ≡ (n + (1 + operations_inside t bs)) + operations ns =

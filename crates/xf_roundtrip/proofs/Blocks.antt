@@ -1,6 +1,5 @@
 -- What the rule of regions says of an operation's regions, by the facts of its kind.
 use Rattle.std.proofs.Common.{◌≡◌, inl, inr, ℕ, suc, true, List, [], ◌∷◌, Option, refl, sym, ◌∙◌}
-use Rattle.std.specs.Prelude.{◌&&◌}
 use Rattle.std.proofs.lemmas.Bool.{and_parts}
 use Rattle.xf_type.specs.declared.payload_type.PayloadType.{PayloadType}
 use Rattle.xf_grammar.proofs.Basics.{not_true}

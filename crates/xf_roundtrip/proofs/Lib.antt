@@ -1,6 +1,7 @@
 pub mod Again
 pub mod Blocks
 pub mod Dictionaries
+pub mod Elements
 pub mod Fits
 pub mod Laws
 pub mod Literals
@@ -14,5 +15,7 @@ pub mod Says
 pub mod Shaped
 pub mod Spelt
 pub mod Storing
+pub mod Structured
 pub mod ValidAgain
+pub mod Windows
 pub mod Yields

@@ -1,11 +1,10 @@
 -- A module that a text spells names each of its operations once: in preorder, from 0 on.
 use Rattle.std.proofs.Common.{◌≡◌, ℕ, ◌+◌, ◌<◌, ◌≤◌, Bool, true, false, cond, List, [], ◌∷◌, ◌++◌, refl, ap, subst}
 use Rattle.std.proofs.Common.{arith, append_assoc}
-use Rattle.std.specs.Prelude.{◌||◌}
 use Rattle.std.proofs.lemmas.Bool.{ne_eqb, or_from}
 use Rattle.xf_format.specs.Parts.{Said}
 use Rattle.xf_ir.specs.declared.name.OpName.{OpName}
-use Rattle.xf_ir.specs.Lists.{Each, Once, same_name, is_among}
+use Rattle.xf_ir.specs.Lists.{Each, Once, is_among}
 use Rattle.xf_ir.specs.Tree.{Ops, no_ops, op, cons}
 use Rattle.xf_ir.specs.Valid.{IsNamedOnce}
 use Rattle.xf_ir.specs.Walk.{ops_names, regions_names}

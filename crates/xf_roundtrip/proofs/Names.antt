@@ -1,7 +1,7 @@
 -- Printed names stand for the values that they were printed for.
 use Rattle.std.proofs.Common.{◌≡◌, ◌≢◌, ◌⊎◌, inl, inr, ℕ, zero, suc, ◌+◌, ◌^◌, ◌<◌, ◌≤◌, Bool, true, false, cond, List}
 use Rattle.std.proofs.Common.{[], ◌∷◌, length, Option, Some, None, refl, sym, ap, subst, ◌∙◌, arith, slice_get}
-use Rattle.std.specs.Prelude.{◌&&◌, ◌||◌, ◌==◌, is_some, nat_lt, option_and_then, map, not}
+use Rattle.std.specs.Prelude.{◌&&◌, ◌||◌, ◌==◌, is_some, nat_lt, map, not}
 use Rattle.std.specs.Fmt.{decimal}
 use Rattle.std.specs.Str.{bytes_eq}
 use Rattle.std.proofs.lemmas.Bool.{cases_Bool, and_parts, eqb-true, ltb-true, lt-ltb}
@@ -26,10 +26,10 @@ use Rattle.xf_read_base.specs.Spelt.{count_used}
 use Rattle.xf_read.specs.Scopes.{Meanings, with_name, has_value, has_use, value_in, type_in}
 use Rattle.xf_read.specs.Scopes.{use_means, use_value, use_type}
 use Rattle.xf_read.specs.Types.{one_type}
-use Rattle.xf_printed.specs.Names.{DefinedValues, Names, argument_text, next_number, type_of}
+use Rattle.xf_printed.specs.Names.{Names, argument_text, next_number, type_of}
 use Rattle.xf_print_laws.proofs.Entries.{HasEntry}
-use Rattle.xf_roundtrip.specs.SaidWell.{is_new, defines_new, arguments_new}
-use Rattle.xf_print_laws.specs.Naming.{number_name, part_said, result_use, argument_use, use_or, use_printed}
+use Rattle.xf_roundtrip.specs.SaidWell.{defines_new, arguments_new}
+use Rattle.xf_print_laws.specs.Naming.{number_name, part_said, use_printed}
 use Rattle.xf_print_laws.specs.Naming.{defines_printed, arguments_printed}
 
 -- ---- names that differ

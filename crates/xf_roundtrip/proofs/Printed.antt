@@ -1,5 +1,5 @@
 -- What the printed form of a valid module says is right, and means the module again, with names in preorder.
-use Rattle.std.proofs.Common.{◌≡◌, ℕ, ◌+◌, ◌^◌, ◌<◌, true, false, List, [], ◌∷◌, ◌++◌, length, Some, None, refl, sym}
+use Rattle.std.proofs.Common.{◌≡◌, ℕ, ◌+◌, ◌^◌, ◌<◌, true, false, List, [], ◌∷◌, length, None, refl, sym}
 use Rattle.std.proofs.Common.{ap, subst}
 use Rattle.std.proofs.Common.{◌∙◌, arith, append-nil}
 use Rattle.std.specs.Prelude.{map}
@@ -7,7 +7,6 @@ use Rattle.std.proofs.lemmas.Bool.{and_parts, or_parts, eq-eqb}
 use Rattle.xf_type.specs.declared.payload_type.PayloadType.{PayloadType}
 use Rattle.xf_type.specs.Equal.{same_types}
 use Rattle.xf_type.proofs.EqualTypes.{types_are}
-use Rattle.xf_format.specs.Parts.{Said}
 use Rattle.xf_ir.specs.declared.kind.Attr.{Attr}
 use Rattle.xf_ir.specs.declared.kind.Kind.{Kind}
 use Rattle.xf_ir.specs.declared.kind.Kind.TheVariants as kind
@@ -17,11 +16,12 @@ use Rattle.xf_ir.specs.declared.op.Module.{Module}
 use Rattle.xf_ir.specs.Calls.{Signatures, signatures, has_its_callee}
 use Rattle.xf_ir.specs.Count.{regions_count}
 use Rattle.xf_ir.specs.Kinds.{is_module}
-use Rattle.xf_ir.specs.Lists.{Each, Once, TextsOnce, same_bytes, is_among, is_text_among}
+use Rattle.xf_ir.specs.Lists.{Each, Once, TextsOnce, same_bytes, is_text_among}
 use Rattle.xf_ir.specs.Placed.{type_at, block_of, Holder, Placed, placed, top, root_holder}
 use Rattle.xf_ir.specs.Renamed.{IsRenamed}
 use Rattle.xf_ir.specs.RuleAttributes.{has_its_attributes}
 use Rattle.xf_ir.specs.RuleBlocks.{has_its_regions, ends_its_blocks}
+use Rattle.xf_ir.specs.RuleLinalg.{has_its_maps}
 use Rattle.xf_ir.specs.RuleTypes.{has_its_types}
 use Rattle.xf_ir.specs.Tree.{Tree, Ops, no_ops, op, Regions, no_regions, region}
 use Rattle.xf_ir.specs.Types.{have_types}
@@ -38,17 +38,16 @@ use Rattle.xf_read.specs.Scopes.{Meanings, no_names, with_name}
 use Rattle.xf_syntax.specs.Telling.{no_nodes_said, SaidBodies, no_bodies_said, body_said}
 use Rattle.xf_printed.specs.Names.{Names, first_args, next_number, with_ops}
 use Rattle.xf_printed.specs.Names.{no_names as no_numbers}
-use Rattle.xf_print_laws.specs.Core.{is_core}
 use Rattle.xf_print_laws.specs.Naming.{FunctionsNumber}
-use Rattle.xf_print_laws.specs.SaidPrinted.{head_by, regions_printed, functions_printed, printed_said}
-use Rattle.xf_print_laws.specs.Stored.{AllBytes}
+use Rattle.xf_print_laws.specs.SaidPrinted.{head_by, functions_printed, printed_said}
+use Rattle.xf_print_laws.specs.Stored.{AllBytes, HasShortProperties}
 use Rattle.xf_print_laws.proofs.Entries.{number_after, argument_after, ops_entered, regions_number, regions_argument}
 use Rattle.xf_roundtrip.specs.Laws.{PrintedSaysTheModule}
 use Rattle.xf_roundtrip.specs.Printable.{IsPrintable}
 use Rattle.xf_roundtrip.specs.SaidWell.{said_well}
-use Rattle.xf_roundtrip.proofs.Again.{NodesAgain, BodiesAgain, body_again, node_again, op_again, regions_again}
+use Rattle.xf_roundtrip.proofs.Again.{NodesAgain, body_again, node_again, op_again, regions_again}
 use Rattle.xf_roundtrip.proofs.Dictionaries.{each_all}
-use Rattle.xf_roundtrip.proofs.Names.{named_by, Clear, Knows, knows_nothing, with_other}
+use Rattle.xf_roundtrip.proofs.Names.{named_by, Clear, knows_nothing, with_other}
 use Rattle.xf_roundtrip.proofs.Places.{index_of, same_place, Counts, all_counted}
 use Rattle.xf_roundtrip.proofs.Says.{Good}
 
@@ -117,21 +116,22 @@ module _ (g : OpName → ℕ) (sigs : Signatures) where
 all_good : (sigs : Signatures) (ps : List Placed) → Each (λ p. has_its_regions p ≡ true) ps
     → Each (λ p. ends_its_blocks p ≡ true) ps → Each (λ p. has_its_types sigs p ≡ true) ps
     → Each (λ p. has_its_callee sigs p ≡ true) ps → Each (λ p. has_its_attributes p ≡ true) ps
-    → Each (λ (p : Placed). is_core p.tree.kind ≡ true) ps → Each AllBytes ps → Each IsShortThere ps
-    → Each (Good sigs) ps
-all_good sigs [] a b c d e f g h = tt
-all_good sigs (p ∷ ps) a b c d e f g h = (
+    → Each (λ p. has_its_maps p ≡ true) ps → Each (λ (p : Placed). HasShortProperties p.tree) ps → Each AllBytes ps
+    → Each IsShortThere ps → Each (Good sigs) ps
+all_good sigs [] a b c d e f i g h = tt
+all_good sigs (p ∷ ps) a b c d e f i g h = (
   record {
     regions = a.0;
     blocks = b.0;
     types = c.0;
     callee = d.0;
     attributes = e.0;
-    core = f.0;
+    maps = f.0;
+    properties = i.0;
     bytes = g.0;
     short = h.0;
   },
-  all_good sigs ps a.1 b.1 c.1 d.1 e.1 f.1 g.1 h.1,
+  all_good sigs ps a.1 b.1 c.1 d.1 e.1 f.1 i.1 g.1 h.1,
 )
 
 abbrev first_tree : Ops → Tree
@@ -153,7 +153,7 @@ module _ (name : OpName) (ds : List Attr) (os : List ValueName) (ts : List Paylo
       let v = x.valid in
       let sigs : Signatures = signatures m in
       let g : OpName → ℕ = λ o. index_of o (tree_names m.root) in
-      let good = all_good sigs (placed m) v.regions v.blocks v.types v.callees v.attributes x.rows x.bytes
+      let good = all_good sigs (placed m) v.regions v.blocks v.types v.callees v.attributes v.maps x.properties x.bytes
       (short_placed m x.lists) in
       let c = all_counted (tree_names m.root) v.names.once in
       let nil = append-nil (ops_names fs) in

@@ -1,31 +1,34 @@
 -- No check of names or types finds a fault exactly where what the tokens say is right.
 use Rattle.std.proofs.Common.{◌≡◌, ℕ, ◌+◌, Bool, true, false, ◌&&◌, not, cond, List, [], ◌∷◌, Option, Some, None, refl}
-use Rattle.std.proofs.Common.{ap, ◌∙◌, arith, slice_get}
-use Rattle.std.specs.Prelude.{map, is_some, option_map}
+use Rattle.std.proofs.Common.{◌∙◌, arith}
+use Rattle.std.specs.Prelude.{map, option_map}
+use Rattle.std.specs.Option.{option_or}
 use Rattle.std.proofs.Math.Bool.{and-true}
 use Rattle.xf_type.specs.declared.payload_type.PayloadType.{PayloadType}
 use Rattle.xf_lex.specs.declared.token.Token.{Token}
 use Rattle.xf_format.specs.declared.parts.AttrEntry.{AttrEntry}
+use Rattle.xf_format.specs.declared.parts.MapEntry.{MapEntry}
+use Rattle.xf_format.specs.declared.parts.MapEntry.TheVariants as map_entry
 use Rattle.xf_format.specs.declared.parts.Parts.{Parts}
 use Rattle.xf_format.specs.declared.parts.Ref.{Ref}
 use Rattle.xf_format.specs.declared.parts.Use.{Use}
 use Rattle.xf_format.specs.declared.row.Row.{Row}
 use Rattle.xf_format.specs.declared.row.Row.TheVariants as row
-use Rattle.xf_format.specs.Parts.{text_at, use_said, define_said, arg_said, entry_said, Said, said}
+use Rattle.xf_format.specs.Parts.{text_at, use_said, define_said, arg_said, entry_said, map_said, said}
 use Rattle.xf_ir.specs.Lists.{every}
 use Rattle.xf_syntax.specs.declared.tree.File.{File}
 use Rattle.xf_syntax.specs.Telling.{Nodes, no_nodes, node, Bodies, no_bodies, body, nodes_said, bodies_said}
-use Rattle.xf_syntax.specs.Telling.{operations, left_out, operations_inside}
 use Rattle.xf_syntax.specs.Written.{file_said}
 use Rattle.xf_read_base.specs.Attributes.{also, entries_twice}
 use Rattle.xf_read.specs.declared.faults.Faults.{Faults}
 use Rattle.xf_read.specs.Meant.{file_faults}
-use Rattle.xf_read.specs.Names.{earlier, no_faults, with_faults, argument_named, function_symbol, undefined_in}
-use Rattle.xf_read.specs.Names.{visible_at, symbol_twice, results_twice, args_twice, names_twice, twice, types_agree}
+use Rattle.xf_read.specs.Names.{earlier, no_faults, with_faults, function_symbol, alias_in}
+use Rattle.xf_read.specs.Names.{undefined_in}
+use Rattle.xf_read.specs.Names.{visible_at, symbol_twice, results_twice, args_twice, types_agree}
 use Rattle.xf_read.specs.Names.{head_faults, nodes_faults, bodies_faults, inside, behind}
-use Rattle.xf_read.specs.Scopes.{Meanings, has_values, no_names, with_name, use_means}
+use Rattle.xf_read.specs.Scopes.{Meanings, has_values, no_names, use_means}
 use Rattle.xf_read.specs.Types.{argument_types}
-use Rattle.xf_roundtrip.specs.SaidWell.{entries_once, is_new, symbol_new, defines_new, arguments_new, names_once}
+use Rattle.xf_roundtrip.specs.SaidWell.{is_written, entries_once, is_new, symbol_new, defines_new, arguments_new}
 use Rattle.xf_roundtrip.specs.SaidWell.{head_well, nodes_well, bodies_well, said_well}
 
 -- ---- no fault
@@ -58,6 +61,14 @@ free_both a b e f = each a b ∙ (λ i. e i && f i)
     each None b = refl
     each (Some i) None = refl
     each (Some i) (Some j) = refl
+
+free_or : (a b : Option ℕ) {x y : Bool} → free a ≡ x → free b ≡ y → free (option_or a b) ≡ (x && y)
+unfolding free
+free_or a b e f = each a b ∙ (λ i. e i && f i)
+  where
+    each : (a b : Option ℕ) → free (option_or a b) ≡ (free a && free b)
+    each None b = refl
+    each (Some i) b = refl
 
 faultless_both : (f g : Faults) {x y : Bool} → faultless f ≡ x → faultless g ≡ y
     → faultless (with_faults f g) ≡ (x && y)
@@ -92,6 +103,12 @@ module _ (all : List Token) where
   unfolding free
   uses_free scope [] = refl
   uses_free scope (u ∷ us) = if_free _ _ _ (uses_free scope us)
+
+  maps_free : (ms : List MapEntry) → free (alias_in ms) ≡ every is_written (map (map_said all) ms)
+  unfolding free
+  maps_free [] = refl
+  maps_free (map_entry.Written m ∷ ms) = maps_free ms
+  maps_free (map_entry.Alias at ∷ ms) = refl
 
   visible_free : (scope : Meanings) (at : ℕ) → free (visible_at all scope at) ≡ is_new scope (text_at all at)
   unfolding free
@@ -134,7 +151,7 @@ module _ (all : List Token) where
   head_faultless n first p scope =
       let names = free_both _ _ (symbol_free scope p.row p.symbol) (results_free scope p.defines) in
       let args = free_both _ _ names (args_free n 0 (argument_types (said all p)) p.args scope) in
-      let a = uses_free scope p.uses in
+      let a = free_or _ _ (maps_free p.maps) (uses_free scope p.uses) in
       let b = free_both _ _ (entries_free (λ name. false) p.entries) args in
       let c = if_free (types_agree (said all p) scope) None first refl ∙ and-true _ in
       λ i. a i && (b i && c i)

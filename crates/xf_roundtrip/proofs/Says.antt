@@ -1,7 +1,7 @@
 -- The printed head of an operation that keeps the rules says what the operation is.
 use Rattle.std.proofs.Common.{◌≡◌, ℕ, Bool, true, false, List, [], ◌∷◌, length, drop, Option, Some, None, refl, sym, ap}
-use Rattle.std.proofs.Common.{◌+◌, ◌∙◌, arith, slice_get}
-use Rattle.std.specs.Prelude.{map, option_map}
+use Rattle.std.proofs.Common.{◌+◌, ◌++◌, ◌∙◌, arith, slice_get}
+use Rattle.std.specs.Prelude.{map, option_map, not, ◌||◌, nat_le}
 use Rattle.std.proofs.lemmas.Bool.{and_parts, eq-eqb}
 use Rattle.std.proofs.lemmas.List.{length-map}
 use Rattle.xf_type.specs.declared.payload_type.PayloadType.{PayloadType}
@@ -19,19 +19,26 @@ use Rattle.xf_ir.specs.declared.kind.Kind.TheVariants as kind
 use Rattle.xf_ir.specs.Calls.{Signature, Signatures, callee_agrees, agrees, has_its_callee}
 use Rattle.xf_ir.specs.Bounds.{HasShortLists}
 use Rattle.xf_ir.specs.Placed.{Placed}
-use Rattle.xf_ir.specs.RuleAttributes.{kind_fits, attributes_fit, has_its_attributes}
+use Rattle.xf_ir.specs.Lists.{Each, every}
+use Rattle.xf_ir.specs.RuleAttributes.{kind_fits, attributes_fit, has_its_attributes, fits_bits, numbers_of}
+use Rattle.xf_ir.specs.RuleAttributes.{element_count}
+use Rattle.xf_ir.specs.RuleLinalg.{is_structured, maps_of, iterators_of, maps_fit, have_ranks, is_projection}
+use Rattle.xf_ir.specs.RuleLinalg.{has_its_maps}
 use Rattle.xf_ir.specs.RuleBlocks.{block_args, blocks_fit, has_its_regions, ends_its_blocks}
 use Rattle.xf_ir.specs.RuleTypes.{takes_gives, are_inputs, has_its_types}
 use Rattle.xf_ir.specs.RuleTypes.{row_of as type_row}
-use Rattle.xf_ir.specs.Types.{have_types}
+use Rattle.xf_ir.specs.Types.{have_types, is_dynamic}
+use Rattle.xf_type.specs.declared.attribute.AffineMap.{AffineMap}
+use Rattle.xf_ir.specs.declared.kind.IteratorKind.{IteratorKind}
 use Rattle.xf_read.specs.Types.{is_counted, result_types, argument_types}
 use Rattle.xf_read.specs.Names.{function_symbol}
+use Rattle.xf_read_base.specs.Structured.{no_aliases, window_meant}
 use Rattle.xf_read_base.specs.Values.{attrs_said, kind_said}
 use Rattle.xf_printed.specs.Names.{Names, first_args, type_of}
-use Rattle.xf_print_laws.specs.Core.{is_core}
-use Rattle.xf_print_laws.specs.SaidPrinted.{row_of, symbol_said, head_by, known_types, known_at}
+use Rattle.xf_print_laws.specs.SaidPrinted.{row_of, symbol_said, head_by, known_types, known_at, index_printed}
 use Rattle.xf_print_laws.specs.Naming.{use_printed}
-use Rattle.xf_print_laws.specs.Stored.{AllBytes}
+use Rattle.xf_print_laws.specs.Stored.{AllBytes, IsShortIndex, HasShortProperties}
+use Rattle.xf_printed.specs.Structured.{offsets_of, sizes_of}
 use Rattle.xf_roundtrip.specs.SaidWell.{entries_once}
 use Rattle.xf_roundtrip.proofs.Blocks.{no_args, args_of}
 use Rattle.xf_roundtrip.proofs.Dictionaries.{attrs_again, entries_differ}
@@ -39,6 +46,9 @@ use Rattle.xf_roundtrip.proofs.Fits.{all_fit, have_is, known_are, fit_all, loop_
 use Rattle.xf_roundtrip.proofs.Literals.{literal_again}
 use Rattle.xf_roundtrip.proofs.Shaped.{Fit, all_listed, empty_fits, dim_fits, extract_fits, insert_fits, cast_fits}
 use Rattle.xf_roundtrip.proofs.Shaped.{named_fits}
+use Rattle.xf_roundtrip.proofs.Structured.{extract_slice_fits, insert_slice_fits, generic_fits, ranks_known}
+use Rattle.xf_roundtrip.proofs.Structured.{arguments_behind}
+use Rattle.xf_roundtrip.proofs.Windows.{window_again, maps_again, numbers_again}
 
 -- the symbol of a function
 abbrev pub symbol_named : Kind → Option (List ℕ)
@@ -75,12 +85,16 @@ each_stated t us f c l n = record {
 -- a head says what its operation is, and has operands of these types
 pub record SaysIt (t : Said) (k : Kind) (ds : List Attr) (types : List (Option PayloadType))
     (ts args : List PayloadType) : Type 0 where
-  pub kind_is : kind_said t.row t ≡ k
+  pub kind_is : kind_said no_aliases t.row t ≡ k
   pub attrs : attrs_said t.entries ≡ ds
   pub values : Fit t types ts
   pub arguments : argument_types t ≡ args
   pub once : entries_once (λ name. false) t.entries ≡ true
   pub symbol : function_symbol t.row t.symbol ≡ symbol_named k
+
+-- the rule of maps
+abbrev maps_rule : Kind → List (Option PayloadType) → Bool
+maps_rule k types = not (is_structured k) || maps_fit (maps_of k types) (length (iterators_of k types)) types
 
 -- what is known of an operation where it stands
 pub record Good (sigs : Signatures) (p : Placed) : Type 0 where
@@ -89,7 +103,8 @@ pub record Good (sigs : Signatures) (p : Placed) : Type 0 where
   pub types : has_its_types sigs p ≡ true
   pub callee : has_its_callee sigs p ≡ true
   pub attributes : has_its_attributes p ≡ true
-  pub core : is_core p.tree.kind ≡ true
+  pub maps : has_its_maps p ≡ true
+  pub properties : HasShortProperties p.tree
   pub bytes : AllBytes p
   pub short : HasShortLists p.tree
 
@@ -114,18 +129,47 @@ module _ (sigs : Signatures) (p : Placed) where
     abbrev head : Kind → Said
     head k = head_by names i a k ds os ts (first_args rs)
 
-    kind_again : (k : Kind) → is_core k ≡ true → kind_fits k ≡ true → kind_said (row_of k) (head k) ≡ k
-    kind_again (kind.Module symbol) c f = ap kind.Module (module_symbol symbol)
-    kind_again (kind.Constant width bits) c f = ap (kind.Constant width) (literal_again width bits f)
-    kind_again k c f = cc
+    kind_again : (k : Kind) → Each IsShortIndex (offsets_of k) → Each IsShortIndex (sizes_of k) → kind_fits k ≡ true
+        → kind_said no_aliases (row_of k) (head k) ≡ k
+    kind_again (kind.Module symbol) o z f = ap kind.Module (module_symbol symbol)
+    kind_again (kind.Constant I1 bits) o z f = ap (kind.Constant I1) (literal_again I1 bits f)
+    kind_again (kind.Constant width bits) o z f = ap (kind.Constant width) (literal_again width bits f)
+    kind_again (kind.Dense shape numbers) o z f =
+        let d = every (λ e. not (is_dynamic e)) shape.dims in
+        let n = numbers_of (element_count shape.dims) numbers in
+        let p = and_parts (nat_le (element_count shape.dims) 1048576) _ (and_parts d _ f).1 in
+        let q = and_parts n (every (fits_bits shape.elem) numbers) p.1 in
+        ap (kind.Dense shape) (numbers_again shape (element_count shape.dims) numbers q.0 q.1)
+    kind_again (kind.ExtractSlice offsets sizes) o z f =
+        ap (λ is. kind.ExtractSlice is (window_meant (map index_printed sizes))) (window_again offsets o)
+        ∙ ap (kind.ExtractSlice offsets) (window_again sizes z)
+    kind_again (kind.InsertSlice offsets sizes) o z f =
+        ap (λ is. kind.InsertSlice is (window_meant (map index_printed sizes))) (window_again offsets o)
+        ∙ ap (kind.InsertSlice offsets) (window_again sizes z)
+    kind_again (kind.Generic maps iterators) o z f = ap (λ ms. kind.Generic ms iterators) (maps_again no_aliases maps)
+    kind_again k o z f = cc
 
-    arguments_again : (k : Kind) → is_core k ≡ true → blocks_fit k types ts (block_args rs) ≡ true
-        → argument_types (head k) ≡ first_args rs
-    arguments_again (kind.Func symbol private results) c e = refl
-    arguments_again (kind.For width) c e =
+    -- as many names as operands
+    as_many : map (type_of names) os ≡ types → length (map (use_printed names) os) ≡ length types
+    as_many e = length-map os (use_printed names) ∙ (sym (length-map os (type_of names)) ∙ ap length e)
+
+    -- the types of the operands of a generic are known
+    generic_known : (maps : List AffineMap) (iterators : List IteratorKind)
+        → maps_rule (kind.Generic maps iterators) types ≡ true → types ≡ map Some (known_types types)
+    generic_known maps iterators m =
+        ranks_known maps types (and_parts (have_ranks maps types) _
+        (and_parts (every (is_projection (length iterators)) maps) _ m).1).0
+
+    arguments_again : (k : Kind) → maps_rule k types ≡ true → map (type_of names) os ≡ types
+        → blocks_fit k types ts (block_args rs) ≡ true → argument_types (head k) ≡ first_args rs
+    arguments_again (kind.Func symbol private results) m t e = refl
+    arguments_again (kind.For width) m t e =
         sym (types_are (first_args rs) (Scalar width ∷ ts) (args_of (kind.For width) types ts rs refl e))
-    arguments_again (kind.Generic maps iterators) c e = absurd cc
-    arguments_again k c e = sym (no_args k types ts rs (λ args. refl) e)
+    arguments_again (kind.Generic maps iterators) m t e =
+        ap (λ us. drop (length (map (use_printed names) os)) (known_types us ++ first_args rs)) t
+        ∙ arguments_behind (head (kind.Generic maps iterators)) types (first_args rs)
+        (length (map (use_printed names) os)) (as_many t) (generic_known maps iterators m)
+    arguments_again k m t e = sym (no_args k types ts rs (λ args. refl) e)
 
     -- where the operands have the types that are wanted
     as_wanted : (k : Kind) (us : List PayloadType) → map (type_of names) os ≡ types → TypesAgree us (result_types (head k))
@@ -144,8 +188,8 @@ module _ (sigs : Signatures) (p : Placed) where
         → (head k).types ≡ known_types (map (type_of names) os) → Fit (head k) types ts
     listed k us e g f c t = as_wanted k us e g (λ p n. each_stated (head k) us f c (t ∙ p) n)
 
-    fit_again : (k : Kind) → is_core k ≡ true → type_row sigs gives k types ts ≡ true → callee_agrees sigs k ts ≡ true
-        → map (type_of names) os ≡ types → Fit (head k) types ts
+    fit_again : (k : Kind) → maps_rule k types ≡ true → type_row sigs gives k types ts ≡ true
+        → callee_agrees sigs k ts ≡ true → map (type_of names) os ≡ types → Fit (head k) types ts
     fit_again (kind.Module symbol) c r s e =
         as_wanted (kind.Module symbol) [] e (gives_it [] _ r) (λ p n. record { count = refl; fit = refl })
     fit_again (kind.Func symbol private results) c r s e =
@@ -189,9 +233,25 @@ module _ (sigs : Signatures) (p : Placed) where
     fit_again kind.Insert c r s e = insert_fits (head kind.Insert) types ts refl (ap (λ us. known_at us 1) e) r
     fit_again kind.Cast c r s e = cast_fits (head kind.Cast) types ts refl (ap (λ us. known_at us 0) e) refl r
     fit_again (kind.Named which) c r s e =
-        named_fits (head (kind.Named which)) which types ts refl (ap known_types e) refl
-        (length-map os (use_printed names) ∙ (sym (length-map os (type_of names)) ∙ ap length e)) r
-    fit_again k c r s e = absurd cc
+        named_fits (head (kind.Named which)) which types ts refl (ap known_types e) refl (as_many e) r
+    fit_again (kind.Dense shape numbers) c r s e =
+        as_wanted (kind.Dense shape numbers) [] e (gives_it [] _ r) (λ p n. record { count = refl; fit = refl })
+    fit_again (kind.ExtractSlice offsets sizes) c r s e =
+        extract_slice_fits (head (kind.ExtractSlice offsets sizes)) offsets sizes types ts refl
+        (ap (λ us. known_at us 0) e) refl r
+    fit_again (kind.InsertSlice offsets sizes) c r s e =
+        insert_slice_fits (head (kind.InsertSlice offsets sizes)) offsets sizes types ts refl
+        (ap (λ us. known_at us 0 ++ known_at us 1) e) r
+    fit_again (kind.Generic maps iterators) c r s e =
+        generic_fits (head (kind.Generic maps iterators)) types (first_args rs) ts refl
+        (ap (λ us. known_types us ++ first_args rs) e) refl (as_many e) (generic_known maps iterators c)
+    fit_again kind.LinalgYield c r s e =
+        as_wanted kind.LinalgYield gives e (gives_it gives _ r)
+        (λ p n. record {
+          count = refl;
+          fit = fit_all (head kind.LinalgYield) gives
+              (λ i. all_listed (head kind.LinalgYield).types [] i ∙ ap (λ us. slice_get us i) p);
+        })
 
     pub says_it : Good sigs p → map (type_of names) os ≡ types
         → SaysIt (head p.tree.kind) p.tree.kind ds types ts (first_args rs)
@@ -199,10 +259,10 @@ module _ (sigs : Signatures) (p : Placed) where
         let k : Kind = p.tree.kind in
         let f = and_parts (kind_fits k) (attributes_fit ds) w.attributes in
         record {
-          kind_is = kind_again k w.core f.0;
+          kind_is = kind_again k w.properties.offsets w.properties.sizes f.0;
           attrs = attrs_again ds f.1 w.bytes;
-          values = fit_again k w.core w.types w.callee e;
-          arguments = arguments_again k w.core w.regions;
+          values = fit_again k w.maps w.types w.callee e;
+          arguments = arguments_again k w.maps e w.regions;
           once = entries_differ ds f.1;
           symbol = symbol_is k;
         }

@@ -1,6 +1,6 @@
 -- What heads of tensor rows and of named linalg operations state fits the types of their operands and results.
-use Rattle.std.proofs.Common.{◌≡◌, ℕ, suc, ◌+◌, ◌-◌, ◌<◌, Bool, true, false, List, [], ◌∷◌, length, Option, Some, None, refl}
-use Rattle.std.proofs.Common.{sym, ap, subst, ◌∙◌, arith, slice_get}
+use Rattle.std.proofs.Common.{◌≡◌, ℕ, suc, ◌+◌, ◌-◌, Bool, true, false, List, [], ◌∷◌, length, Option, Some, None, refl}
+use Rattle.std.proofs.Common.{sym, ap, ◌∙◌, arith, slice_get}
 use Rattle.std.specs.Prelude.{map, nat_lt, ◌==◌, ◌&&◌, if◌then◌else◌}
 use Rattle.std.proofs.lemmas.Bool.{and_parts, eq-eqb}
 use Rattle.std.proofs.lemmas.Bool.Decides.{nat_tests}
@@ -19,12 +19,12 @@ use Rattle.xf_format.specs.declared.columns.OperandTypes.TheVariants.{Listed}
 use Rattle.xf_format.specs.Parts.{Said}
 use Rattle.xf_ir.specs.declared.kind.NamedKind.{NamedKind}
 use Rattle.xf_ir.specs.Lists.{every}
-use Rattle.xf_ir.specs.RuleTypes.{empty_row, dim_row, extract_row, insert_row, cast_row, named_row, has_element}
+use Rattle.xf_ir.specs.RuleTypes.{dim_row, extract_row, insert_row, cast_row, named_row, has_element}
 use Rattle.xf_ir.specs.RuleTypes.{out_row, fill_fits, operand_count}
 use Rattle.xf_ir.specs.Types.{have_types, are_indices, last_type, is_tensor_with}
-use Rattle.xf_read.specs.Types.{result_types, is_counted, stated_type, fits}
+use Rattle.xf_read.specs.Types.{result_types, is_counted, stated_type}
 use Rattle.xf_print_laws.specs.SaidPrinted.{known_types, known_at}
-use Rattle.xf_roundtrip.proofs.Fits.{all_fit, have_is, known_are, fit_all}
+use Rattle.xf_roundtrip.proofs.Fits.{all_fit, fit_all}
 
 -- a head whose operands have these types
 pub record Fit (t : Said) (types : List (Option PayloadType)) (ts : List PayloadType) : Type 0 where
@@ -41,7 +41,7 @@ if_same false x = refl
 none_listed : (k i : ℕ) (given : List PayloadType) → columns.operand_type (Listed k) [] given i ≡ None
 none_listed k i given = if_same (nat_lt i k) None
 
-none_behind : (k j : ℕ) (u : PayloadType) (given : List PayloadType)
+pub none_behind : (k j : ℕ) (u : PayloadType) (given : List PayloadType)
     → columns.operand_type (Listed k) (u ∷ []) given (k + suc j) ≡ None
 none_behind k j u given =
     let a : nat_lt (k + suc j) k ≡ false = grind (arith, nat_tests) in
@@ -83,27 +83,27 @@ types_known k types ts p =
 
 module _ (t : Said) where
   -- where no type is stated from an operand on, all those behind it fit
-  rest_fit : (i : ℕ) (os : List (Option PayloadType)) → ((j : ℕ) → stated_type t (i + j) ≡ None) → all_fit t i os ≡ true
+  pub rest_fit : (i : ℕ) (os : List (Option PayloadType)) → ((j : ℕ) → stated_type t (i + j) ≡ None) → all_fit t i os ≡ true
   rest_fit i [] f = refl
   rest_fit i (o ∷ os) f =
       let here : stated_type t i ≡ None = ap (stated_type t) (omega arith) ∙ f 0 in
       rw here (rest_fit (i + 1) os (λ j. ap (stated_type t) (omega arith) ∙ f (suc j)))
 
   module _ (r : Row) (us : List PayloadType) (is : t.row ≡ r) (of : t.types ≡ us) where
-    results_by : result_types t ≡ columns.types_given (columns.result_types r) us t.results
+    pub results_by : result_types t ≡ columns.types_given (columns.result_types r) us t.results
     results_by = ap (λ x. columns.types_given (columns.result_types x) t.types t.results) is
         ∙ ap (λ y. columns.types_given (columns.result_types r) y t.results) of
 
-    stated_by : (i : ℕ) → stated_type t i ≡ columns.operand_type (columns.operand_types r) us t.results i
+    pub stated_by : (i : ℕ) → stated_type t i ≡ columns.operand_type (columns.operand_types r) us t.results i
     stated_by i = ap (λ x. columns.operand_type (columns.operand_types x) t.types t.results i) is
         ∙ ap (λ y. columns.operand_type (columns.operand_types r) y t.results i) of
 
-    count_by : is_counted t ≡ columns.is_counted (columns.operand_count r) us t.results (length t.uses)
+    pub count_by : is_counted t ≡ columns.is_counted (columns.operand_count r) us t.results (length t.uses)
     count_by = ap (λ x. columns.is_counted (columns.operand_count x) t.types t.results (length t.uses)) is
         ∙ ap (λ y. columns.is_counted (columns.operand_count r) y t.results (length t.uses)) of
 
   -- an operand whose type alone is stated, behind k others
-  first_fits : (u : PayloadType) (os : List (Option PayloadType)) → stated_type t 0 ≡ Some u
+  pub first_fits : (u : PayloadType) (os : List (Option PayloadType)) → stated_type t 0 ≡ Some u
       → ((j : ℕ) → stated_type t (1 + j) ≡ None) → all_fit t 0 (Some u ∷ os) ≡ true
   first_fits u os e f = let same = type_itself u in rw (e, same) (rest_fit 1 os f)
 

@@ -10,8 +10,8 @@ use Rattle.xf_roundtrip.proofs.PrintedLayout.{printed_has_layout}
 use Rattle.xf_roundtrip.proofs.Storing.{printable}
 
 pub printed_is_spelt : PrintedIsSpelt
-printed_is_spelt m v core st within =
-    let l = printed_has_layout m v core st within in
-    let says = printed_says m (printable m v core st within.number) in
+printed_is_spelt m v st within =
+    let l = printed_has_layout m v st within in
+    let says = printed_says m (printable m v st within.number) in
     let spelt = texts_mean l.0 l.1.0 (printed_said m) l.1.1.1.0 l.1.1.1.1.0 l.1.1.1.1.1 says.0 in
     (said_meant (printed_said m), (subst (λ bytes. Spells bytes (said_meant (printed_said m))) l.1.1.0 spelt, says.1))

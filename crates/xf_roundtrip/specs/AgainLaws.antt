@@ -5,7 +5,6 @@ use Rattle.xf_ir.specs.Valid.{IsNamedOnce, IsValid}
 use Rattle.xf_printed.specs.PrintedForm.{printed_form}
 use Rattle.xf_read.specs.Spells.{Spells}
 use Rattle.xf_ir.specs.Limits.{IsWithinLimits}
-use Rattle.xf_print_laws.specs.Core.{IsCore}
 use Rattle.xf_ir.specs.Renamed.{IsRenamed}
 use Rattle.xf_print_laws.specs.Stored.{IsStored}
 
@@ -13,8 +12,7 @@ use Rattle.xf_print_laws.specs.Stored.{IsStored}
 abbrev pub SpeltIsNamedOnce : Type 0
 SpeltIsNamedOnce = (bytes : List ℕ) (m : Module) → Spells bytes m → IsNamedOnce m
 
--- the printed form of a valid module without dense constants, slices and linalg.generic spells it again, up to the
--- names of operations, and what it spells is valid
+-- the printed form of a valid module spells it again, up to the names of operations, and what it spells is valid
 abbrev pub PrintedIsValidAgain : Type 0
-PrintedIsValidAgain = (m : Module) → IsValid m → IsCore m → IsStored m → IsWithinLimits m
+PrintedIsValidAgain = (m : Module) → IsValid m → IsStored m → IsWithinLimits m
     → (again : Module) × (Spells (printed_form m) again × (IsRenamed m again × IsValid again))

@@ -11,7 +11,6 @@ use Rattle.xf_read.specs.Spells.{Spells}
 use Rattle.xf_syntax.specs.Telling.{SaidNodes}
 use Rattle.xf_syntax.specs.Written.{IsWritten}
 use Rattle.xf_print_laws.specs.Stored.{IsStored}
-use Rattle.xf_print_laws.specs.Core.{IsCore}
 use Rattle.xf_print_laws.specs.SaidPrinted.{printed_said}
 use Rattle.xf_ir.specs.Renamed.{IsRenamed}
 
@@ -20,13 +19,12 @@ abbrev pub HasLayout : List ℕ → SaidNodes → Type 0
 HasLayout text ns = (ws : List SpacedToken) × ((tail : List ℕ) × ((layout ws tail ≡ text)
     × (AllStay false ws tail × (IsUtf8 (layout ws tail) × IsWritten (terminals_plain (map (λ w. w.token) ws)) ns))))
 
--- the printed form of a valid module without dense constants, slices and linalg.generic is laid out, and says what
--- `printed_said` tells
+-- the printed form of a valid module is laid out, and says what `printed_said` tells
 abbrev pub PrintedHasLayout : Type 0
-PrintedHasLayout = (m : Module) → IsValid m → IsCore m → IsStored m → IsWithinLimits m
+PrintedHasLayout = (m : Module) → IsValid m → IsStored m → IsWithinLimits m
     → HasLayout (printed_form m) (printed_said m)
 
 -- and it spells the module again, up to the names of operations
 abbrev pub PrintedIsSpelt : Type 0
-PrintedIsSpelt = (m : Module) → IsValid m → IsCore m → IsStored m → IsWithinLimits m
+PrintedIsSpelt = (m : Module) → IsValid m → IsStored m → IsWithinLimits m
     → (again : Module) × (Spells (printed_form m) again × IsRenamed m again)

@@ -1,9 +1,9 @@
--- Whether names and types are right in what a text says: each use stands for a value, no name stands twice, and the
--- types and numbers that are stated are those of the values.
+-- Whether names and types are right in what a text says: each map is written, each use stands for a value, no name
+-- stands twice, and the types and numbers that are stated are those of the values.
 use Rattle.std.specs.Prelude.{ℕ, ◌+◌, ◌&&◌, List, [], ◌∷◌, Option, Some, None, Bool, true, false, not}
 use Rattle.std.specs.Prelude.{is_some, slice_get, if◌then◌else◌}
 use Rattle.xf_type.specs.declared.payload_type.PayloadType.{PayloadType}
-use Rattle.xf_format.specs.Parts.{DefineSaid, EntrySaid, Said}
+use Rattle.xf_format.specs.Parts.{DefineSaid, EntrySaid, MapSaid, written_map, alias_of, Said}
 use Rattle.xf_ir.specs.Lists.{every}
 use Rattle.xf_read_base.specs.Attributes.{also}
 use Rattle.xf_read.specs.Names.{argument_named, function_symbol, inside, behind, types_agree}
@@ -45,9 +45,15 @@ names_once n t scope =
 
 -- ---- all operations
 
+-- a map, and no alias of one
+abbrev pub is_written : MapSaid → Bool
+is_written (written_map m) = true
+is_written (alias_of name) = false
+
 -- the head of operation n
 abbrev pub head_well : ℕ → Said → Meanings → Bool
-head_well n t scope = every (use_means scope) t.uses && (names_once n t scope && types_agree t scope)
+head_well n t scope =
+    (every is_written t.maps && every (use_means scope) t.uses) && (names_once n t scope && types_agree t scope)
 
 abbrev mutual
   pub nodes_well : ℕ → Meanings → SaidNodes → Bool

@@ -1,6 +1,6 @@
-use Rattle.std.proofs.Common.{◌≡◌, ◌++◌, map, ◌+◌, ◌-◌, ◌*◌, length}
-use Rattle.xf_printed.specs.Dense.{rows, nested}
-use Rattle.xf_printed.specs.Words.{listed, listed_more}
+use Rattle.std.proofs.Common.{◌≡◌, ◌++◌, ◌+◌, ◌-◌, ◌*◌, length}
+use Rattle.xf_dense.specs.Printed.{nest_of, row_nests}
+use Rattle.xf_print.specs.Bodies.{nests_text}
 use Rattle.xf_print.proofs.dense.+rows.Given as goal
 
 abbrev pub decreases-write_nested : goal.decreases-write_nested
@@ -17,5 +17,5 @@ decreases-write_list l = 4 * length l.dims.now + 3
 
 abbrev pub invariant-write_rows-loop : goal.invariant-write_rows-loop
 invariant-write_rows-loop l =
-    l.line.items ++ listed_more (map (nested l.width l.dims) (rows (l.count - l.counter) l.size l.left))
-    ≡ l.fn.line.items ++ listed (map (nested l.width l.dims) (rows l.count l.size l.numbers))
+    l.line.items ++ nests_text (row_nests (nest_of l.width l.dims) (l.more - l.counter) l.size l.left)
+    ≡ l.fn.line.items ++ nests_text (row_nests (nest_of l.width l.dims) l.more l.size l.numbers)

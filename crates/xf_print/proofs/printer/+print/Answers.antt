@@ -50,7 +50,8 @@ print_rest-loop-block-preserved g t c = record {
   going =
       going_on _ (block_first (names_of c.args.names.now) c.args.margin c.args.op.now c.loop-block.first
       c.as_slice-blocks.result.now c.loop-block.block-index c.block-item.result c.loop-block.line.items _
-      c.loop-block-test.true c.block-item.is c.in_ok-print_block.ensures.line) c.loop-block.invariant.going c.in_ok-print_block.ensures.text;
+      c.loop-block-test.true c.block-item.is c.in_ok-print_block.ensures.line) c.loop-block.invariant.going
+      c.in_ok-print_block.ensures.text;
   grows = grind (arith, common_steps);
 }
 
@@ -84,7 +85,8 @@ print_block-returns-in_err-make_closing-clause-text g t c =
     in
     let e = block_parts (names_of c.args.names.now) c.args.margin _ c.args.op.now c.args.first c.args.block.now.ops
     c.args.line.now.items c.in_ok-inner.ensures in
-    rw p.1 (all_gained _ _ _ (going_last (Ok (tt {0})) _ (going_on _ e (going_starts _ _) c.in_ok-print_opened.ensures.text)
+    rw p.1 (all_gained _ _ _ (going_last (Ok (tt {0})) _
+    (going_on _ e (going_starts _ _) c.in_ok-print_opened.ensures.text)
     c.in_ok-print_inner.ensures.text))
 
 pub print_block-returns-clause-text : goal.print_block-returns-clause-text
