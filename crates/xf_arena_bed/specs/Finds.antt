@@ -1,0 +1,23 @@
+-- The operation of a name, and what a node shows of it.
+use Rattle.xf_ir.specs.RuleBlocks.{block_args}
+use Rattle.std.specs.Prelude.{ℕ, List, Option, Some, None, ◌==◌, if◌then◌else◌}
+use Rattle.xf_ir.specs.declared.name.OpName.{OpName}
+use Rattle.xf_ir.specs.declared.name.ValueName.{ValueName}
+use Rattle.xf_ir.specs.declared.kind.Kind.{Kind}
+use Rattle.xf_ir.specs.Tree.{Ops, no_ops, op, Regions, no_regions, region, Tree}
+use Rattle.xf_ir.specs.Walk.{ops_find, regions_find}
+use Rattle.xf_arena_bed.specs.declared.node.Node.{Node}
+use Rattle.xf_arena_tree.specs.Names.{heads}
+
+pub record Shown : Type 0 where
+  pub name : OpName
+  pub kind : Kind
+  pub operands : List ValueName
+  pub results : ℕ
+  pub args : List ℕ
+
+abbrev pub shown_node : Node → Shown
+shown_node x = record { name = x.name; kind = x.kind; attrs = x.attrs; operands = x.operands; results = x.results; args = x.args }
+
+abbrev pub shown_tree : Tree → Shown
+shown_tree t = record { name = t.name; kind = t.kind; attrs = t.attrs; operands = t.operands; results = t.results; regions = block_args t.regions }

@@ -1,0 +1,7 @@
+pub mod WithoutLemmas
+pub mod GrowLemmas
+pub mod PutTreeLemmas
+pub mod InnerLemmas
+pub mod SplitLemmas
+pub mod ListedLemmas
+pub mod OnceLemmas

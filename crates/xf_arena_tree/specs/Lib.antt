@@ -1,0 +1,5 @@
+pub mod Names
+pub mod Without
+pub mod Puts
+pub mod Inner
+pub mod Listed
