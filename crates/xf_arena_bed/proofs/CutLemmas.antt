@@ -12,7 +12,7 @@ use Rattle.xf_ir.specs.declared.name.ValueName.{ValueName}
 use Rattle.xf_ir.specs.declared.kind.Kind.{Kind}
 use Rattle.xf_ir.specs.Tree.{Ops, no_ops, op, Regions, no_regions, region, Tree, cons}
 use Rattle.xf_rings.specs.Ring.{Path, unlinked, After}
-use Rattle.xf_arena_bed.specs.declared.node.Home.{Home}
+use Rattle.xf_arena_bed.specs.Home.{Home}
 use Rattle.xf_arena_tree.specs.Names.{heads, kids, ops_has, regions_has, OpsDistinct, RegionsDistinct}
 use Rattle.xf_arena_bed.specs.Sits.{Nodes, node_at, holds, place, head, item, item_of, Sits, home_of, OpsSit, RegionsSit}
 use Rattle.xf_arena_tree.specs.Without.{is_not, ops_without, regions_without}
@@ -146,7 +146,7 @@ mutual
   ops_cut nodes nodes2 next next2 o c home (op n k ds os ts rs rest) s d =
       elim (cases_Bool (eqb n.0 o.0)) [
         | inl t ↦ rw t (ops_cut nodes nodes2 next next2 o c home rest s.1.1 d.1.1.1.1)
-        | inr f ↦ rw f (sits_cut nodes nodes2 next next2 o c home n k ds os cs rs s.0 s.1.0 d.1.1.1.0 f, (regions_cut nodes nodes2 next next2 o c n 0 rs f s.1.0 d.1.1.1.0, ops_cut nodes nodes2 next next2 o c home rest s.1.1 d.1.1.1.1))
+        | inr f ↦ rw f (sits_cut nodes nodes2 next next2 o c home n k ds os ts rs s.0 s.1.0 d.1.1.1.0 f, (regions_cut nodes nodes2 next next2 o c n 0 rs f s.1.0 d.1.1.1.0, ops_cut nodes nodes2 next next2 o c home rest s.1.1 d.1.1.1.1))
       ]
 
   pub regions_cut : (nodes nodes2 : Nodes) (next next2 : List ℕ) (o : OpName) (c : Cut nodes nodes2 next next2 o) (n : OpName) (r : ℕ) (rs : Regions) → eqb n.0 o.0 ≡ false → RegionsSit nodes next n r rs → RegionsDistinct rs → RegionsSit nodes2 next2 n r (regions_without o rs)

@@ -3,17 +3,17 @@ use Rattle.xf_ir.specs.RuleBlocks.{block_args}
 use Rattle.std.proofs.Common.{◌≡◌, ℕ, zero, suc, ◌+◌, ◌*◌, ◌<◌, ◌≤◌, List, [], ◌∷◌, ◌++◌, length, slice_index_or, sym, ◌∙◌, ap, subst, arith, refl, Bool, true, false, cond, eqb, ◌||◌, ◌⊎◌, inl, inr}
 use Rattle.std.specs.Prelude.{map, Option, Some, None, option_map}
 use Rattle.std.proofs.lemmas.List.{get_or_read}
-use Rattle.xf_arena_bed.specs.declared.arena.Arena.TheInside.{Inside}
-use Rattle.xf_arena_bed.specs.Value.{Module, seat_at}
+use Rattle.xf_arena_bed.specs.declared.bed.Bed.TheInside.{Inside}
+use Rattle.xf_arena_bed.specs.Value.{Layout, seat_at}
 use Rattle.xf_arena_bed.specs.Seat.{seat_of}
-use Rattle.xf_arena_bed.specs.View.{module_of, IsArena}
+use Rattle.xf_arena_bed.specs.View.{layout_of, IsBed}
 use Rattle.xf_arena_bed.proofs.CloseLemmas.{seat_is}
 use Rattle.std.proofs.lemmas.Bool.{cases_eq, eqb-true, eq-eqb, cases_Bool, or_parts, or_cases}
 use Rattle.xf_ir.specs.declared.name.OpName.{OpName}
 use Rattle.xf_ir.specs.Tree.{Ops, no_ops, op, Regions, no_regions, region, Tree, cons}
 use Rattle.xf_ir.specs.Walk.{ops_find, regions_find, first_of}
 use Rattle.xf_arena_bed.specs.declared.node.Node.{Node}
-use Rattle.xf_arena_bed.specs.declared.node.Home.{Home}
+use Rattle.xf_arena_bed.specs.Home.{Home}
 use Rattle.xf_arena_tree.specs.Names.{heads, kids, ops_has, regions_has}
 use Rattle.xf_arena_bed.specs.Sits.{Nodes, node_at, holds, place, head, item, item_of, Sits, home_of, OpsSit, RegionsSit, AreApart, Holds}
 use Rattle.xf_arena_bed.specs.Finds.{Shown, shown_node, shown_tree}
@@ -81,13 +81,13 @@ shows nodes next root t s x h e =
     let z = sym e ∙ ap (node_at nodes) (sym q) ∙ f.1.1.sits.node in
     (f.0, (f.1.0, ap shown_node (unsome_node x _ z)))
 
-pub get_shows : (a : Inside) (v : Module) (s serial : ℕ) (y : Option Node) (x : Node) → IsArena a → module_of a ≡ v → s < length a.nodes.items → y ≡ slice_index_or a.nodes.items s y → y ≡ Some x → x.name.0 ≡ serial → (seat_at v.seats s ≡ Some (record { 0 = serial })) × (Some (shown_node x) ≡ option_map shown_tree (ops_find (record { 0 = serial }) (cons v.root no_ops)))
+pub get_shows : (a : Inside) (v : Layout) (s serial : ℕ) (y : Option Node) (x : Node) → IsBed a → layout_of a ≡ v → s < length a.nodes.items → y ≡ slice_index_or a.nodes.items s y → y ≡ Some x → x.name.0 ≡ serial → (seat_at v.seats s ≡ Some (record { 0 = serial })) × (Some (shown_node x) ≡ option_map shown_tree (ops_find (record { 0 = serial }) (cons v.root no_ops)))
 get_shows a v s serial y x i e w r q k =
     let z : node_at a.nodes.items s ≡ Some x = sym (get_or_read a.nodes.items s y w r None) ∙ q in
     let mk : ℕ → OpName = λ n. record { 0 = n } in
     let nm : x.name ≡ record { 0 = serial } = ap mk k in
-    let root : (module_of a).root ≡ v.root = ap (λ (m : Module). m.root) e in
+    let root : (layout_of a).root ≡ v.root = ap (λ (m : Layout). m.root) e in
     let g = rw root at i.holds in
     let u = shows a.nodes.items a.links a.root v.root s x g z in
     let f : ops_find (record { 0 = serial }) (cons v.root no_ops) ≡ Some u.0 = ap (λ n. ops_find n (cons v.root no_ops)) (sym nm) ∙ u.1.0 in
-    (ap (λ (m : Module). seat_at m.seats s) (sym e) ∙ seat_is a.nodes.items s ∙ ap seat_of z ∙ ap Some nm, ap Some u.1.1 ∙ sym (ap (option_map shown_tree) f))
+    (ap (λ (m : Layout). seat_at m.seats s) (sym e) ∙ seat_is a.nodes.items s ∙ ap seat_of z ∙ ap Some nm, ap Some u.1.1 ∙ sym (ap (option_map shown_tree) f))

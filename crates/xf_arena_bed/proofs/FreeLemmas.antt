@@ -15,15 +15,17 @@ use Rattle.xf_rings.specs.Ring.{Path, linked, unlinked, After}
 use Rattle.xf_rings.specs.Groups.{AllOnce, Lacks}
 use Rattle.xf_rings.proofs.PathLemmas.{linked_other, unlinked_other}
 use Rattle.xf_arena_bed.specs.declared.node.Node.{Node}
-use Rattle.xf_arena_bed.specs.declared.node.Home.{Home}
+use Rattle.xf_arena_bed.specs.Home.{Home}
 use Rattle.xf_arena_bed.specs.declared.node.OpId.{OpId}
-use Rattle.xf_arena_bed.specs.declared.arena.Arena.TheInside.{Inside}
+use Rattle.xf_arena_bed.specs.declared.bed.Bed.TheInside.{Inside}
 use Rattle.xf_arena_tree.specs.Names.{kids, ops_has, regions_has}
-use Rattle.xf_arena_bed.specs.Value.{Module, seat_at}
-use Rattle.xf_arena_bed.specs.View.{module_of, IsArena}
+use Rattle.xf_arena_bed.specs.Live.{name_of, names_of, IsLive, AreLive, leaf_of, number_before}
+use Rattle.xf_arena_bed.proofs.SpotLemmas.{stands, spotted}
+use Rattle.xf_arena_bed.specs.Value.{Layout, seat_at}
+use Rattle.xf_arena_bed.specs.View.{layout_of, IsBed}
 use Rattle.xf_arena_bed.specs.Sits.{Nodes, node_at, holds, place, head, item, Holds, OpsSit, RegionsSit, home_of, AllFree, FreeOk}
 use Rattle.xf_arena_tree.specs.Without.{OpsWhere, OpsLeaf, RegionsLeaf}
-use Rattle.xf_arena_tree.specs.Puts.{tree_put, ops_put, InRange, bare}
+use Rattle.xf_arena_tree.specs.Puts.{tree_put, ops_put, InRange, bare, StandsAt}
 use Rattle.xf_arena_bed.proofs.PlaceLemmas.{Placed, place_within}
 use Rattle.xf_arena_bed.proofs.LeafLemmas.{holder, place_is, same_name}
 use Rattle.xf_arena_bed.proofs.CloseLemmas.{seated}
@@ -49,7 +51,7 @@ once_last : (gs : List ℕ) (f : ℕ) → AllOnce (gs ++ f ∷ []) → AllOnce g
 once_last [] f a = (tt, tt)
 once_last (g ∷ gs) f a = let r = once_last gs f a.1 in ((lacks_front g gs f a.0, r.0), (lacks_last g gs f a.0, r.1))
 
-free_put : (nodes : Nodes) (next gs : List ℕ) (s before : ℕ) (y : Option Node) → AllFree nodes next gs → Lacks s gs → ((f : ℕ) → node_at nodes f ≡ None → head f ≡ before → ⊥) → ((f : ℕ) → item f ≡ before → ⊥) → AllFree (slice_set nodes s y) (linked before (item s) next) gs
+free_put : (nodes : Nodes) (next gs : List ℕ) (s before : ℕ) (y : Option Node) → AllFree nodes next gs → Lacks s gs → ((f : ℕ) → node_at nodes f ≡ None → head f ≡ before → ⊥) → ((f : ℕ) → node_at nodes f ≡ None → item f ≡ before → ⊥) → AllFree (slice_set nodes s y) (linked before (item s) next) gs
 free_put nodes next [] s before y a l nh ni = tt
 free_put nodes next (f ∷ gs) s before y a l nh ni = (
   (
@@ -57,7 +59,7 @@ free_put nodes next (f ∷ gs) s before y a l nh ni = (
     (
       get_or-set_other nodes s f y None l.0 ∙ a.0.1.0,
       (
-        linked_other next before (item s) (item f) (ni f) (λ e. l.0 (omega arith)) ∙ a.0.1.1.0,
+        linked_other next before (item s) (item f) (ni f a.0.1.0) (λ e. l.0 (omega arith)) ∙ a.0.1.1.0,
         linked_other next before (item s) (head f) (nh f a.0.1.0) (λ e. omega arith) ∙ a.0.1.1.1,
       ),
     ),
@@ -83,56 +85,67 @@ pub record Inserted (nodes2 : Nodes) (next2 : List ℕ) (root : ℕ) (u2 : Tree)
   pub count : live2 ≡ tree_count u2
   pub free : FreeOk nodes2 next2 gs live2
 
-pub taken : (a : Inside) (gs : List ℕ) (f : ℕ) → IsArena a → a.free.items ≡ gs ++ f ∷ [] → IsFree a.nodes.items a.links f
+pub taken : (a : Inside) (gs : List ℕ) (f : ℕ) → IsBed a → a.free.items ≡ gs ++ f ∷ [] → IsFree a.nodes.items a.links f
 taken a gs f i e = (free_last a.nodes.items a.links gs f (rw e at i.free.each)).1
 
-pub inserted : (a : Inside) (v : Module) (t : Tree) (pid : OpId) (gs : List ℕ) (f : ℕ) → IsArena a → module_of a ≡ v → seat_at v.seats pid.slot ≡ Some (record { 0 = pid.serial }) → OpsWhere (record { 0 = pid.serial }) (InRange 0 0) (cons v.root no_ops) → ops_has t.name (cons v.root no_ops) ≡ false → kids t.regions ≡ [] → tree_count t ≡ 1 → a.free.items ≡ gs ++ f ∷ [] → Inserted (slice_set a.nodes.items f (Some (record { name = t.name; kind = t.kind; attrs = t.attrs; operands = t.operands; results = t.results; regions = block_args t.regions; parent = Some (record { op = pid; region = 0 }) }))) (linked (head pid.slot) (item f) a.links) a.root (tree_put (record { 0 = pid.serial }) 0 0 t v.root) gs (a.live + 1) (length a.nodes.items)
-inserted a v t pid gs f i e live w is_new leaf one fe =
-    let p : OpName = record { 0 = pid.serial } in
+pub inserted : (a : Inside) (v : Layout) (x : Node) (pid : OpId) (sibling : Option OpId) (r k : ℕ) (gs : List ℕ)
+    (f : ℕ) → IsBed a → layout_of a ≡ v → IsLive v pid → AreLive v sibling
+    → OpsWhere (name_of pid) (StandsAt r k (names_of sibling)) (cons v.root no_ops)
+    → ops_has x.name (cons v.root no_ops) ≡ false → x.parent ≡ Some (pid, r) → a.free.items ≡ gs ++ f ∷ []
+    → Inserted (slice_set a.nodes.items f (Some x)) (linked (number_before pid sibling) (item f) a.links) a.root
+    (tree_put (name_of pid) r k (leaf_of x) v.root) gs (a.live + 1) (length a.nodes.items)
+inserted a v x pid sibling r k gs f i e live sib w is_new home fe =
+    let t = leaf_of x in
+    let p = name_of pid in
     let nodes = a.nodes.items in
-    let root : (module_of a).root ≡ v.root = ap (λ (m : Module). m.root) e in
-    let h = rw root at i.holds in
+    let s = stands a v pid i e live in
+    let spot = spotted a v pid sibling r k i e live sib w in
+    let before = number_before pid sibling in
+    let root : (layout_of a).root ≡ v.root = ap (λ (m : Layout). m.root) e in
+    let h = s.holds in
     let count : a.live ≡ tree_count v.root = rw root at i.count in
-    let held = seated a v pid.slot p e live in
-    let pl = place_is nodes a.links a.root v.root p pid.slot h held in
-    let z = holder p (node_at nodes pid.slot) held in
-    let nm : z.0.name ≡ p = (let mk : ℕ → OpName = λ j. record { 0 = j } in ap mk z.1.1) in
-    let has : ops_has p (cons v.root no_ops) ≡ true = rw nm at (h.known pid.slot z.0 z.1.0) in
     let all = rw fe at i.free.each in
     let once = once_last gs f (rw fe at i.free.once) in
     let last = free_last nodes a.links gs f all in
-    let y : Ready nodes a.links a.root v.root f t p = record {
+    let y : Ready nodes a.links a.root v.root f t p r k before = record {
       holds = h;
       within = last.1.0;
       is_free = last.1.1.0;
       loose = last.1.1.1.0;
       alone = last.1.1.1.1;
       is_new = is_new;
-      leaf = leaf;
-      parent = has;
-      place = w;
+      leaf = bare_kids x.regions;
+      parent = s.has;
+      split = spot.split;
+      range = spot.range;
+      spot = spot.spot;
     } in
-    let node_is : node_of nodes p 0 t ≡ record { name = t.name; kind = t.kind; attrs = t.attrs; operands = t.operands; results = t.results; regions = block_args t.regions; parent = Some (record { op = pid; region = 0 }) } = rw pl.1 refl in
-    let put = rw (node_is, pl.1) at (holds_put nodes a.links a.root v.root f t p y) in
-    let n = rw (first p 0 0 t v.root) at (put_count p 0 0 t (cons v.root no_ops) h.distinct w has) in
+    let here : home_of nodes p r ≡ x.parent = rw s.place (sym home) in
+    let node_is : node_of nodes p r t ≡ x = rw (bare_args x.regions, here) refl in
+    let put = rw node_is at (holds_put nodes a.links a.root v.root f t p r k before y) in
+    let one : tree_count t ≡ 1 = (let q = bare_count x.regions in omega arith) in
+    let n = rw (first p r k t v.root) at (put_count p r k t (cons v.root no_ops) h.distinct spot.range s.has) in
     let len = ap length fe ∙ length-append gs (f ∷ []) in
     record {
-      same = length-set nodes f (Some (record { name = t.name; kind = t.kind; attrs = t.attrs; operands = t.operands; results = t.results; regions = block_args t.regions; parent = Some (record { op = pid; region = 0 }) }));
+      same = length-set nodes f (Some x);
       holds = put;
       count = omega arith;
       free = record {
-        each = free_put nodes a.links gs f (head pid.slot) _ last.0 once.1 (λ g q k. let g_is : g ≡ pid.slot = omega arith in let c : false ≡ true = sym (ap (holds p) (ap (node_at nodes) (sym g_is) ∙ q)) ∙ held in cc) (λ g k. omega arith);
+        each = free_put nodes a.links gs f before (Some x) last.0 once.1 (λ g q z. elim spot.spot [
+          | inl b ↦ (
+              let g_is : g ≡ place p nodes = omega arith in
+              let c : false ≡ true = sym (ap (holds p) (ap (node_at nodes) (sym g_is) ∙ q)) ∙ s.placed in cc)
+          | inr b ↦ (let c = b.is in omega arith)
+        ]) (λ g q z. elim spot.spot [
+          | inl b ↦ omega arith
+          | inr b ↦ (
+              let g_is : g ≡ place b.name nodes = (let c = b.is in omega arith) in
+              let c : false ≡ true = sym (ap (holds b.name) (ap (node_at nodes) (sym g_is) ∙ q)) ∙ b.placed in cc)
+        ]);
         once = once.0;
-        total = omega (arith, i.free.total, length-set nodes f (Some (record { name = t.name; kind = t.kind; attrs = t.attrs; operands = t.operands; results = t.results; regions = block_args t.regions; parent = Some (record { op = pid; region = 0 }) })));
+        total = omega (arith, i.free.total, length-set nodes f (Some x));
       };
     }
-
--- the same for an operation whose regions are given by their arguments
-pub inserted_bare : (a : Inside) (v : Module) (n : OpName) (kd : Kind) (ds : List Attr) (os : List ValueName) (cs : List PayloadType) (args : List (List PayloadType)) (pid : OpId) (gs : List ℕ) (f : ℕ) → IsArena a → module_of a ≡ v → seat_at v.seats pid.slot ≡ Some (record { 0 = pid.serial }) → OpsWhere (record { 0 = pid.serial }) (InRange 0 0) (cons v.root no_ops) → ops_has n (cons v.root no_ops) ≡ false → a.free.items ≡ gs ++ f ∷ [] → Inserted (slice_set a.nodes.items f (Some (record { name = n; kind = kd; attrs = ds; operands = os; results = cs; regions = args; parent = Some (record { op = pid; region = 0 }) }))) (linked (2 * pid.slot) (2 * f + 1) a.links) a.root (tree_put (record { 0 = pid.serial }) 0 0 (record { name = n; kind = kd; attrs = ds; operands = os; results = cs; regions = bare args }) v.root) gs (a.live + 1) (length a.nodes.items)
-inserted_bare a v n kd os cs args pid gs f i e live w is_new fe =
-    let t : Tree = record { name = n; kind = kd; attrs = ds; operands = os; results = cs; regions = bare args } in
-    let k = inserted a v t pid gs f i e live w is_new (bare_kids args) (let q = bare_count args in omega arith) fe in
-    rw (bare_args args) at k
 
 -- a leaf's first link leads back
 mutual
@@ -189,10 +202,10 @@ once_more : (nodes : Nodes) (next fs : List ℕ) (s : ℕ) → AllFree nodes nex
 once_more nodes next [] s a n o = (tt, tt)
 once_more nodes next (g ∷ fs) s a n o = (lacks_more g fs s o.0 (λ e. n (ap (node_at nodes) e ∙ a.0.1.0)), once_more nodes next fs s a.1 n o.1)
 
-pub given_back : (a : Inside) (v : Module) (s : ℕ) (o : OpName) (p : ℕ) → IsArena a → module_of a ≡ v → seat_at v.seats s ≡ Some o → OpsLeaf o (cons v.root no_ops) → After a.links p (item s) → FreeOk (slice_set a.nodes.items s None) (unlinked p (item s) a.links) (a.free.items ++ s ∷ []) (a.live - 1)
+pub given_back : (a : Inside) (v : Layout) (s : ℕ) (o : OpName) (p : ℕ) → IsBed a → layout_of a ≡ v → seat_at v.seats s ≡ Some o → OpsLeaf o (cons v.root no_ops) → After a.links p (item s) → FreeOk (slice_set a.nodes.items s None) (unlinked p (item s) a.links) (a.free.items ++ s ∷ []) (a.live - 1)
 given_back a v s o p i e h l w =
     let nodes = a.nodes.items in
-    let root : (module_of a).root ≡ v.root = ap (λ (m : Module). m.root) e in
+    let root : (layout_of a).root ≡ v.root = ap (λ (m : Layout). m.root) e in
     let g = rw root at i.holds in
     let held = seated a v s o e h in
     let z = holder o (node_at nodes s) held in

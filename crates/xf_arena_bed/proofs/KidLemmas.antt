@@ -7,13 +7,13 @@ use Rattle.xf_ir.specs.declared.name.OpName.{OpName}
 use Rattle.xf_ir.specs.Tree.{Ops, no_ops, op, Regions, no_regions, region, Tree, cons}
 use Rattle.xf_rings.specs.Ring.{Path, After}
 use Rattle.xf_arena_bed.specs.declared.node.Node.{Node}
-use Rattle.xf_arena_bed.specs.declared.node.Home.{Home}
+use Rattle.xf_arena_bed.specs.Home.{Home}
 use Rattle.xf_arena_tree.specs.Names.{kids, ops_has, regions_has, OpsDistinct}
 use Rattle.xf_arena_bed.specs.Sits.{Nodes, node_at, holds, place, head, item, item_of, Sits, home_of, OpsSit, RegionsSit, Holds}
 use Rattle.std.proofs.lemmas.List.{get_or_read}
-use Rattle.xf_arena_bed.specs.declared.arena.Arena.TheInside.{Inside}
-use Rattle.xf_arena_bed.specs.Value.{Module, seat_at}
-use Rattle.xf_arena_bed.specs.View.{module_of, IsArena}
+use Rattle.xf_arena_bed.specs.declared.bed.Bed.TheInside.{Inside}
+use Rattle.xf_arena_bed.specs.Value.{Layout, seat_at}
+use Rattle.xf_arena_bed.specs.View.{layout_of, IsBed}
 use Rattle.xf_arena_tree.specs.Without.{OpsLeaf, OpsWhere, RegionsWhere, ops_without, tree_without}
 use Rattle.xf_arena_tree.specs.Inner.{IsInner, ops_below}
 use Rattle.xf_arena_bed.proofs.PlaceLemmas.{Placed, sits_placed, one_name}
@@ -91,17 +91,17 @@ before_head nodes next root t o s v h e f w ne =
       inner = rw kn (inner_of kid.name o t h.distinct wh f has);
     }
 
-pub kid_none : (a : Inside) (v : Module) (s : ℕ) (o : OpName) (l : ℕ) → IsArena a → module_of a ≡ v → seat_at v.seats s ≡ Some o → After a.links l (head s) → l ≡ head s → OpsLeaf o (cons v.root no_ops)
+pub kid_none : (a : Inside) (v : Layout) (s : ℕ) (o : OpName) (l : ℕ) → IsBed a → layout_of a ≡ v → seat_at v.seats s ≡ Some o → After a.links l (head s) → l ≡ head s → OpsLeaf o (cons v.root no_ops)
 kid_none a v s o l i e live w q =
-    let root : (module_of a).root ≡ v.root = ap (λ (m : Module). m.root) e in
+    let root : (layout_of a).root ≡ v.root = ap (λ (m : Layout). m.root) e in
     let h = rw root at i.holds in
     let pl = place_is a.nodes.items a.links a.root v.root o s h (seated a v s o e live) in
     let k : slice_index a.links (head s) ≡ head s = ap (slice_index a.links) (sym q) ∙ w.is in
     ops_leaf a.nodes.items a.links None (cons v.root no_ops) o h.sits (rw pl.1 k)
 
-pub kid_before : (a : Inside) (v : Module) (s : ℕ) (o : OpName) (l : ℕ) → IsArena a → module_of a ≡ v → seat_at v.seats s ≡ Some o → eqb v.root.name.0 o.0 ≡ false → After a.links l (head s) → (l ≡ head s → ⊥) → Before a.nodes.items o v.root l
+pub kid_before : (a : Inside) (v : Layout) (s : ℕ) (o : OpName) (l : ℕ) → IsBed a → layout_of a ≡ v → seat_at v.seats s ≡ Some o → eqb v.root.name.0 o.0 ≡ false → After a.links l (head s) → (l ≡ head s → ⊥) → Before a.nodes.items o v.root l
 kid_before a v s o l i e live low w ne =
-    let root : (module_of a).root ≡ v.root = ap (λ (m : Module). m.root) e in
+    let root : (layout_of a).root ≡ v.root = ap (λ (m : Layout). m.root) e in
     let h = rw root at i.holds in
     before_head a.nodes.items a.links a.root v.root o s l h (seated a v s o e live) low w ne
 

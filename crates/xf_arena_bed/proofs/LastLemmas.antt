@@ -8,7 +8,7 @@ use Rattle.xf_ir.specs.declared.name.OpName.{OpName}
 use Rattle.xf_ir.specs.Tree.{Ops, no_ops, op, Regions, no_regions, region, Tree, cons}
 use Rattle.xf_rings.specs.Ring.{Path, After}
 use Rattle.xf_arena_bed.specs.declared.node.Node.{Node}
-use Rattle.xf_arena_bed.specs.declared.node.Home.{Home}
+use Rattle.xf_arena_bed.specs.Home.{Home}
 use Rattle.xf_arena_tree.specs.Names.{heads, kids, ops_has, regions_has}
 use Rattle.xf_arena_bed.specs.Sits.{Nodes, node_at, holds, place, head, item, item_of, Sits, home_of, OpsSit, RegionsSit, Holds}
 use Rattle.xf_arena_tree.specs.Without.{OpsLeaf, RegionsLeaf, OpsWhere, RegionsWhere}

@@ -9,7 +9,7 @@ use Rattle.xf_ir.specs.Tree.{Ops, no_ops, op, Regions, no_regions, region, Tree,
 use Rattle.xf_ir.specs.Count.{ops_count, regions_count, tree_count}
 use Rattle.xf_rings.specs.Ring.{Path, unlinked, After}
 use Rattle.xf_arena_bed.specs.declared.node.Node.{Node}
-use Rattle.xf_arena_bed.specs.declared.node.Home.{Home}
+use Rattle.xf_arena_bed.specs.Home.{Home}
 use Rattle.xf_arena_tree.specs.Names.{heads, kids, ops_has, regions_has, OpsDistinct, RegionsDistinct}
 use Rattle.xf_arena_bed.specs.Sits.{Nodes, node_at, holds, place, head, item, item_of, Sits, home_of, OpsSit, RegionsSit, AreApart, Holds}
 use Rattle.xf_arena_tree.specs.Without.{is_not, ops_without, regions_without, tree_without, OpsLeaf, RegionsLeaf}

@@ -14,7 +14,7 @@ use Rattle.xf_rings.specs.Ring.{Path, linked, unlinked, After}
 use Rattle.xf_rings.specs.Groups.{Lacks, AllOnce}
 use Rattle.xf_rings.proofs.PathLemmas.{linked_other, path_beside, path_put}
 use Rattle.xf_arena_bed.specs.declared.node.Node.{Node}
-use Rattle.xf_arena_bed.specs.declared.node.Home.{Home}
+use Rattle.xf_arena_bed.specs.Home.{Home}
 use Rattle.xf_arena_tree.specs.Names.{heads, kids, ops_has, regions_has, OpsDistinct, RegionsDistinct}
 use Rattle.xf_arena_bed.specs.Sits.{Nodes, node_at, holds, place, head, item, item_of, Sits, home_of, OpsSit, RegionsSit, AreApart, Holds}
 use Rattle.xf_arena_tree.specs.Without.{OpsWhere, RegionsWhere}
@@ -102,7 +102,7 @@ head_lacks nodes s (n ∷ ns) = ((λ e. omega arith), head_lacks nodes s ns)
 -- what stands under an operation
 abbrev pub under_home : OpName → Option Home → Bool
 under_home m None = false
-under_home m (Some h) = eqb h.op.serial m.0
+under_home m (Some h) = eqb h.0.serial m.0
 
 abbrev pub under : OpName → Option Node → Bool
 under m None = false
@@ -120,15 +120,15 @@ under_append : (nodes : Nodes) (m : OpName) (ns ms : List OpName) → AllUnder n
 under_append nodes m [] ms a b = b
 under_append nodes m (n ∷ ns) ms a b = (a.0, under_append nodes m ns ms a.1 b)
 
-kids_under : (nodes : Nodes) (next : List ℕ) (m : OpName) (r : ℕ) (rs : Regions) → RegionsSit nodes next m r rs → AllUnder nodes m (kids rs)
+pub kids_under : (nodes : Nodes) (next : List ℕ) (m : OpName) (r : ℕ) (rs : Regions) → RegionsSit nodes next m r rs → AllUnder nodes m (kids rs)
 kids_under nodes next m r no_regions s = tt
 kids_under nodes next m r (region args ops rest) s = under_append nodes m (heads ops) (kids rest) (heads_under nodes next m r ops s.0) (kids_under nodes next m (suc r) rest s.1)
 
 parent_of : (m p : OpName) (h : Option Home) → under_home m h ≡ true → under_home p h ≡ true → m.0 ≡ p.0
 parent_of m p None a b = cc
-parent_of m p (Some h) a b = sym (eqb-true h.op.serial m.0 a) ∙ eqb-true h.op.serial p.0 b
+parent_of m p (Some h) a b = sym (eqb-true h.0.serial m.0 a) ∙ eqb-true h.0.serial p.0 b
 
-one_parent : (m p : OpName) (y : Option Node) → under m y ≡ true → under p y ≡ true → m.0 ≡ p.0
+pub one_parent : (m p : OpName) (y : Option Node) → under m y ≡ true → under p y ≡ true → m.0 ≡ p.0
 one_parent m p None a b = cc
 one_parent m p (Some y) a b = parent_of m p y.parent a b
 
@@ -170,7 +170,7 @@ mutual
   ops_beside nodes nodes2 next next2 p s before c home no_ops st f = tt
   ops_beside nodes nodes2 next next2 p s before c home (op n k ds os ts rs rest) st f =
       let q = parts3 (eqb n.0 p.0) (regions_has p rs) (ops_has p rest) f in (
-        sits_beside nodes nodes2 next next2 p s before c home n k ds os cs (block_args rs) (kids rs) st.0 q.0 (kids_placed nodes next n 0 rs st.1.0) (kids_under nodes next n 0 rs st.1.0),
+        sits_beside nodes nodes2 next next2 p s before c home n k ds os ts (block_args rs) (kids rs) st.0 q.0 (kids_placed nodes next n 0 rs st.1.0) (kids_under nodes next n 0 rs st.1.0),
         (
           regions_beside nodes nodes2 next next2 p s before c n 0 rs (sits_placed nodes next home n _ st.0.node refl) st.1.0 q.1.0,
           ops_beside nodes nodes2 next next2 p s before c home rest st.1.1 q.1.1,
@@ -203,7 +203,7 @@ pub record SplitAt (nodes : Nodes) (p : OpName) (r i before : ℕ) (rs : Regions
   pub in_range : InRange r i rs
   pub is : before ≡ last (head (place p nodes)) (map (item_of nodes) (kids_before r i rs))
 
-placed_left : (nodes : Nodes) (ns ms : List OpName) → AllPlaced nodes (ns ++ ms) → AllPlaced nodes ns
+pub placed_left : (nodes : Nodes) (ns ms : List OpName) → AllPlaced nodes (ns ++ ms) → AllPlaced nodes ns
 placed_left nodes [] ms a = tt
 placed_left nodes (n ∷ ns) ms a = (a.0, placed_left nodes ns ms a.1)
 
@@ -251,7 +251,7 @@ mutual
               ),
             )
         | inr f ↦ rw f (
-          rw (args_put p r i t rs, kids_put p r i t rs) (sits_beside nodes nodes2 next next2 p s before c home n k ds os cs (block_args rs) (kids rs) st.0 f (kids_placed nodes next n 0 rs st.1.0) (kids_under nodes next n 0 rs st.1.0)),
+          rw (args_put p r i t rs, kids_put p r i t rs) (sits_beside nodes nodes2 next next2 p s before c home n k ds os ts (block_args rs) (kids rs) st.0 f (kids_placed nodes next n 0 rs st.1.0) (kids_under nodes next n 0 rs st.1.0)),
           (
             regions_put_sit nodes nodes2 next next2 p s before c r i t n 0 rs (sits_placed nodes next home n _ st.0.node refl) tp l st.1.0 d.1.1.1.0 w.1.0,
             ops_put_sit nodes nodes2 next next2 p s before c r i t home rest tp l st.1.1 d.1.1.1.1 w.1.1,
@@ -263,3 +263,13 @@ mutual
   regions_put_sit nodes nodes2 next next2 p s before c r i t n j no_regions pl tp l st d w = tt
   regions_put_sit nodes nodes2 next next2 p s before c r i t n j (region args ops rest) pl tp l st d w =
       (rw (c.places n pl) (ops_put_sit nodes nodes2 next next2 p s before c r i t (home_of nodes n j) ops tp l st.0 d.1.0 w.0), regions_put_sit nodes nodes2 next next2 p s before c r i t n (suc j) rest pl tp l st.1 d.1.1 w.1)
+
+-- after the sentinel of p, or after a child of p
+pub record KidItem (nodes : Nodes) (p : OpName) (before : ℕ) : Type 0 where
+  pub name : OpName
+  pub is : before ≡ item_of nodes name
+  pub placed : Placed nodes name
+  pub below : under p (node_at nodes (place name nodes)) ≡ true
+
+abbrev pub IsBefore : Nodes → OpName → ℕ → Type 0
+IsBefore nodes p before = (before ≡ head (place p nodes)) ⊎ KidItem nodes p before

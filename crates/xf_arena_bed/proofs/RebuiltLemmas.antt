@@ -10,12 +10,12 @@ use Rattle.xf_ir.specs.declared.name.OpName.{OpName}
 use Rattle.xf_ir.specs.Tree.{Ops, no_ops, op, Regions, no_regions, region, Tree, cons}
 use Rattle.xf_ir.specs.View.{ops_of}
 use Rattle.xf_ir.specs.Count.{tree_count, ops_count, regions_count}
-use Rattle.xf_rings.specs.Ring.{Path}
+use Rattle.xf_rings.specs.Ring.{Path, chain}
 use Rattle.xf_arena_bed.specs.declared.node.Node.{Node}
-use Rattle.xf_arena_bed.specs.declared.node.Home.{Home}
+use Rattle.xf_arena_bed.specs.Home.{Home}
 use Rattle.xf_arena_tree.specs.Names.{heads, kids}
 use Rattle.xf_arena_bed.specs.Sits.{Nodes, node_at, place, head, item, item_of, Sits, home_of, OpsSit, RegionsSit}
-use Rattle.xf_arena_bed.specs.Rebuilt.{chain, stands_in, node_in, in_region, regions_from, blank, tree_from, tree_at}
+use Rattle.xf_arena_bed.specs.Rebuilt.{stands_in, node_in, in_region, regions_from, blank, tree_from, tree_at}
 
 pub half_head : (s : ℕ) → head s / 2 ≡ s
 half_head s = omega arith

@@ -1,4 +1,6 @@
 -- The operation of a name, and what a node shows of it.
+use Rattle.xf_type.specs.declared.payload_type.PayloadType.{PayloadType}
+use Rattle.xf_ir.specs.declared.kind.Attr.{Attr}
 use Rattle.xf_ir.specs.RuleBlocks.{block_args}
 use Rattle.std.specs.Prelude.{ℕ, List, Option, Some, None, ◌==◌, if◌then◌else◌}
 use Rattle.xf_ir.specs.declared.name.OpName.{OpName}
@@ -12,12 +14,13 @@ use Rattle.xf_arena_tree.specs.Names.{heads}
 pub record Shown : Type 0 where
   pub name : OpName
   pub kind : Kind
+  pub attrs : List Attr
   pub operands : List ValueName
-  pub results : ℕ
-  pub args : List ℕ
+  pub results : List PayloadType
+  pub args : List (List PayloadType)
 
 abbrev pub shown_node : Node → Shown
-shown_node x = record { name = x.name; kind = x.kind; attrs = x.attrs; operands = x.operands; results = x.results; args = x.args }
+shown_node x = record { name = x.name; kind = x.kind; attrs = x.attrs; operands = x.operands; results = x.results; args = x.regions }
 
 abbrev pub shown_tree : Tree → Shown
-shown_tree t = record { name = t.name; kind = t.kind; attrs = t.attrs; operands = t.operands; results = t.results; regions = block_args t.regions }
+shown_tree t = record { name = t.name; kind = t.kind; attrs = t.attrs; operands = t.operands; results = t.results; args = block_args t.regions }

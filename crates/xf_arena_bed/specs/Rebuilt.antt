@@ -3,22 +3,19 @@ use Rattle.std.specs.Prelude.{◌≡◌, ℕ, zero, suc, ◌+◌, ◌*◌, ◌/�
 use Rattle.std.specs.List.{filter}
 use Rattle.xf_ir.specs.declared.name.OpName.{OpName}
 use Rattle.xf_ir.specs.declared.kind.Kind.{Kind}
-use Rattle.xf_ir.specs.declared.kind.Kind.TheVariants.{Module as module_kind}
+use Rattle.xf_ir.specs.declared.kind.Kind.TheVariants.{Return}
+use Rattle.xf_type.specs.declared.payload_type.PayloadType.{PayloadType}
 use Rattle.xf_ir.specs.Tree.{Ops, no_ops, op, Regions, no_regions, region, Tree, cons}
 use Rattle.xf_ir.specs.View.{ops_of}
 use Rattle.xf_ir.specs.Count.{tree_count}
 use Rattle.xf_arena_bed.specs.declared.node.Node.{Node}
-use Rattle.xf_arena_bed.specs.declared.node.Home.{Home}
+use Rattle.xf_arena_bed.specs.Home.{Home}
+use Rattle.xf_rings.specs.Ring.{chain}
 use Rattle.xf_arena_bed.specs.Sits.{Nodes, node_at, head}
-
--- the numbers after one, up to another
-abbrev pub chain : List ℕ → ℕ → ℕ → ℕ → List ℕ
-chain next zero from to = []
-chain next (suc fuel) from to = if slice_index next from == to then [] else slice_index next from ∷ chain next fuel (slice_index next from) to
 
 abbrev pub stands_in : ℕ → Option Home → Bool
 stands_in r None = false
-stands_in r (Some h) = h.region == r
+stands_in r (Some h) = h.1 == r
 
 abbrev pub node_in : ℕ → Option Node → Bool
 node_in r None = false
@@ -28,16 +25,16 @@ abbrev pub in_region : Nodes → ℕ → ℕ → Bool
 in_region nodes r i = node_in r (node_at nodes (i / 2))
 
 -- the regions from one on, their operations taken from among these children
-abbrev pub regions_from : Nodes → (ℕ → Tree) → ℕ → List ℕ → List ℕ → Regions
+abbrev pub regions_from : Nodes → (ℕ → Tree) → ℕ → List (List PayloadType) → List ℕ → Regions
 regions_from nodes f r [] is = no_regions
 regions_from nodes f r (args ∷ more) is = region args (ops_of (map f (filter (in_region nodes r) is))) (regions_from nodes f (suc r) more is)
 
 abbrev pub blank : Tree
-blank = record { name = record { 0 = 0 }; kind = module_kind; operands = []; results = 0; regions = no_regions }
+blank = record { name = record { 0 = 0 }; kind = Return; attrs = []; operands = []; results = []; regions = no_regions }
 
 abbrev pub tree_from : Nodes → (ℕ → Tree) → List ℕ → Option Node → Tree
 tree_from nodes f is None = blank
-tree_from nodes f is (Some x) = record { name = x.name; kind = x.kind; attrs = x.attrs; operands = x.operands; results = x.results; regions = regions_from nodes f 0 x.args is }
+tree_from nodes f is (Some x) = record { name = x.name; kind = x.kind; attrs = x.attrs; operands = x.operands; results = x.results; regions = regions_from nodes f 0 x.regions is }
 
 -- the tree at a child's number
 abbrev pub tree_at : Nodes → List ℕ → ℕ → ℕ → ℕ → Tree

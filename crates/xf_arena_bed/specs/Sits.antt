@@ -11,7 +11,7 @@ use Rattle.xf_ir.specs.Count.{tree_count}
 use Rattle.xf_rings.specs.Ring.{Path}
 use Rattle.xf_rings.specs.Groups.{AllOnce}
 use Rattle.xf_arena_bed.specs.declared.node.Node.{Node}
-use Rattle.xf_arena_bed.specs.declared.node.Home.{Home}
+use Rattle.xf_arena_bed.specs.Home.{Home}
 use Rattle.xf_arena_bed.specs.declared.node.OpId.{OpId}
 use Rattle.xf_arena_tree.specs.Names.{heads, kids, ops_has, OpsDistinct}
 
@@ -45,8 +45,11 @@ pub record Sits (nodes : Nodes) (next : List ℕ) (home : Option Home) (n : OpNa
   pub node : node_at nodes (place n nodes) ≡ Some (record { name = n; kind = k; attrs = ds; operands = os; results = ts; regions = args; parent = home })
   pub row : Path next (head (place n nodes)) (map (item_of nodes) names) (head (place n nodes))
 
+abbrev pub id_at : Nodes → OpName → OpId
+id_at nodes n = record { slot = place n nodes; serial = n.0 }
+
 abbrev pub home_of : Nodes → OpName → ℕ → Option Home
-home_of nodes n r = Some (record { op = record { slot = place n nodes; serial = n.0 }; region = r })
+home_of nodes n r = Some (id_at nodes n, r)
 
 abbrev mutual
   pub OpsSit : Nodes → List ℕ → Option Home → Ops → Type 0

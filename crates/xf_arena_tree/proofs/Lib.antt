@@ -5,3 +5,4 @@ pub mod InnerLemmas
 pub mod SplitLemmas
 pub mod ListedLemmas
 pub mod OnceLemmas
+pub mod WhereLemmas

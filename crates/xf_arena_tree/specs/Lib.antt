@@ -3,3 +3,4 @@ pub mod Without
 pub mod Puts
 pub mod Inner
 pub mod Listed
+pub mod Kids

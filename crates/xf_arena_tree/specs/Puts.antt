@@ -1,6 +1,6 @@
 use Rattle.xf_type.specs.declared.payload_type.PayloadType.{PayloadType}
 -- A tree put at a spot.
-use Rattle.std.specs.Prelude.{◌≡◌, ℕ, zero, suc, ◌≤◌, List, [], ◌∷◌, ◌++◌, length, take, drop, ◌==◌, if◌then◌else◌}
+use Rattle.std.specs.Prelude.{◌≡◌, ℕ, zero, suc, ◌≤◌, List, [], ◌∷◌, ◌++◌, length, take, drop, Option, Some, None, ◌==◌, if◌then◌else◌}
 use Rattle.xf_ir.specs.declared.name.OpName.{OpName}
 use Rattle.xf_ir.specs.Tree.{Ops, no_ops, op, Regions, no_regions, region, Tree, cons}
 use Rattle.xf_ir.specs.Spots.{regions_insert}
@@ -25,6 +25,12 @@ InRange r i no_regions = ⊥
 InRange zero i (region args ops rest) = i ≤ length (heads ops)
 InRange (suc r) i (region args ops rest) = InRange r i rest
 
+-- the last name
+abbrev pub last_name : List OpName → Option OpName
+last_name [] = None
+last_name (n ∷ []) = Some n
+last_name (n ∷ (m ∷ ns)) = last_name (m ∷ ns)
+
 -- the children before the place, and from it on
 abbrev pub kids_before : ℕ → ℕ → Regions → List OpName
 kids_before r i no_regions = []
@@ -40,3 +46,8 @@ kids_after (suc r) i (region args ops rest) = kids_after r i rest
 abbrev pub bare : List (List PayloadType) → Regions
 bare [] = no_regions
 bare (args ∷ more) = region args no_ops (bare more)
+
+-- the place is one of the regions, and this child stands before it, or none does
+pub record StandsAt (r i : ℕ) (sibling : Option OpName) (rs : Regions) : Type 0 where
+  pub in_range : InRange r i rs
+  pub before : last_name (kids_before r i rs) ≡ sibling

@@ -1,0 +1,12 @@
+//! The operations of a module in slots, linked to their neighbours, and seen as the tree.
+#![tactic(auto)]
+
+mod args;
+mod bed;
+mod kid;
+mod node;
+
+pub use args::ArgsList;
+pub use bed::Bed;
+pub use kid::Kid;
+pub use node::{Node, OpId};
