@@ -40,7 +40,7 @@ clash nodes n i a un e k = let c : true ≡ false = sym (eq-eqb a.name.0 n.0 k) 
 name_in : (a b : Node) → Some a ≡ Some b → a.name ≡ b.name
 name_in a b e = let q : a ≡ b = unsome a b e in ap (λ (x : Node). x.name) q
 
-self_has : (u : Tree) → ops_has u.name (cons u no_ops) ≡ true
+pub self_has : (u : Tree) → ops_has u.name (cons u no_ops) ≡ true
 self_has u = or_left (eqb u.name.0 u.name.0) (regions_has u.name u.regions || false) (eq-eqb u.name.0 u.name.0 refl)
 
 root_name : (p : OpName) (r i : ℕ) (t u : Tree) → (tree_put p r i t u).name ≡ u.name

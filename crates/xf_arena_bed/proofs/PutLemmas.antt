@@ -143,7 +143,7 @@ pub record Put (nodes nodes2 : Nodes) (next next2 : List ℕ) (p : OpName) (s be
   pub no_head : (m : OpName) → Placed nodes m → eqb m.0 p.0 ≡ false → head (place m nodes) ≡ before → ⊥
   pub no_item : (m x : OpName) → Placed nodes x → under m (node_at nodes (place x nodes)) ≡ true → eqb m.0 p.0 ≡ false → item_of nodes x ≡ before → ⊥
 
-items_same : (nodes nodes2 : Nodes) (ns : List OpName) → ((x : OpName) → Placed nodes x → place x nodes2 ≡ place x nodes) → AllPlaced nodes ns → map (item_of nodes2) ns ≡ map (item_of nodes) ns
+pub items_same : (nodes nodes2 : Nodes) (ns : List OpName) → ((x : OpName) → Placed nodes x → place x nodes2 ≡ place x nodes) → AllPlaced nodes ns → map (item_of nodes2) ns ≡ map (item_of nodes) ns
 items_same nodes nodes2 [] h p = refl
 items_same nodes nodes2 (n ∷ ns) h p = rw (h n p.0) (ap (λ l. item_of nodes n ∷ l) (items_same nodes nodes2 ns h p.1))
 

@@ -28,12 +28,12 @@ use xf_rings::Rings;
 /// The operations of all blocks that one operation holds stand in one ring of links, in order.
 #[derive(Drop)]
 pub struct Bed {
-    nodes: Vec<Option<Node>>,
-    links: Rings,
-    free: Vec<u32>,
-    index: NameIndex,
-    root: u32,
-    live: u64,
+    pub(crate) nodes: Vec<Option<Node>>,
+    pub(crate) links: Rings,
+    pub(crate) free: Vec<u32>,
+    pub(crate) index: NameIndex,
+    pub(crate) root: u32,
+    pub(crate) live: u64,
 }
 
 impl Model for Bed {

@@ -5,6 +5,7 @@ mod args;
 mod bed;
 mod kid;
 mod node;
+mod slots;
 
 pub use args::ArgsList;
 pub use bed::Bed;

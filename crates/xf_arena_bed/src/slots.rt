@@ -1,0 +1,76 @@
+//! Slots, and what they hold.
+ghost use Rattle.std.specs.Prelude.{◌≡◌, ℕ, ◌<◌, ◌≤◌, ◌^◌, [], ◌∷◌, ◌++◌, length, Some, None, IfSome, IfNone, IfOk, OnOk, OnErr};
+ghost use Rattle.xf_index.specs.Index.{name_at};
+ghost use Rattle.xf_ir.specs.Walk.{tree_find};
+ghost use Rattle.xf_arena_bed.specs.Live.{name_of, IsLive, leaf_of};
+
+use crate::bed::Bed;
+use crate::node::{Node, OpId};
+use std::alloc::{AllocError, Global};
+use xf_index::NameIndex;
+use xf_ir::OpName;
+use xf_rings::Rings;
+use xf_type::NoMemory;
+
+/// Lets the index have a slot more than there are.
+fn grow_index(index: &mut NameIndex, alloc: Global, slots: usize) -> Result<(), NoMemory>
+    requires { slots ≤ length index.old }
+    ensures same { (s : ℕ) → name_at index.new s ≡ name_at index.old s }
+    ensures room { length index.old ≤ length index.new }
+    ensures few { slots < 2 ^ 31 }
+    ensures ok { OnOk result (slots < length index.new) }
+{
+    if slots < index.size() as usize {
+        return Ok(());
+    }
+    index.grow(alloc)
+}
+
+impl Bed {
+    /// The operation that stands in no other.
+    pub fn root(&self) -> OpId
+        ensures live { IsLive self.now result }
+        ensures name { name_of result ≡ self.now.root.name }
+    {
+        match &self.nodes[self.root as usize] {
+            Some(node) => OpId {
+                slot: self.root,
+                serial: node.name.0,
+            },
+            None => unreachable!(),
+        }
+    }
+
+    /// The operation of a name, or `None` exactly where none has it.
+    pub fn id_of(&self, name: OpName) -> Option<OpId>
+        ensures live { IfSome result (λ id. IsLive self.now id) }
+        ensures name { IfSome result (λ id. name_of id ≡ name) }
+        ensures none { IfNone result (tree_find name self.now.root ≡ None) }
+    {
+        match self.index.find(name.0) {
+            Some(slot) => Some(OpId {
+                slot,
+                serial: name.0,
+            }),
+            None => None,
+        }
+    }
+
+    /// One slot more, which is free. Takes constant time, but for the growth of its lists, which double.
+    ///
+    /// Refuses for want of memory alone, which from 2^31 slots on there always is, and is then what it was.
+    pub fn grow(&mut self, alloc: Global) -> Result<(), NoMemory>
+        ensures root { self.new.root ≡ self.old.root }
+        ensures ok { OnOk result (self.new.seats ≡ self.old.seats ++ None ∷ []) }
+        ensures err { OnErr result (self.new ≡ self.old) }
+    {
+        let slots = self.nodes.len();
+        grow_index(&mut self.index, alloc, slots)?;
+        self.nodes.reserve(1)?;
+        self.free.reserve(slots + 1)?;
+        self.links.grow_twice()?;
+        self.nodes.push_reserved(None);
+        self.free.push_reserved(slots as u32);
+        Ok(())
+    }
+}
