@@ -1,6 +1,7 @@
 -- Live operations.
 use Rattle.std.specs.Prelude.{◌≡◌, ℕ, List, Option, Some, None}
-use Rattle.xf_ir.specs.Tree.{Tree}
+use Rattle.xf_ir.specs.Tree.{Tree, Regions}
+use Rattle.xf_arena_tree.specs.Fills.{hollow}
 use Rattle.xf_arena_tree.specs.Puts.{bare}
 use Rattle.xf_arena_bed.specs.declared.node.Node.{Node}
 use Rattle.xf_ir.specs.declared.name.OpName.{OpName}
@@ -33,6 +34,18 @@ leaf_of x =
       operands = x.operands;
       results = x.results;
       regions = bare x.regions;
+    }
+
+-- the tree of a node and blocks, the first of which are still empty
+abbrev pub partly : Node → ℕ → Regions → Tree
+partly x k rs =
+    record {
+      name = x.name;
+      kind = x.kind;
+      attrs = x.attrs;
+      operands = x.operands;
+      results = x.results;
+      regions = hollow k rs;
     }
 
 -- the number behind which a child is linked

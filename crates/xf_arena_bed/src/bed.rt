@@ -5,7 +5,7 @@ ghost use Rattle.xf_ir.specs.declared.name.OpName.{OpName};
 ghost use Rattle.xf_ir.specs.Count.{tree_count};
 ghost use Rattle.xf_ir.specs.Tree.{Tree, cons, no_ops};
 ghost use Rattle.xf_ir.specs.Walk.{tree_find};
-ghost use Rattle.xf_arena_tree.specs.Names.{ops_has};
+ghost use Rattle.xf_arena_tree.specs.Names.{ops_has, OpsDistinct};
 ghost use Rattle.xf_arena_tree.specs.Without.{tree_without, OpsLeaf, OpsWhere};
 ghost use Rattle.xf_arena_tree.specs.Puts.{tree_put, StandsAt};
 ghost use Rattle.xf_arena_tree.specs.Kids.{Inner, inner_of, first_item};
@@ -103,8 +103,10 @@ impl Bed {
         requires is_new { ops_has node.name (cons self.old.root no_ops) ≡ false }
         requires room { tree_count self.old.root < length self.old.seats }
         ensures root { self.new.root ≡ tree_put (name_of parent) at.region at.at (leaf_of node) self.old.root }
+        ensures count { tree_count self.new.root ≡ tree_count self.old.root + 1 }
+        ensures names { OpsDistinct (cons self.new.root no_ops) }
         ensures live { IsLive self.new result }
-        ensures name { result.serial ≡ node.name.0 }
+        ensures name { name_of result ≡ node.name }
         ensures slots { length self.new.seats ≡ length self.old.seats }
         ensures seats { (id : OpId) → IsLive self.old id → IsLive self.new id }
     {

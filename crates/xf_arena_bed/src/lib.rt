@@ -5,6 +5,7 @@ mod args;
 mod bed;
 mod kid;
 mod node;
+mod restore;
 mod slots;
 
 pub use args::ArgsList;

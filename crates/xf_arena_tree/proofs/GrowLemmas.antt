@@ -56,15 +56,3 @@ mutual
   regions_put_put n k j c p r i u (region args ops rest) e h =
       let q = or_parts (ops_has n ops) (regions_has n rest) h in
       rw (put_put n k j c p r i u ops e q.0, regions_put_put n k j c p r i u rest e q.1) refl
-
--- the first regions empty
-abbrev pub hollow : ℕ → Regions → Regions
-hollow zero rs = rs
-hollow (suc k) no_regions = no_regions
-hollow (suc k) (region args ops rest) = region args no_ops (hollow k rest)
-
--- the first operations of a block
-abbrev pub ops_take : ℕ → Ops → Ops
-ops_take zero ops = no_ops
-ops_take (suc j) no_ops = no_ops
-ops_take (suc j) (op n k ds os ts rs rest) = op n k ds os ts rs (ops_take j rest)

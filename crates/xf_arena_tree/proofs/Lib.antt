@@ -6,3 +6,5 @@ pub mod SplitLemmas
 pub mod ListedLemmas
 pub mod OnceLemmas
 pub mod WhereLemmas
+pub mod FillLemmas
+pub mod BridgeLemmas

@@ -115,7 +115,7 @@ insert_regions_count zero i t (region args ops rest) l = omega (arith, insert_co
 insert_regions_count (suc r) i t (region args ops rest) l = omega (arith, insert_regions_count r i t rest l)
 
 mutual
-  put_same_count : (p : OpName) (r i : ℕ) (t : Tree) (ops : Ops) → ops_has p ops ≡ false → ops_count (ops_put p r i t ops) ≡ ops_count ops
+  pub put_same_count : (p : OpName) (r i : ℕ) (t : Tree) (ops : Ops) → ops_has p ops ≡ false → ops_count (ops_put p r i t ops) ≡ ops_count ops
   put_same_count p r i t no_ops h = refl
   put_same_count p r i t (op n k ds os ts rs rest) h =
       let q = parts3 (eqb n.0 p.0) (regions_has p rs) (ops_has p rest) h in

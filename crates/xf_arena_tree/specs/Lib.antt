@@ -4,3 +4,4 @@ pub mod Puts
 pub mod Inner
 pub mod Listed
 pub mod Kids
+pub mod Fills

@@ -1,8 +1,12 @@
-use Rattle.std.proofs.Common.{rules, ◌≡◌, ◌<◌, ℕ, arith, length, sym, ◌∙◌, ap, refl}
+use Rattle.std.proofs.Common.{rules, ◌≡◌, ◌<◌, ℕ, arith, length, sym, ◌∙◌, ap, subst, refl, ◌+◌}
 use Rattle.std.specs.Prelude.{None, Some, map}
 use Rattle.std.proofs.lemmas.List.{length-set, length-map}
+use Rattle.xf_ir.specs.Tree.{Tree, cons, no_ops}
+use Rattle.xf_arena_tree.specs.Names.{OpsDistinct}
 use Rattle.xf_arena_tree.specs.Puts.{tree_put}
 use Rattle.xf_arena_bed.specs.Live.{name_of, leaf_of}
+use Rattle.xf_ir.specs.Count.{tree_count}
+use Rattle.xf_arena_bed.specs.Value.{Layout}
 use Rattle.xf_arena_bed.specs.Seat.{seat_of}
 use Rattle.xf_arena_bed.proofs.CloseLemmas.{closed, rebuilt_is, indexed_with}
 use Rattle.xf_arena_bed.proofs.FreeLemmas.{taken, inserted}
@@ -101,3 +105,25 @@ returns-clause-seats c = λ id l.
 pub returns-clause-slots : goal.returns-clause-slots
 returns-clause-slots c =
     rw c.set_node.ensures (seats_long c.self.inside c.args.self.now c.in-Some.slot (Some c.args.node) c.self.view_is)
+
+pub returns-clause-names : goal.returns-clause-names
+returns-clause-names c =
+    let k = inserted c.self.inside c.args.self.now c.args.node c.args.parent c.args.sibling c.args.at.region c.args.at.at
+        _ _ c.self.invariant c.self.view_is c.requires.live c.requires.sibling c.requires.place c.requires.is_new
+        c.requires.home c.in-Some.ensures.items
+    in
+    let h = rw (← c.number_before.ensures, ← c.link.ensures, ← c.set_node.ensures) at k.holds in
+    let q = rebuilt_is _ _ _ _ (c.self.inside.live + 1) h (omega (arith, k.count)) in
+    subst (λ (t : Tree). OpsDistinct (cons t no_ops)) (sym q) h.distinct
+
+pub returns-clause-count : goal.returns-clause-count
+returns-clause-count c =
+    let k = inserted c.self.inside c.args.self.now c.args.node c.args.parent c.args.sibling c.args.at.region c.args.at.at
+        _ _ c.self.invariant c.self.view_is c.requires.live c.requires.sibling c.requires.place c.requires.is_new
+        c.requires.home c.in-Some.ensures.items
+    in
+    let h = rw (← c.number_before.ensures, ← c.link.ensures, ← c.set_node.ensures) at k.holds in
+    let q = rebuilt_is _ _ _ _ (c.self.inside.live + 1) h (omega (arith, k.count)) in
+    let was = c.self.invariant.count in
+    let v = ap (λ (m : Layout). tree_count m.root) c.self.view_is in
+    ap tree_count q ∙ omega (arith, k.count, was, v)
