@@ -1,13 +1,17 @@
 -- The children of an operation, as the links have them.
-use Rattle.std.proofs.Common.{◌≡◌, ℕ, zero, suc, ◌+◌, ◌*◌, ◌/◌, ◌%◌, ◌<◌, List, [], ◌∷◌, ◌++◌, length, slice_index}
+use Rattle.std.proofs.Common.{◌≡◌, ℕ, zero, suc, ◌+◌, ◌*◌, ◌/◌, ◌%◌, ◌<◌, ◌≤◌, List, [], ◌∷◌, ◌++◌, length, slice_index}
 use Rattle.std.proofs.Common.{sym, ◌∙◌, ap, arith, refl, Bool, true, false, cond, eqb, ◌⊎◌, inl, inr}
 use Rattle.std.specs.Prelude.{map, Option, Some, None}
-use Rattle.std.proofs.lemmas.List.{map-append}
+use Rattle.std.proofs.lemmas.List.{map-append, length-map}
 use Rattle.std.proofs.lemmas.Bool.{cases_Bool, eq-eqb, ne_eqb}
 use Rattle.xf_ir.specs.declared.name.OpName.{OpName}
 use Rattle.xf_ir.specs.Tree.{Ops, no_ops, op, Regions, no_regions, region, Tree, cons}
 use Rattle.xf_ir.specs.Walk.{ops_find, regions_find, tree_find, first_of}
-use Rattle.xf_rings.specs.Ring.{Path}
+use Rattle.xf_ir.specs.Lists.{Each}
+use Rattle.xf_ir.specs.Count.{tree_count, ops_count, regions_count}
+use Rattle.xf_ir.proofs.Found.{first_cases}
+use Rattle.xf_rings.specs.Ring.{Path, chain}
+use Rattle.xf_rings.specs.Groups.{IsLeft, Lacks}
 use Rattle.xf_arena_tree.specs.Names.{heads, kids, ops_has}
 use Rattle.xf_arena_tree.specs.Kids.{Inner, block_inner, inner_of, first_item}
 use Rattle.xf_arena_tree.proofs.SplitLemmas.{find_has}
@@ -21,9 +25,12 @@ use Rattle.xf_arena_bed.specs.Seat.{seat_of}
 use Rattle.xf_arena_bed.specs.Live.{name_of, IsLive}
 use Rattle.xf_arena_bed.specs.Sits.{Nodes, node_at, place, head, item, item_of, home_of, OpsSit, RegionsSit, Holds}
 use Rattle.xf_arena_bed.specs.View.{layout_of, IsBed}
-use Rattle.xf_arena_bed.specs.Kids.{kid_at_home, kid_of_node, kid_seen, inner_kid}
+use Rattle.xf_arena_bed.specs.Kids.{kid_at_home, kid_of_node, kid_seen, inner_kid, kid_before}
+use Rattle.xf_arena_bed.specs.Kids.{kids_left, AreKids, inner_kids}
 use Rattle.xf_arena_bed.proofs.CloseLemmas.{seat_is}
 use Rattle.xf_arena_bed.proofs.FindLemmas.{ops_found, Found}
+use Rattle.xf_arena_bed.proofs.PlaceLemmas.{place_within}
+use Rattle.xf_arena_bed.proofs.RebuiltLemmas.{Not, chain_is, kids_within}
 use Rattle.xf_arena_bed.proofs.SpotLemmas.{stands}
 
 -- ---- found by name
@@ -187,3 +194,150 @@ next_seen nodes next p ks us x vs slot v shown result r w e q l z =
     let s = later_step nodes next p (head (place p nodes)) us x vs (rw w at r.path) (rw w at r.nodes_are) in
     let same : slice_index next (item_of nodes x.name) ≡ v = ap (λ i. slice_index next (item i)) e ∙ sym q in
     ap inner_kid (z ∙ ap (λ m. kid_seen m v) l) ∙ seen_step nodes p v vs (rw same at s)
+
+-- ---- the whole row
+
+pub kid_of : (nodes : Nodes) (p : OpName) (x : Inner) → KidNode nodes p x
+    → (k : Kid) × ((kid_seen nodes (item_of nodes x.name) ≡ Some k)
+    × (x ≡ record { name = name_of k.id; region = k.region }))
+kid_of nodes p x w =
+    let s = seen_step nodes p (item_of nodes x.name) (x ∷ []) (refl, w) in
+    kid_out (kid_seen nodes (item_of nodes x.name)) x s
+  where
+    some_inner : (a b : Inner) → Some a ≡ Some b → a ≡ b
+    some_inner a b e = cc
+
+    kid_out : (y : Option Kid) (x : Inner) → inner_kid y ≡ Some x
+        → (k : Kid) × ((y ≡ Some k) × (x ≡ record { name = name_of k.id; region = k.region }))
+    kid_out None x e = cc
+    kid_out (Some k) x e = (k, (refl, some_inner x (record { name = name_of k.id; region = k.region }) (sym e)))
+
+pub are_kids : (nodes : Nodes) (p : OpName) (ks : List Inner) → AllKidNodes nodes p ks
+    → AreKids nodes (kid_items nodes ks)
+are_kids nodes p [] a = tt
+are_kids nodes p (x ∷ ks) a = (let k = kid_of nodes p x a.0 in (k.0, k.1.0), are_kids nodes p ks a.1)
+
+pub inner_left : (nodes : Nodes) (p : OpName) (ks : List Inner) → AllKidNodes nodes p ks
+    → inner_kids (kids_left nodes (kid_items nodes ks)) ≡ ks
+inner_left nodes p [] a = refl
+inner_left nodes p (x ∷ ks) a =
+    let k = kid_of nodes p x a.0 in
+    let rest = inner_left nodes p ks a.1 in
+    rw k.1.0 (ap (λ l. record { name = name_of k.0.id; region = k.0.region } ∷ l) rest ∙ ap (λ y. y ∷ ks) (sym k.1.1))
+
+pub left_live : (nodes : Nodes) (vs : List ℕ)
+    → Each (λ (k : Kid). seat_at (map seat_of nodes) k.id.slot ≡ Some (name_of k.id)) (kids_left nodes vs)
+left_live nodes [] = tt
+left_live nodes (v ∷ vs) = before_live nodes (kid_seen nodes v) (kids_left nodes vs) (λ k e. seen_live nodes v k e)
+    (left_live nodes vs)
+  where
+    before_live : (nodes : Nodes) (y : Option Kid) (ks : List Kid)
+        → ((k : Kid) → y ≡ Some k → seat_at (map seat_of nodes) k.id.slot ≡ Some (name_of k.id))
+        → Each (λ (k : Kid). seat_at (map seat_of nodes) k.id.slot ≡ Some (name_of k.id)) ks
+        → Each (λ (k : Kid). seat_at (map seat_of nodes) k.id.slot ≡ Some (name_of k.id)) (kid_before y ks)
+    before_live nodes None ks h a = a
+    before_live nodes (Some k) ks h a = (h k refl, a)
+
+-- the numbers of the row are what the links have
+pub record Whole (nodes : Nodes) (next : List ℕ) (s : ℕ) (name : OpName) (inner : List Inner) : Type 0 where
+  pub row : RowOf nodes next name inner
+  pub place : place name nodes ≡ s
+  pub left : IsLeft next (head s) (head s) (chain next (length next) (head s) (head s))
+  pub numbers : chain next (length next) (head s) (head s) ≡ kid_items nodes inner
+
+mutual
+  find_count : (x : OpName) (ops : Ops) (t : Tree) → ops_find x ops ≡ Some t → tree_count t ≤ ops_count ops
+  find_count x no_ops t e = cc
+  find_count x (op n k ds os ts rs rest) t e =
+      elim (cases_Bool (eqb n.0 x.0)) [
+        | inl q ↦ (
+            let here : Tree =
+                record { name = n; kind = k; attrs = ds; operands = os; results = ts; regions = rs }
+            in
+            let w : here ≡ t = same_tree here t (rw q at e) in
+            omega (arith, ap tree_count w))
+        | inr q ↦ elim (first_cases (regions_find x rs) (ops_find x rest) t (rw q at e)) [
+          | inl a ↦ omega (arith, regions_find_count x rs t a)
+          | inr a ↦ omega (arith, find_count x rest t a.1)
+        ]
+      ]
+
+  regions_find_count : (x : OpName) (rs : Regions) (t : Tree) → regions_find x rs ≡ Some t → tree_count t ≤ regions_count rs
+  regions_find_count x no_regions t e = cc
+  regions_find_count x (region args ops rest) t e =
+      elim (first_cases (ops_find x ops) (regions_find x rest) t e) [
+        | inl a ↦ omega (arith, find_count x ops t a)
+        | inr a ↦ omega (arith, regions_find_count x rest t a.1)
+      ]
+
+inner_length : (nodes : Nodes) (r : ℕ) (rs : Regions) → length (kid_items nodes (inner_of r rs)) ≡ length (kids rs)
+inner_length nodes r rs = ap length (inner_items nodes r rs) ∙ length-map (kids rs) (item_of nodes)
+
+items_lack : (nodes : Nodes) (s : ℕ) (ks : List Inner) → Not (head s) (kid_items nodes ks)
+items_lack nodes s [] = tt
+items_lack nodes s (k ∷ ks) = ((λ e. omega arith), items_lack nodes s ks)
+
+lacks_of : (b : ℕ) (xs : List ℕ) → Not b xs → Lacks b xs
+lacks_of b [] n = tt
+lacks_of b (x ∷ xs) n = (n.0, lacks_of b xs n.1)
+
+pub whole : (a : Inside) (v : Layout) (id : OpId) (t : Tree) → IsBed a → layout_of a ≡ v → IsLive v id
+    → tree_find (name_of id) v.root ≡ Some t → Whole a.nodes.items a.links id.slot (name_of id) (inner_of 0 t.regions)
+whole a v id t i e live q =
+    let nodes = a.nodes.items in
+    let next = a.links in
+    let s = stands a v id i e live in
+    let r = row_of a v (name_of id) t i e q in
+    let ks = inner_of 0 t.regions in
+    let root : (layout_of a).root ≡ v.root = ap (λ (m : Layout). m.root) e in
+    let count : a.live ≡ tree_count v.root = rw root at i.count in
+    let found = find_count (name_of id) (cons v.root no_ops) t (find_is (name_of id) v.root ∙ q) in
+    let within = kids_within t.regions in
+    let len = inner_length nodes 0 t.regions in
+    let total = i.free.total in
+    let sz = s.holds.size in
+    let short : length (kid_items nodes ks) < length next = omega arith in
+    let path : Path next (head id.slot) (kid_items nodes ks) (head id.slot) = rw s.place at r.path in
+    let lacks = items_lack nodes id.slot ks in
+    let c = chain_is next (length next) (head id.slot) (kid_items nodes ks) (head id.slot) path lacks short in
+    let pl = place_within nodes (name_of id) s.placed in
+    record {
+      row = r;
+      place = s.place;
+      left = rw c (record {
+        path = path;
+        lacks = lacks_of (head id.slot) (kid_items nodes ks) lacks;
+        short = short;
+        from_in = (let z = s.place in omega arith);
+      });
+      numbers = c;
+    }
+
+-- every live operation is found
+pub live_found : (a : Inside) (v : Layout) (id : OpId) → IsBed a → layout_of a ≡ v → IsLive v id
+    → (t : Tree) × (tree_find (name_of id) v.root ≡ Some t)
+live_found a v id i e live =
+    let s = stands a v id i e live in
+    let f = ops_found a.nodes.items a.links None (cons v.root no_ops) (name_of id) s.holds.sits s.has in
+    (f.0, sym (find_is (name_of id) v.root) ∙ f.1.0)
+
+pub kids_are : (nodes : Nodes) (next : List ℕ) (s : ℕ) (shown : Nodes) (members : List ℕ) (p : OpName)
+    (ks : List Inner) → Whole nodes next s p ks → shown ≡ nodes
+    → members ≡ chain next (length next) (head s) (head s) → AreKids shown members
+kids_are nodes next s shown members p ks w e q =
+    let z = q ∙ w.numbers in
+    rw (e, z) (are_kids nodes p ks w.row.nodes_are)
+
+pub kids_live : (a : Inside) (v : Layout) (shown : Nodes) (members : List ℕ) → layout_of a ≡ v → shown ≡ a.nodes.items
+    → Each (λ k. IsLive v k.id) (kids_left shown members)
+kids_live a v shown members e q = rw (← e, q) (left_live a.nodes.items members)
+
+pub kids_inner : (a : Inside) (v : Layout) (p : OpId) (shown : Nodes) (members : List ℕ) (t : Tree) → IsBed a
+    → layout_of a ≡ v → IsLive v p → tree_find (name_of p) v.root ≡ Some t → shown ≡ a.nodes.items
+    → members ≡ chain a.links (length a.links) (head p.slot) (head p.slot)
+    → inner_kids (kids_left shown members) ≡ inner_of 0 t.regions
+kids_inner a v p shown members t i e l f q z =
+    let nodes = a.nodes.items in
+    let w = whole a v p t i e l f in
+    let n = z ∙ w.numbers in
+    rw (q, n) (inner_left nodes (name_of p) (inner_of 0 t.regions) w.row.nodes_are)

@@ -4,6 +4,7 @@
 mod args;
 mod bed;
 mod kid;
+mod kids;
 mod node;
 mod restore;
 mod slots;
@@ -11,4 +12,5 @@ mod slots;
 pub use args::ArgsList;
 pub use bed::Bed;
 pub use kid::Kid;
+pub use kids::Kids;
 pub use node::{Node, OpId};
