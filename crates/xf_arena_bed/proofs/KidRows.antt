@@ -12,7 +12,7 @@ use Rattle.xf_ir.specs.Count.{tree_count, ops_count, regions_count}
 use Rattle.xf_ir.proofs.Found.{first_cases}
 use Rattle.xf_rings.specs.Ring.{Path, chain}
 use Rattle.xf_rings.specs.Groups.{IsLeft, Lacks}
-use Rattle.xf_arena_tree.specs.Names.{heads, kids, ops_has}
+use Rattle.xf_arena_tree.specs.Names.{heads, kids, ops_has, OpsDistinct}
 use Rattle.xf_arena_tree.specs.Kids.{Inner, block_inner, inner_of, first_item}
 use Rattle.xf_arena_tree.proofs.SplitLemmas.{find_has}
 use Rattle.xf_arena_bed.specs.declared.bed.Bed.TheInside.{Inside}
@@ -341,3 +341,9 @@ kids_inner a v p shown members t i e l f q z =
     let w = whole a v p t i e l f in
     let n = z ∙ w.numbers in
     rw (q, n) (inner_left nodes (name_of p) (inner_of 0 t.regions) w.row.nodes_are)
+
+pub names_distinct : (a : Inside) (v : Layout) → IsBed a → layout_of a ≡ v → OpsDistinct (cons v.root no_ops)
+names_distinct a v i e =
+    let root : (layout_of a).root ≡ v.root = ap (λ (m : Layout). m.root) e in
+    let h : Holds a.nodes.items a.links a.root v.root = rw root at i.holds in
+    h.distinct

@@ -2,8 +2,9 @@
 ghost use Rattle.std.specs.Prelude.{◌≡◌, ◌++◌, [], Some, option_to_list, IfNone};
 ghost use Rattle.std.specs.Iterator.{YieldsFirst, item_count};
 ghost use Rattle.xf_ir.specs.Lists.{Each};
-ghost use Rattle.xf_ir.specs.Tree.{Tree};
+ghost use Rattle.xf_ir.specs.Tree.{Tree, cons, no_ops};
 ghost use Rattle.xf_ir.specs.Walk.{tree_find};
+ghost use Rattle.xf_arena_tree.specs.Names.{OpsDistinct};
 ghost use Rattle.xf_arena_tree.specs.Kids.{inner_of};
 ghost use Rattle.xf_arena_bed.specs.Live.{name_of, IsLive};
 ghost use Rattle.xf_arena_bed.specs.Kids.{kids_left, AreKids, inner_kids};
@@ -64,6 +65,8 @@ impl Bed {
     /// The operations that one holds, in the order of its regions and blocks.
     pub fn kids(&self, id: OpId) -> Kids<'_>
         requires { IsLive self.now id }
+        ensures names { OpsDistinct (cons self.now.root no_ops) }
+        ensures found { (t : Tree) × (tree_find (name_of id) self.now.root ≡ Some t) }
         ensures live { Each (λ k. IsLive self.now k.id) result }
         ensures all { (t : Tree) → tree_find (name_of id) self.now.root ≡ Some t
             → inner_kids result ≡ inner_of 0 t.regions }

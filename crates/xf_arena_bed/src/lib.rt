@@ -8,6 +8,7 @@ mod kids;
 mod node;
 mod restore;
 mod slots;
+mod walk;
 
 pub use args::ArgsList;
 pub use bed::Bed;

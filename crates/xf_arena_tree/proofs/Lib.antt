@@ -8,3 +8,4 @@ pub mod OnceLemmas
 pub mod WhereLemmas
 pub mod FillLemmas
 pub mod BridgeLemmas
+pub mod KidsLemmas

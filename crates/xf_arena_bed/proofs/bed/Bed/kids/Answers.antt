@@ -1,5 +1,5 @@
 use Rattle.std.proofs.Common.{◌≡◌}
-use Rattle.xf_arena_bed.proofs.KidRows.{whole, live_found, kids_are, kids_live, kids_inner}
+use Rattle.xf_arena_bed.proofs.KidRows.{whole, live_found, kids_are, kids_live, kids_inner, names_distinct}
 use Rattle.xf_arena_bed.proofs.bed.Bed.kids.Goals as goal
 
 pub of-requires : goal.of-requires
@@ -20,3 +20,9 @@ pub returns-clause-all : goal.returns-clause-all
 returns-clause-all c = λ t e.
     kids_inner c.self.inside c.args.self.now c.args.id _ _ t c.self.invariant c.self.view_is c.requires e
     c.as_slice.ensures.value c.of.ensures
+
+pub returns-clause-found : goal.returns-clause-found
+returns-clause-found c = live_found c.self.inside c.args.self.now c.args.id c.self.invariant c.self.view_is c.requires
+
+pub returns-clause-names : goal.returns-clause-names
+returns-clause-names c = names_distinct c.self.inside c.args.self.now c.self.invariant c.self.view_is
