@@ -3,6 +3,7 @@ ghost use Rattle.std.specs.Prelude.{◌≡◌, ℕ, ◌+◌, ◌<◌, ◌==◌, 
 ghost use Rattle.std.specs.Prelude.{List, ◌∷◌, ◌++◌, option_map};
 ghost use Rattle.xf_ir.specs.declared.name.OpName.{OpName};
 ghost use Rattle.xf_ir.specs.Count.{tree_count};
+ghost use Rattle.xf_ir.specs.Edits.{tree_erased};
 ghost use Rattle.xf_ir.specs.Tree.{Tree, cons, no_ops};
 ghost use Rattle.xf_ir.specs.Walk.{tree_find};
 ghost use Rattle.xf_arena_tree.specs.Names.{ops_has, OpsDistinct};
@@ -147,6 +148,7 @@ impl Bed {
     pub fn last_kid(&self, id: OpId) -> Option<OpId>
         requires live { IsLive self.now id }
         requires low { (self.now.root.name.0 == id.serial) ≡ false }
+        ensures exact { (o : OpName) → tree_without o self.now.root ≡ tree_erased o self.now.root }
         ensures none { IfNone result (OpsLeaf (name_of id) (cons self.now.root no_ops)) }
         ensures live { IfSome result (λ k. IsLive self.now k) }
         ensures inner { IfSome result (λ k. IsInner (name_of k) (name_of id) self.now.root) }

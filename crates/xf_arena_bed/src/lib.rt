@@ -3,6 +3,7 @@
 
 mod args;
 mod bed;
+mod edit;
 mod kid;
 mod kids;
 mod node;

@@ -1,7 +1,9 @@
 //! Slots, and what they hold.
 ghost use Rattle.std.specs.Prelude.{◌≡◌, ℕ, ◌<◌, ◌≤◌, ◌^◌, [], ◌∷◌, ◌++◌, length, Some, None, IfSome, IfNone, IfOk, OnOk, OnErr};
 ghost use Rattle.xf_index.specs.Index.{name_at};
+ghost use Rattle.xf_ir.specs.Tree.{cons, no_ops};
 ghost use Rattle.xf_ir.specs.Walk.{tree_find};
+ghost use Rattle.xf_arena_tree.specs.Names.{OpsDistinct};
 ghost use Rattle.xf_arena_bed.specs.Live.{name_of, IsLive, leaf_of};
 
 use crate::bed::Bed;
@@ -46,6 +48,7 @@ impl Bed {
         ensures live { IfSome result (λ id. IsLive self.now id) }
         ensures name { IfSome result (λ id. name_of id ≡ name) }
         ensures none { IfNone result (tree_find name self.now.root ≡ None) }
+        ensures distinct { OpsDistinct (cons self.now.root no_ops) }
     {
         match self.index.find(name.0) {
             Some(slot) => Some(OpId {
