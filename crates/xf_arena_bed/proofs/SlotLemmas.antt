@@ -1,19 +1,20 @@
 -- One slot more, the first slot, and the root.
 use Rattle.std.proofs.Common.{◌≡◌, ℕ, zero, suc, ◌+◌, ◌*◌, ◌<◌, ◌≤◌, ◌^◌, List, [], ◌∷◌, ◌++◌, length, slice_index}
 use Rattle.std.proofs.Common.{sym, ◌∙◌, ap, arith, refl, Bool, true, false, eqb, ◌||◌, ◌⊎◌, inl, inr, length-append}
-use Rattle.std.specs.Prelude.{map, Option, Some, None, vec_capacity}
-use Rattle.std.proofs.lemmas.List.{get_or_append_left, map-append}
+use Rattle.std.specs.Prelude.{map, Option, Some, None, vec_capacity, slice_set}
+use Rattle.std.proofs.lemmas.List.{get_or_append_left, map-append, get_or-set_same, get_or-set_other, length-set, length-map}
 use Rattle.std.proofs.Math.Seq.{get_or-append_seam}
 use Rattle.std.proofs.lemmas.Bool.{eq-eqb, cases_lt, cases_Bool, cases_eq}
+use Rattle.xf_type.specs.declared.payload_type.PayloadType.{PayloadType}
 use Rattle.xf_ir.specs.declared.name.OpName.{OpName}
 use Rattle.xf_ir.specs.RuleBlocks.{block_args}
 use Rattle.xf_ir.specs.Tree.{Ops, no_ops, op, Regions, no_regions, region, Tree, cons}
-use Rattle.xf_ir.specs.Count.{tree_count}
+use Rattle.xf_ir.specs.Count.{tree_count, regions_count}
 use Rattle.xf_ir.specs.Walk.{tree_find}
 use Rattle.xf_rings.specs.Ring.{Path}
 use Rattle.xf_rings.specs.Groups.{AllOnce, Lacks}
-use Rattle.xf_index.specs.Index.{name_at}
-use Rattle.xf_arena_tree.specs.Names.{kids, ops_has}
+use Rattle.xf_index.specs.Index.{name_at, IsGrown}
+use Rattle.xf_arena_tree.specs.Names.{kids, ops_has, regions_has, RegionsDistinct}
 use Rattle.xf_arena_tree.specs.Puts.{bare}
 use Rattle.xf_arena_tree.proofs.SplitLemmas.{ops_unfound}
 use Rattle.xf_arena_bed.specs.declared.bed.Bed.TheInside.{Inside}
@@ -23,7 +24,7 @@ use Rattle.xf_arena_bed.specs.Home.{Home}
 use Rattle.xf_arena_bed.specs.Value.{Layout, seat_at}
 use Rattle.xf_arena_bed.specs.Seat.{seat_of}
 use Rattle.xf_arena_bed.specs.Live.{name_of, IsLive, leaf_of}
-use Rattle.xf_arena_bed.specs.Sits.{Nodes, node_at, holds, place, head, item, item_of, OpsSit, Holds, AllFree, FreeOk}
+use Rattle.xf_arena_bed.specs.Sits.{Nodes, node_at, holds, place, head, item, item_of, OpsSit, RegionsSit, Holds, AllFree, FreeOk}
 use Rattle.xf_arena_bed.specs.View.{layout_of, IsBed, IsIndexed, number_in}
 use Rattle.xf_arena_bed.proofs.PlaceLemmas.{Placed, AllPlaced, place_within}
 use Rattle.xf_arena_bed.proofs.LeafLemmas.{ops_placed, holder}
@@ -267,3 +268,107 @@ root_there a v y i e q w =
     let r = root_node a.nodes.items a.links a.root v.root h in
     let z : None ≡ Some r.node = sym w ∙ q ∙ r.at in
     cc
+
+-- ---- the first slot
+
+bare_kids : (args : List (List PayloadType)) → kids (bare args) ≡ []
+bare_kids [] = refl
+bare_kids (a ∷ more) = bare_kids more
+
+bare_args : (args : List (List PayloadType)) → block_args (bare args) ≡ args
+bare_args [] = refl
+bare_args (a ∷ more) = ap (λ l. a ∷ l) (bare_args more)
+
+pub bare_count : (args : List (List PayloadType)) → regions_count (bare args) ≡ 0
+bare_count [] = refl
+bare_count (a ∷ more) = omega (arith, bare_count more)
+
+bare_sit : (nodes : Nodes) (next : List ℕ) (n : OpName) (r : ℕ) (args : List (List PayloadType))
+    → RegionsSit nodes next n r (bare args)
+bare_sit nodes next n r [] = tt
+bare_sit nodes next n r (a ∷ more) = (tt, bare_sit nodes next n (suc r) more)
+
+bare_distinct : (args : List (List PayloadType)) → RegionsDistinct (bare args)
+bare_distinct [] = tt
+bare_distinct (a ∷ more) = ((λ x h. let z : false ≡ true = h in cc), (tt, bare_distinct more))
+
+bare_lacks : (n : OpName) (args : List (List PayloadType)) → regions_has n (bare args) ≡ false
+bare_lacks n [] = refl
+bare_lacks n (a ∷ more) = bare_lacks n more
+
+some_same : (a b : Node) → Some a ≡ Some b → a ≡ b
+some_same a b e = cc
+
+abbrev no_nodes : Nodes
+no_nodes = []
+
+beyond : (s : ℕ) → node_at no_nodes s ≡ None
+beyond zero = refl
+beyond (suc s) = refl
+
+only_first : (y x : Node) (s : ℕ) → node_at (Some x ∷ []) s ≡ Some y → (s ≡ 0) × (x ≡ y)
+only_first y x zero e = (refl, some_same x y e)
+only_first y x (suc s) e = (let z : None ≡ Some y = sym (beyond s) ∙ e in cc)
+
+pub started : (x : Node) → x.parent ≡ None → Holds (Some x ∷ []) (0 ∷ 1 ∷ []) 0 (leaf_of x)
+started x e =
+    let nodes : Nodes = Some x ∷ [] in
+    let same : eqb x.name.0 x.name.0 ≡ true = eq-eqb x.name.0 x.name.0 refl in
+    let p : place x.name nodes ≡ 0 = rw same refl in
+    let has : ops_has x.name (cons (leaf_of x) no_ops) ≡ true = rw same refl in
+    record {
+      sits = (
+        record { node = rw (p, bare_args x.regions, ← e) refl; row = rw (p, bare_kids x.regions) refl },
+        (bare_sit nodes (0 ∷ 1 ∷ []) x.name 0 x.regions, tt),
+      );
+      known = λ s y q. rw (← (only_first y x s q).1) has;
+      apart = record { same = λ s t a b q r z. (only_first a x s q).0 ∙ sym (only_first b x t r).0 };
+      distinct = (bare_lacks x.name x.regions, (refl, ((λ y h. refl), (bare_distinct x.regions, tt))));
+      size = refl;
+      top = sym p;
+    }
+
+pub started_indexed : (x : Node) (more index : List (Option ℕ)) → IsGrown [] more
+    → index ≡ slice_set more 0 (Some x.name.0) → IsIndexed (Some x ∷ []) index
+started_indexed x more index g e =
+    let l = g.longer in
+    rw e record {
+      within = omega (arith, length-set more 0 (Some x.name.0));
+      same = λ s. elim (cases_eq s 0) [
+        | inl q ↦ rw q (get_or-set_same more 0 (Some x.name.0) None l)
+        | inr q ↦
+            get_or-set_other more 0 s (Some x.name.0) None q ∙ g.same s ∙ sym (ap number_in (node_none x s q)) ∙ refl
+      ];
+    }
+  where
+    node_none : (x : Node) (s : ℕ) → (s ≡ 0 → ⊥) → node_at (Some x ∷ []) s ≡ None
+    node_none x zero n = absurd (n refl)
+    node_none x (suc s) n = beyond s
+
+pub started_done : (x : Node) (n m m0 : Nodes) (l l0 f f0 : List ℕ) → x.parent ≡ None → n ≡ m ++ Some x ∷ [] → m ≡ m0
+    → m0 ≡ [] → l ≡ l0 ++ length l0 ∷ [] ++ (length l0 + 1) ∷ [] → l0 ≡ [] → f ≡ f0 → f0 ≡ []
+    → Grown n l 0 (leaf_of x) f 1
+started_done x n m m0 l l0 f f0 e a b c d g h k = rw (a, b, c, d, g, h, k) record {
+  holds = started x e;
+  free_are = record { each = tt; once = tt; total = refl };
+}
+
+pub started_index_done : (x : Node) (n m m0 : Nodes) (more i0 index : List (Option ℕ)) → n ≡ m ++ Some x ∷ [] → m ≡ m0
+    → m0 ≡ [] → i0 ≡ [] → IsGrown i0 more → index ≡ slice_set more 0 (Some x.name.0) → IsIndexed n index
+started_index_done x n m m0 more i0 index a b c d g e = rw (a, b, c) (started_indexed x more index (rw d at g) e)
+
+pub started_view : (n m m0 : Nodes) (x : Node) → n ≡ m ++ Some x ∷ [] → m ≡ m0 → m0 ≡ []
+    → map seat_of n ≡ Some x.name ∷ []
+started_view n m m0 x a b c = rw (a, b, c) refl
+
+pub layout_same : (t u : Tree) (xs ys : List (Option OpName)) → t ≡ u → xs ≡ ys
+    → (let a : Layout = record { root = t; seats = xs } in a) ≡ (let b : Layout = record { root = u; seats = ys } in b)
+layout_same t u xs ys p q = rw (p, q) refl
+
+pub free_count : (a : Inside) (v : Layout) (n : ℕ) → IsBed a → layout_of a ≡ v → n ≡ length a.free.items
+    → tree_count v.root + n ≡ length v.seats
+free_count a v n i e q =
+    let c = ap (λ (m : Layout). tree_count m.root) e in
+    let s = ap (λ (m : Layout). length m.seats) e in
+    let z = length-map a.nodes.items seat_of in
+    omega (arith, i.count, i.free.total, c, s, z)

@@ -1,5 +1,5 @@
 //! Trees taken out, and put at spots.
-ghost use Rattle.std.specs.Prelude.{◌≡◌, ◌≢◌, ℕ, ◌+◌, ◌≤◌, ◌==◌, length, true, false, Some, OnOk, OnErr, IfOk};
+ghost use Rattle.std.specs.Prelude.{◌≡◌, ℕ, ◌+◌, ◌<◌, ◌≤◌, ◌^◌, ◌==◌, length, true, false, Some, OnOk, OnErr, IfOk};
 ghost use Rattle.xf_ir.specs.declared.name.OpName.{OpName};
 ghost use Rattle.xf_ir.specs.Bounds.{TreeIsShort};
 ghost use Rattle.xf_ir.specs.Count.{tree_count};
@@ -36,6 +36,26 @@ impl Bed {
             last = self.last_kid(id);
         }
         self.erase_leaf(id);
+    }
+
+    /// Puts a tree of new names at a spot, and takes slots for it where too few are free; all others stay in their slots.
+    ///
+    /// Refuses for want of memory alone, and then all operations are as before.
+    pub fn insert(&mut self, alloc: Global, tree: Op, at: Spot) -> Result<OpId, NoMemory>
+        requires fresh { Each (λ n. is_among n (tree_names self.old.root) ≡ false) (tree_names tree) }
+        requires once { Once (tree_names tree) }
+        requires spot { IsSpot at self.old.root }
+        requires few { tree_count tree < 2 ^ 32 }
+        requires short { TreeIsShort tree }
+        ensures root { OnOk result (self.new.root ≡ tree_put at tree self.old.root) }
+        ensures live { IfOk result (λ id. IsLive self.new id) }
+        ensures name { IfOk result (λ id. name_of id ≡ tree.name) }
+        ensures slots { length self.old.seats ≤ length self.new.seats }
+        ensures seats { (id : OpId) → IsLive self.old id → IsLive self.new id }
+        ensures err { OnErr result (self.new.root ≡ self.old.root) }
+    {
+        self.reserve(alloc, count(&tree))?;
+        Ok(self.restore(alloc, tree, at))
     }
 
     /// Puts a tree of new names at a spot; all others stay in their slots. Takes time in the number of its operations

@@ -1,9 +1,11 @@
 //! Slots, and what they hold.
-ghost use Rattle.std.specs.Prelude.{◌≡◌, ℕ, ◌<◌, ◌≤◌, ◌^◌, [], ◌∷◌, ◌++◌, length, Some, None, IfSome, IfNone, IfOk, OnOk, OnErr};
+ghost use Rattle.std.specs.Prelude.{◌≡◌, ℕ, ◌+◌, ◌<◌, ◌≤◌, ◌^◌, [], ◌∷◌, ◌++◌, length, Some, None, IfSome, IfNone, IfOk, OnOk, OnErr};
 ghost use Rattle.xf_index.specs.Index.{name_at};
+ghost use Rattle.xf_ir.specs.Count.{tree_count};
 ghost use Rattle.xf_ir.specs.Tree.{cons, no_ops};
 ghost use Rattle.xf_ir.specs.Walk.{tree_find};
 ghost use Rattle.xf_arena_tree.specs.Names.{OpsDistinct};
+ghost use Rattle.xf_arena_bed.specs.declared.node.OpId.{OpId};
 ghost use Rattle.xf_arena_bed.specs.Live.{name_of, IsLive, leaf_of};
 
 use crate::bed::Bed;
@@ -57,6 +59,55 @@ impl Bed {
             }),
             None => None,
         }
+    }
+
+    /// One operation alone, in one slot. Refuses for want of memory alone.
+    pub fn start(alloc: Global, node: Node) -> Result<Bed, NoMemory>
+        requires { node.parent ≡ None }
+        ensures { IfOk result (λ b. b ≡ record { root = leaf_of node; seats = Some node.name ∷ [] }) }
+    {
+        let serial = node.name.0;
+        let mut links = Rings::new(alloc);
+        links.grow_twice()?;
+        let mut index = NameIndex::new(alloc);
+        index.grow(alloc)?;
+        let mut free = Vec::new(alloc);
+        free.reserve(1)?;
+        let mut nodes = Vec::new(alloc);
+        nodes.reserve(1)?;
+        index.put(0, serial);
+        nodes.push_reserved(Some(node));
+        Ok(Bed {
+            nodes,
+            links,
+            free,
+            index,
+            root: 0,
+            live: 1,
+        })
+    }
+
+    /// How many slots are free.
+    pub fn free_slots(&self) -> u64
+        ensures { tree_count self.now.root + result ≡ length self.now.seats }
+    {
+        self.free.len() as u64
+    }
+
+    /// Free slots for so many operations more. Refuses for want of memory alone, and then all operations are as before.
+    pub fn reserve(&mut self, alloc: Global, count: u64) -> Result<(), NoMemory>
+        ensures root { self.new.root ≡ self.old.root }
+        ensures seats { (id : OpId) → IsLive self.old id → IsLive self.new id }
+        ensures slots { length self.old.seats ≤ length self.new.seats }
+        ensures ok { OnOk result (tree_count self.new.root + count ≤ length self.new.seats) }
+    {
+        let free = self.free_slots();
+        if free < count {
+            for _slot in free..count {
+                self.grow(alloc)?;
+            }
+        }
+        Ok(())
     }
 
     /// One slot more, which is free. Takes constant time, but for the growth of its lists, which double.

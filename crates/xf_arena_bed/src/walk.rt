@@ -1,6 +1,8 @@
 //! Places of operations.
-ghost use Rattle.std.specs.Prelude.{◌≡◌};
-ghost use Rattle.xf_ir.specs.Tree.{cons, no_ops};
+ghost use Rattle.std.specs.Prelude.{◌≡◌, List, ◌∷◌, ◌++◌, Some};
+ghost use Rattle.xf_ir.specs.Tree.{Tree, cons, no_ops};
+ghost use Rattle.xf_ir.specs.Walk.{tree_find};
+ghost use Rattle.xf_arena_tree.specs.Kids.{Inner, inner_of, first_item, names_in};
 ghost use Rattle.xf_arena_tree.specs.Without.{OpsWhere};
 ghost use Rattle.xf_arena_tree.specs.Puts.{InRange, StandsAt};
 ghost use Rattle.xf_arena_bed.specs.Live.{name_of, names_of, IsLive, AreLive};
@@ -34,5 +36,36 @@ impl Bed {
             before = Some(kid.id);
         }
         before
+    }
+
+    /// The first operation of a region's block, or `None` exactly where the block is empty.
+    ///
+    /// Takes constant time for the first region, and else time in the operations of the regions before.
+    pub fn first(&self, id: OpId, region: u32) -> Option<OpId>
+        requires { IsLive self.now id }
+        ensures live { AreLive self.now result }
+        ensures first { (t : Tree) → tree_find (name_of id) self.now.root ≡ Some t
+            → names_of result ≡ first_item (names_in region (inner_of 0 t.regions)) }
+    {
+        for kid in self.kids(id) {
+            if kid.region == region {
+                return Some(kid.id);
+            }
+        }
+        None
+    }
+
+    /// The operation behind one in its block, or `None` exactly where it is the last one. Takes constant time.
+    pub fn after(&self, id: OpId, region: u32) -> Option<OpId>
+        requires { IsLive self.now id }
+        ensures live { AreLive self.now result }
+        ensures next { (t : Tree) (us vs : List Inner) → tree_find t.name self.now.root ≡ Some t
+            → inner_of 0 t.regions ≡ us ++ record { name = name_of id; region = region } ∷ vs
+            → names_of result ≡ first_item (names_in region vs) }
+    {
+        match self.next_kid(id) {
+            Some(kid) if kid.region == region => Some(kid.id),
+            _ => None,
+        }
     }
 }

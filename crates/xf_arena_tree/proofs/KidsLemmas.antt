@@ -9,7 +9,7 @@ use Rattle.xf_ir.specs.Walk.{ops_find, tree_find}
 use Rattle.xf_arena_tree.specs.Names.{heads, kids, OpsDistinct}
 use Rattle.xf_arena_tree.specs.Without.{OpsWhere}
 use Rattle.xf_arena_tree.specs.Puts.{InRange, kids_before, last_name, StandsAt}
-use Rattle.xf_arena_tree.specs.Kids.{Inner, block_inner, inner_of, before_place, names_in, last_or, heads_at}
+use Rattle.xf_arena_tree.specs.Kids.{Inner, block_inner, inner_of, before_place, names_in, last_or, first_item}
 use Rattle.xf_arena_tree.proofs.BridgeLemmas.{found_where, found_is}
 use Rattle.xf_arena_tree.proofs.WhereLemmas.{where_found}
 
@@ -96,3 +96,62 @@ stands_at p r i root t ks sibling d e k w s =
       before = sym (s ∙ ap (λ l. last_or None (before_place r i l)) k ∙ ap (last_or None) b
           ∙ last_or_is (kids_before r i t.regions));
     })
+
+-- ---- regions rise
+
+abbrev AllFrom : ℕ → List Inner → Type 0
+AllFrom r [] = Unit {0}
+AllFrom r (k ∷ ks) = (r ≤ k.region) × AllFrom r ks
+
+abbrev Rises : List Inner → Type 0
+Rises [] = Unit {0}
+Rises (k ∷ ks) = AllFrom k.region ks × Rises ks
+
+from_less : (r q : ℕ) (ks : List Inner) → q ≤ r → AllFrom r ks → AllFrom q ks
+from_less r q [] h a = tt
+from_less r q (k ∷ ks) h a = ((let z = a.0 in omega arith), from_less r q ks h a.1)
+
+block_from : (r : ℕ) (ops : Ops) (more : List Inner) → AllFrom r more → AllFrom r (block_inner r ops more)
+block_from r no_ops more a = a
+block_from r (op n k ds os ts rs rest) more a = (omega arith, block_from r rest more a)
+
+block_rises : (r : ℕ) (ops : Ops) (more : List Inner) → AllFrom r more → Rises more → Rises (block_inner r ops more)
+block_rises r no_ops more a h = h
+block_rises r (op n k ds os ts rs rest) more a h = (block_from r rest more a, block_rises r rest more a h)
+
+inner_from : (j : ℕ) (rs : Regions) → AllFrom j (inner_of j rs)
+inner_from j no_regions = tt
+inner_from j (region args ops rest) =
+    block_from j ops (inner_of (suc j) rest) (from_less (suc j) j (inner_of (suc j) rest) (omega arith) (inner_from (suc j) rest))
+
+inner_rises : (j : ℕ) (rs : Regions) → Rises (inner_of j rs)
+inner_rises j no_regions = tt
+inner_rises j (region args ops rest) =
+    block_rises j ops (inner_of (suc j) rest)
+    (from_less (suc j) j (inner_of (suc j) rest) (omega arith) (inner_from (suc j) rest)) (inner_rises (suc j) rest)
+
+rises_behind : (us : List Inner) (k : Inner) (vs : List Inner) → Rises (us ++ k ∷ vs) → AllFrom k.region vs × Rises vs
+rises_behind [] k vs h = h
+rises_behind (u ∷ us) k vs h = rises_behind us k vs h.1
+
+none_from : (r q : ℕ) (ks : List Inner) → q < r → AllFrom r ks → names_in q ks ≡ []
+none_from r q [] h a = refl
+none_from r q (k ∷ ks) h a =
+    let e = ne_eqb k.region q (λ z. let w = a.0 in omega arith) in
+    rw e (none_from r q ks h a.1)
+
+-- the first one behind, where it has the region, and else none
+pub next_in : (rs : Regions) (us : List Inner) (n : OpName) (r : ℕ) (vs : List Inner)
+    → inner_of 0 rs ≡ us ++ record { name = n; region = r } ∷ vs → (k : Inner) (ks : List Inner) → vs ≡ k ∷ ks
+    → (k.region ≡ r → first_item (names_in r vs) ≡ Some k.name) × ((k.region ≡ r → ⊥) → first_item (names_in r vs) ≡ None)
+next_in rs us n r vs e k ks q =
+    let me : Inner = record { name = n; region = r } in
+    let b = rises_behind us me vs (rw e at (inner_rises 0 rs)) in
+    let a : AllFrom r (k ∷ ks) = rw q at b.0 in
+    let c : Rises (k ∷ ks) = rw q at b.1 in
+    (
+      (λ z. let w = eq-eqb k.region r z in rw (q, w) refl),
+      (λ z. let w = ne_eqb k.region r z in
+          let y = none_from k.region r ks (let x = a.0 in omega arith) c.0 in
+          rw (q, w, y) refl),
+    )
