@@ -64,8 +64,12 @@ impl Bed {
             → names_of result ≡ first_item (names_in region vs) }
     {
         match self.next_kid(id) {
-            Some(kid) if kid.region == region => Some(kid.id),
-            _ => None,
+            Some(kid) => if kid.region == region {
+                Some(kid.id)
+            } else {
+                None
+            },
+            None => None,
         }
     }
 }
