@@ -1,18 +1,20 @@
 -- What an arena is once its fields are known to hold a tree.
-use Rattle.std.proofs.Common.{◌≡◌, ◌≢◌, ℕ, zero, suc, ◌+◌, ◌-◌, ◌*◌, ◌<◌, ◌≤◌, ◌^◌, List, [], ◌∷◌, ◌++◌, length, slice_index, slice_index_or, slice_set, sym, ◌∙◌, ap, subst, arith, refl, Bool, true, false, eqb, inl, inr}
+use Rattle.std.proofs.Common.{◌≡◌, ℕ, zero, suc, ◌-◌, ◌<◌, ◌≤◌, ◌^◌, List, [], ◌∷◌, length}
+use Rattle.std.proofs.Common.{slice_set, sym, ◌∙◌, ap, arith, refl, true}
+use Rattle.std.proofs.Common.{false, eqb, inl, inr}
 use Rattle.std.specs.Prelude.{map, Option, Some, None, vec_capacity}
 use Rattle.std.proofs.lemmas.Bool.{eq-eqb, cases_eq}
 use Rattle.std.proofs.lemmas.List.{map-set, length-set, get_or-set_same, get_or-set_other}
 use Rattle.xf_ir.specs.declared.name.OpName.{OpName}
-use Rattle.xf_ir.specs.Tree.{Ops, no_ops, op, Regions, no_regions, region, Tree, cons}
+use Rattle.xf_ir.specs.Tree.{Ops, no_ops, op, Tree, cons}
 use Rattle.xf_ir.specs.Count.{tree_count}
-use Rattle.xf_rings.specs.Ring.{Path, unlinked, After}
+use Rattle.xf_rings.specs.Ring.{unlinked, After}
 use Rattle.xf_arena_bed.specs.declared.node.Node.{Node}
 use Rattle.xf_arena_bed.specs.declared.bed.Bed.TheInside.{Inside}
 use Rattle.xf_arena_bed.specs.Value.{Layout, seat_at}
 use Rattle.xf_arena_bed.specs.Seat.{seat_of}
-use Rattle.xf_arena_bed.specs.Sits.{Nodes, node_at, holds, place, head, item, item_of, Holds, FreeOk}
-use Rattle.xf_arena_tree.specs.Without.{ops_without, tree_without, OpsLeaf}
+use Rattle.xf_arena_bed.specs.Sits.{Nodes, node_at, holds, item, Holds, FreeOk}
+use Rattle.xf_arena_tree.specs.Without.{tree_without, OpsLeaf}
 use Rattle.xf_arena_bed.specs.Rebuilt.{tree_at, blank}
 use Rattle.xf_arena_bed.specs.View.{layout_of, IsBed, IsIndexed, number_in}
 use Rattle.xf_index.specs.Index.{name_at}
@@ -26,8 +28,10 @@ first (op n k ds os ts rs rest) = record { name = n; kind = k; attrs = ds; opera
 pub first_is : (t u : Tree) → cons t no_ops ≡ cons u no_ops → t ≡ u
 first_is t u e = ap first e
 
-pub rebuilt_is : (nodes : Nodes) (next : List ℕ) (root : ℕ) (t : Tree) (fuel : ℕ) → Holds nodes next root t → tree_count t ≤ fuel → tree_at nodes next fuel fuel (item root) ≡ t
-rebuilt_is nodes next root t fuel h f = rw h.top (first_is _ t (ops_back nodes next fuel fuel None (cons t no_ops) h.sits (omega arith) (omega arith)))
+pub rebuilt_is : (nodes : Nodes) (next : List ℕ) (root : ℕ) (t : Tree) (fuel : ℕ) → Holds nodes next root t
+    → tree_count t ≤ fuel → tree_at nodes next fuel fuel (item root) ≡ t
+rebuilt_is nodes next root t fuel h f =
+    rw h.top (first_is _ t (ops_back nodes next fuel fuel None (cons t no_ops) h.sits (omega arith) (omega arith)))
 
 pub closed : (a : Inside) (t : Tree) → Holds a.nodes.items a.links a.root t → a.live ≡ tree_count t
     → FreeOk a.nodes.items a.links a.free.items a.live → length a.nodes.items ≤ vec_capacity a.free
@@ -61,10 +65,14 @@ seat_holds : (o : OpName) (y : Option Node) → seat_of y ≡ Some o → holds o
 seat_holds o None e = cc
 seat_holds o (Some x) e = let q : x.name ≡ o = cc in rw q (eq-eqb o.0 o.0 refl)
 
-pub seated : (a : Inside) (v : Layout) (s : ℕ) (o : OpName) → layout_of a ≡ v → seat_at v.seats s ≡ Some o → holds o (node_at a.nodes.items s) ≡ true
+pub seated : (a : Inside) (v : Layout) (s : ℕ) (o : OpName) → layout_of a ≡ v → seat_at v.seats s ≡ Some o
+    → holds o (node_at a.nodes.items s) ≡ true
 seated a v s o e h = seat_holds o _ (sym (seat_is a.nodes.items s) ∙ ap (λ (m : Layout). seat_at m.seats s) e ∙ h)
 
-pub cut_holds : (a : Inside) (v : Layout) (s : ℕ) (o : OpName) (p : ℕ) → IsBed a → layout_of a ≡ v → seat_at v.seats s ≡ Some o → eqb v.root.name.0 o.0 ≡ false → OpsLeaf o (cons v.root no_ops) → After a.links p (item s) → Holds (slice_set a.nodes.items s None) (unlinked p (item s) a.links) a.root (tree_without o v.root) × (a.live - 1 ≡ tree_count (tree_without o v.root))
+pub cut_holds : (a : Inside) (v : Layout) (s : ℕ) (o : OpName) (p : ℕ) → IsBed a → layout_of a ≡ v
+    → seat_at v.seats s ≡ Some o → eqb v.root.name.0 o.0 ≡ false → OpsLeaf o (cons v.root no_ops)
+    → After a.links p (item s) → Holds (slice_set a.nodes.items s None) (unlinked p (item s) a.links) a.root
+    (tree_without o v.root) × (a.live - 1 ≡ tree_count (tree_without o v.root))
 cut_holds a v s o p i e h f l w =
     let q = seated a v s o e h in
     let r : (layout_of a).root ≡ v.root = ap (λ (m : Layout). m.root) e in
@@ -73,5 +81,6 @@ cut_holds a v s o p i e h f l w =
     let m = count_cut a.nodes.items a.links a.root v.root o s g f l q in
     (holds_cut a.nodes.items a.links a.root v.root o s p g f l q w, omega arith)
 
-pub seats_cut : (a : Inside) (v : Layout) (s : ℕ) → layout_of a ≡ v → map seat_of (slice_set a.nodes.items s None) ≡ slice_set v.seats s None
+pub seats_cut : (a : Inside) (v : Layout) (s : ℕ) → layout_of a ≡ v
+    → map seat_of (slice_set a.nodes.items s None) ≡ slice_set v.seats s None
 seats_cut a v s e = map-set seat_of a.nodes.items s None ∙ ap (λ (m : Layout). slice_set m.seats s None) e

@@ -1,16 +1,15 @@
 -- The free slots, when one is taken or given back.
-use Rattle.xf_ir.specs.declared.kind.Attr.{Attr}
 use Rattle.xf_type.specs.declared.payload_type.PayloadType.{PayloadType}
 use Rattle.xf_ir.specs.RuleBlocks.{block_args}
-use Rattle.std.proofs.Common.{◌≡◌, ◌≢◌, ℕ, zero, suc, ◌+◌, ◌-◌, ◌*◌, ◌<◌, ◌≤◌, ◌||◌, List, [], ◌∷◌, ◌++◌, length, slice_index, slice_index_or, slice_set, sym, ◌∙◌, ap, arith, refl, Bool, true, false, eqb, ◌⊎◌, inl, inr, length-append}
+use Rattle.std.proofs.Common.{◌≡◌, ℕ, suc, ◌+◌, ◌-◌, ◌<◌, ◌||◌, List, [], ◌∷◌, ◌++◌, length}
+use Rattle.std.proofs.Common.{slice_index, slice_set, sym, ◌∙◌, ap, arith, refl, true, false}
+use Rattle.std.proofs.Common.{eqb, inl, inr, length-append}
 use Rattle.std.specs.Prelude.{map, Option, Some, None}
 use Rattle.std.proofs.lemmas.List.{get_or-set_same, get_or-set_other, length-set}
-use Rattle.std.proofs.lemmas.Bool.{cases_eq, cases_Bool, eqb-true, eq-eqb, or_cases}
+use Rattle.std.proofs.lemmas.Bool.{cases_Bool, or_cases}
 use Rattle.xf_ir.specs.declared.name.OpName.{OpName}
-use Rattle.xf_ir.specs.declared.name.ValueName.{ValueName}
-use Rattle.xf_ir.specs.declared.kind.Kind.{Kind}
 use Rattle.xf_ir.specs.Tree.{Ops, no_ops, op, Regions, no_regions, region, Tree, cons}
-use Rattle.xf_ir.specs.Count.{tree_count, ops_count, regions_count}
+use Rattle.xf_ir.specs.Count.{tree_count, regions_count}
 use Rattle.xf_rings.specs.Ring.{Path, linked, unlinked, After}
 use Rattle.xf_rings.specs.Groups.{AllOnce, Lacks}
 use Rattle.xf_rings.proofs.PathLemmas.{linked_other, unlinked_other}
@@ -23,19 +22,22 @@ use Rattle.xf_arena_bed.specs.Live.{name_of, names_of, IsLive, AreLive, leaf_of,
 use Rattle.xf_arena_bed.proofs.SpotLemmas.{stands, spotted}
 use Rattle.xf_arena_bed.specs.Value.{Layout, seat_at}
 use Rattle.xf_arena_bed.specs.View.{layout_of, IsBed}
-use Rattle.xf_arena_bed.specs.Sits.{Nodes, node_at, holds, place, head, item, Holds, OpsSit, RegionsSit, home_of, AllFree, FreeOk}
+use Rattle.xf_arena_bed.specs.Sits.{Nodes, node_at, holds, place, head, item, Holds, OpsSit, RegionsSit, home_of}
+use Rattle.xf_arena_bed.specs.Sits.{AllFree, FreeOk}
 use Rattle.xf_arena_tree.specs.Without.{OpsWhere, OpsLeaf, RegionsLeaf}
-use Rattle.xf_arena_tree.specs.Puts.{tree_put, ops_put, InRange, bare, StandsAt}
-use Rattle.xf_arena_bed.proofs.PlaceLemmas.{Placed, place_within}
+use Rattle.xf_arena_tree.specs.Puts.{tree_put, bare, StandsAt}
+use Rattle.xf_arena_bed.proofs.PlaceLemmas.{place_within}
 use Rattle.xf_arena_bed.proofs.LeafLemmas.{holder, place_is, same_name}
 use Rattle.xf_arena_bed.proofs.CloseLemmas.{seated}
 use Rattle.xf_arena_bed.proofs.HoldsPutLemmas.{Ready, node_of, holds_put, first}
 use Rattle.xf_arena_tree.proofs.PutTreeLemmas.{put_count}
 
 abbrev IsFree : Nodes → List ℕ → ℕ → Type 0
-IsFree nodes next f = (f < length nodes) × ((node_at nodes f ≡ None) × ((slice_index next (item f) ≡ item f) × (slice_index next (head f) ≡ head f)))
+IsFree nodes next f = (f < length nodes)
+    × ((node_at nodes f ≡ None) × ((slice_index next (item f) ≡ item f) × (slice_index next (head f) ≡ head f)))
 
-free_last : (nodes : Nodes) (next gs : List ℕ) (f : ℕ) → AllFree nodes next (gs ++ f ∷ []) → AllFree nodes next gs × IsFree nodes next f
+free_last : (nodes : Nodes) (next gs : List ℕ) (f : ℕ) → AllFree nodes next (gs ++ f ∷ [])
+    → AllFree nodes next gs × IsFree nodes next f
 free_last nodes next [] f a = (tt, a.0)
 free_last nodes next (g ∷ gs) f a = let r = free_last nodes next gs f a.1 in ((a.0, r.0), r.1)
 
@@ -51,7 +53,10 @@ once_last : (gs : List ℕ) (f : ℕ) → AllOnce (gs ++ f ∷ []) → AllOnce g
 once_last [] f a = (tt, tt)
 once_last (g ∷ gs) f a = let r = once_last gs f a.1 in ((lacks_front g gs f a.0, r.0), (lacks_last g gs f a.0, r.1))
 
-free_put : (nodes : Nodes) (next gs : List ℕ) (s before : ℕ) (y : Option Node) → AllFree nodes next gs → Lacks s gs → ((f : ℕ) → node_at nodes f ≡ None → head f ≡ before → ⊥) → ((f : ℕ) → node_at nodes f ≡ None → item f ≡ before → ⊥) → AllFree (slice_set nodes s y) (linked before (item s) next) gs
+free_put : (nodes : Nodes) (next gs : List ℕ) (s before : ℕ) (y : Option Node) → AllFree nodes next gs → Lacks s gs
+    → ((f : ℕ) → node_at nodes f ≡ None → head f ≡ before → ⊥)
+    → ((f : ℕ) → node_at nodes f ≡ None → item f ≡ before → ⊥)
+    → AllFree (slice_set nodes s y) (linked before (item s) next) gs
 free_put nodes next [] s before y a l nh ni = tt
 free_put nodes next (f ∷ gs) s before y a l nh ni = (
   (
@@ -79,7 +84,8 @@ bare_count : (args : List (List PayloadType)) → regions_count (bare args) ≡ 
 bare_count [] = refl
 bare_count (a ∷ more) = omega (arith, bare_count more)
 
-pub record Inserted (nodes2 : Nodes) (next2 : List ℕ) (root : ℕ) (u2 : Tree) (gs : List ℕ) (live2 size : ℕ) : Type 0 where
+pub record Inserted (nodes2 : Nodes) (next2 : List ℕ) (root : ℕ) (u2 : Tree) (gs : List ℕ)
+    (live2 size : ℕ) : Type 0 where
   pub same : length nodes2 ≡ size
   pub holds : Holds nodes2 next2 root u2
   pub count : live2 ≡ tree_count u2
@@ -149,13 +155,16 @@ inserted a v x pid sibling r k gs f i e live sib w is_new home fe =
 
 -- a leaf's first link leads back
 mutual
-  ops_alone : (nodes : Nodes) (next : List ℕ) (home : Option Home) (ops : Ops) (o : OpName) → OpsSit nodes next home ops → OpsLeaf o ops → ops_has o ops ≡ true → slice_index next (head (place o nodes)) ≡ head (place o nodes)
+  ops_alone : (nodes : Nodes) (next : List ℕ) (home : Option Home) (ops : Ops) (o : OpName)
+      → OpsSit nodes next home ops → OpsLeaf o ops → ops_has o ops ≡ true
+      → slice_index next (head (place o nodes)) ≡ head (place o nodes)
   ops_alone nodes next home no_ops o s l h = cc
   ops_alone nodes next home (op n k ds os ts rs rest) o s l h =
       elim (cases_Bool (eqb n.0 o.0)) [
         | inl e ↦
             let q : n ≡ o = same_name n o e in
-            let row : Path next (head (place n nodes)) (map (λ m. item (place m nodes)) []) (head (place n nodes)) = rw (l.0 e) at s.0.row in
+            let row : Path next (head (place n nodes)) (map (λ m. item (place m nodes)) []) (head (place n nodes)) =
+            rw (l.0 e) at s.0.row in
             rw (← q) row
         | inr e ↦
             let h2 : (regions_has o rs || ops_has o rest) ≡ true = rw e at h in
@@ -165,7 +174,9 @@ mutual
             ]
       ]
 
-  regions_alone : (nodes : Nodes) (next : List ℕ) (n : OpName) (r : ℕ) (rs : Regions) (o : OpName) → RegionsSit nodes next n r rs → RegionsLeaf o rs → regions_has o rs ≡ true → slice_index next (head (place o nodes)) ≡ head (place o nodes)
+  regions_alone : (nodes : Nodes) (next : List ℕ) (n : OpName) (r : ℕ) (rs : Regions) (o : OpName)
+      → RegionsSit nodes next n r rs → RegionsLeaf o rs → regions_has o rs ≡ true
+      → slice_index next (head (place o nodes)) ≡ head (place o nodes)
   regions_alone nodes next n r no_regions o s l h = cc
   regions_alone nodes next n r (region args ops rest) o s l h =
       elim (or_cases (ops_has o ops) (regions_has o rest) h) [
@@ -173,7 +184,8 @@ mutual
         | inr b ↦ regions_alone nodes next n (suc r) rest o s.1 l.1 b
       ]
 
-free_cut : (nodes : Nodes) (next fs : List ℕ) (s before : ℕ) → After next before (item s) → AllFree nodes next fs → (node_at nodes s ≡ None → ⊥) → AllFree (slice_set nodes s None) (unlinked before (item s) next) fs
+free_cut : (nodes : Nodes) (next fs : List ℕ) (s before : ℕ) → After next before (item s) → AllFree nodes next fs
+    → (node_at nodes s ≡ None → ⊥) → AllFree (slice_set nodes s None) (unlinked before (item s) next) fs
 free_cut nodes next [] s before w a n = tt
 free_cut nodes next (f ∷ fs) s before w a n =
     let ne : f ≡ s → ⊥ = λ e. n (ap (node_at nodes) (sym e) ∙ a.0.1.0) in (
@@ -182,15 +194,20 @@ free_cut nodes next (f ∷ fs) s before w a n =
         (
           get_or-set_other nodes s f None None ne ∙ a.0.1.0,
           (
-            unlinked_other next before (item s) (item f) (λ e. ne (let q : item f ≡ item s = sym a.0.1.1.0 ∙ ap (slice_index next) e ∙ w.is in omega arith)) (λ e. ne (omega arith)) ∙ a.0.1.1.0,
-            unlinked_other next before (item s) (head f) (λ e. let q : head f ≡ item s = sym a.0.1.1.1 ∙ ap (slice_index next) e ∙ w.is in omega arith) (λ e. omega arith) ∙ a.0.1.1.1,
+            unlinked_other next before (item s) (item f)
+                (λ e. ne (let q : item f ≡ item s = sym a.0.1.1.0 ∙ ap (slice_index next) e ∙ w.is in omega arith))
+                (λ e. ne (omega arith)) ∙ a.0.1.1.0,
+            unlinked_other next before (item s) (head f)
+                (λ e. let q : head f ≡ item s = sym a.0.1.1.1 ∙ ap (slice_index next) e ∙ w.is in omega arith)
+                (λ e. omega arith) ∙ a.0.1.1.1,
           ),
         ),
       ),
       free_cut nodes next fs s before w a.1 n,
     )
 
-free_more : (nodes : Nodes) (next fs : List ℕ) (s : ℕ) → AllFree nodes next fs → IsFree nodes next s → AllFree nodes next (fs ++ s ∷ [])
+free_more : (nodes : Nodes) (next fs : List ℕ) (s : ℕ) → AllFree nodes next fs → IsFree nodes next s
+    → AllFree nodes next (fs ++ s ∷ [])
 free_more nodes next [] s a f = (f, tt)
 free_more nodes next (g ∷ fs) s a f = (a.0, free_more nodes next fs s a.1 f)
 
@@ -198,11 +215,15 @@ lacks_more : (g : ℕ) (fs : List ℕ) (s : ℕ) → Lacks g fs → (s ≡ g →
 lacks_more g [] s l n = (n, tt)
 lacks_more g (f ∷ fs) s l n = (l.0, lacks_more g fs s l.1 n)
 
-once_more : (nodes : Nodes) (next fs : List ℕ) (s : ℕ) → AllFree nodes next fs → (node_at nodes s ≡ None → ⊥) → AllOnce fs → AllOnce (fs ++ s ∷ [])
+once_more : (nodes : Nodes) (next fs : List ℕ) (s : ℕ) → AllFree nodes next fs → (node_at nodes s ≡ None → ⊥)
+    → AllOnce fs → AllOnce (fs ++ s ∷ [])
 once_more nodes next [] s a n o = (tt, tt)
-once_more nodes next (g ∷ fs) s a n o = (lacks_more g fs s o.0 (λ e. n (ap (node_at nodes) e ∙ a.0.1.0)), once_more nodes next fs s a.1 n o.1)
+once_more nodes next (g ∷ fs) s a n o =
+    (lacks_more g fs s o.0 (λ e. n (ap (node_at nodes) e ∙ a.0.1.0)), once_more nodes next fs s a.1 n o.1)
 
-pub given_back : (a : Inside) (v : Layout) (s : ℕ) (o : OpName) (p : ℕ) → IsBed a → layout_of a ≡ v → seat_at v.seats s ≡ Some o → OpsLeaf o (cons v.root no_ops) → After a.links p (item s) → FreeOk (slice_set a.nodes.items s None) (unlinked p (item s) a.links) (a.free.items ++ s ∷ []) (a.live - 1)
+pub given_back : (a : Inside) (v : Layout) (s : ℕ) (o : OpName) (p : ℕ) → IsBed a → layout_of a ≡ v
+    → seat_at v.seats s ≡ Some o → OpsLeaf o (cons v.root no_ops) → After a.links p (item s)
+    → FreeOk (slice_set a.nodes.items s None) (unlinked p (item s) a.links) (a.free.items ++ s ∷ []) (a.live - 1)
 given_back a v s o p i e h l w =
     let nodes = a.nodes.items in
     let root : (layout_of a).root ≡ v.root = ap (λ (m : Layout). m.root) e in
@@ -222,8 +243,11 @@ given_back a v s o p i e h l w =
       (
         get_or-set_same nodes s None None within,
         (
-          get_or-set_same (slice_set a.links p (slice_index a.links (item s))) (item s) (item s) 0 (omega (arith, w.in_e, length-set a.links p (slice_index a.links (item s)))),
-          unlinked_other a.links p (item s) (head s) (λ q. let r : head s ≡ item s = sym alone ∙ ap (slice_index a.links) q ∙ w.is in omega arith) (λ q. omega arith) ∙ alone,
+          get_or-set_same (slice_set a.links p (slice_index a.links (item s))) (item s) (item s) 0
+              (omega (arith, w.in_e, length-set a.links p (slice_index a.links (item s)))),
+          unlinked_other a.links p (item s) (head s)
+              (λ q. let r : head s ≡ item s = sym alone ∙ ap (slice_index a.links) q ∙ w.is in omega arith)
+              (λ q. omega arith) ∙ alone,
         ),
       ),
     ) in

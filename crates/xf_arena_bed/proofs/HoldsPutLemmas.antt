@@ -1,32 +1,36 @@
 -- The nodes and links once a leaf is put hold the tree with it.
 use Rattle.xf_ir.specs.RuleBlocks.{block_args}
-use Rattle.std.proofs.Common.{◌≡◌, ◌≢◌, ℕ, zero, suc, ◌+◌, ◌*◌, ◌<◌, ◌≤◌, List, [], ◌∷◌, ◌++◌, length, take, slice_index, slice_index_or, slice_set, sym, ◌∙◌, ap, subst, arith, refl, Bool, true, false, cond, eqb, ◌||◌, ◌⊎◌, inl, inr}
-use Rattle.std.specs.Prelude.{map, Option, Some, None}
+use Rattle.std.proofs.Common.{◌≡◌, ℕ, zero, suc, ◌*◌, ◌<◌, List, [], ◌∷◌, length}
+use Rattle.std.proofs.Common.{slice_index, slice_set, sym, ◌∙◌, ap, arith, refl, true}
+use Rattle.std.proofs.Common.{false, eqb, ◌||◌, inl, inr}
+use Rattle.std.specs.Prelude.{Some, None}
 use Rattle.std.proofs.lemmas.List.{get_or-set_same, get_or-set_other, length-set}
-use Rattle.std.proofs.lemmas.Bool.{cases_eq, eqb-true, eqb-false, eq-eqb, ne_eqb, cases_Bool, false_from_ne_true, or_left}
+use Rattle.std.proofs.lemmas.Bool.{cases_eq, eqb-true, eqb-false, eq-eqb, cases_Bool, false_from_ne_true}
+use Rattle.std.proofs.lemmas.Bool.{or_left}
 use Rattle.xf_ir.specs.declared.name.OpName.{OpName}
-use Rattle.xf_ir.specs.Tree.{Ops, no_ops, op, Regions, no_regions, region, Tree, cons}
-use Rattle.xf_rings.specs.Ring.{Path, linked}
+use Rattle.xf_ir.specs.Tree.{no_ops, op, Regions, no_regions, region, Tree, cons}
+use Rattle.xf_rings.specs.Ring.{linked}
 use Rattle.xf_rings.proofs.PathLemmas.{linked_other}
 use Rattle.xf_arena_bed.specs.declared.node.Node.{Node}
-use Rattle.xf_arena_bed.specs.Home.{Home}
-use Rattle.xf_arena_tree.specs.Names.{kids, ops_has, regions_has, OpsDistinct, RegionsDistinct}
-use Rattle.xf_arena_bed.specs.Sits.{Nodes, node_at, holds, place, head, item, item_of, Sits, home_of, OpsSit, RegionsSit, AreApart, Holds}
-use Rattle.xf_arena_tree.specs.Without.{OpsWhere, RegionsWhere}
-use Rattle.xf_ir.specs.Spots.{regions_insert}
-use Rattle.xf_arena_tree.specs.Puts.{ops_put, regions_put, tree_put, InRange}
-use Rattle.xf_arena_bed.proofs.PlaceLemmas.{Placed, one_name, place_kept, place_within}
-use Rattle.xf_arena_bed.proofs.LeafLemmas.{holder, ops_placed, same_name}
-use Rattle.xf_arena_bed.proofs.PutLemmas.{Put, SplitAt, under, last, ops_put_sit, one_parent, KidItem, IsBefore}
+use Rattle.xf_arena_tree.specs.Names.{kids, ops_has, regions_has}
+use Rattle.xf_arena_bed.specs.Sits.{Nodes, node_at, holds, place, head, item, Sits, home_of}
+use Rattle.xf_arena_bed.specs.Sits.{RegionsSit, AreApart, Holds}
+use Rattle.xf_arena_tree.specs.Without.{OpsWhere}
+use Rattle.xf_arena_tree.specs.Puts.{ops_put, tree_put, InRange}
+use Rattle.xf_arena_bed.proofs.PlaceLemmas.{Placed, one_name, place_kept}
+use Rattle.xf_arena_bed.proofs.LeafLemmas.{holder, ops_placed}
+use Rattle.xf_arena_bed.proofs.PutLemmas.{Put, SplitAt, ops_put_sit, one_parent, IsBefore}
 use Rattle.xf_arena_tree.proofs.WithoutLemmas.{none3, no_kids}
 use Rattle.xf_arena_tree.proofs.PutTreeLemmas.{OnlyName, put_some, put_new, put_distinct}
 
-place_new : (nodes : Nodes) (n : OpName) (s : ℕ) (y : Node) → s < length nodes → y.name ≡ n → ((i : ℕ) → holds n (node_at nodes i) ≡ false) → place n (slice_set nodes s (Some y)) ≡ s
+place_new : (nodes : Nodes) (n : OpName) (s : ℕ) (y : Node) → s < length nodes → y.name ≡ n
+    → ((i : ℕ) → holds n (node_at nodes i) ≡ false) → place n (slice_set nodes s (Some y)) ≡ s
 place_new [] n s y l e h = absurd (omega arith)
 place_new (x ∷ xs) n zero y l e h = rw (e, eq-eqb n.0 n.0 refl) refl
 place_new (x ∷ xs) n (suc s) y l e h = rw (h 0, place_new xs n s y (omega arith) e (λ i. h (suc i))) refl
 
-leaf_sit : (nodes : Nodes) (next : List ℕ) (n : OpName) (r : ℕ) (rs : Regions) → kids rs ≡ [] → RegionsSit nodes next n r rs
+leaf_sit : (nodes : Nodes) (next : List ℕ) (n : OpName) (r : ℕ) (rs : Regions) → kids rs ≡ []
+    → RegionsSit nodes next n r rs
 leaf_sit nodes next n r no_regions e = tt
 leaf_sit nodes next n r (region args no_ops rest) e = (tt, leaf_sit nodes next n (suc r) rest e)
 leaf_sit nodes next n r (region args (op m k ds os ts rs more) rest) e = cc
@@ -34,7 +38,8 @@ leaf_sit nodes next n r (region args (op m k ds os ts rs more) rest) e = cc
 unsome : (a b : Node) → Some a ≡ Some b → a ≡ b
 unsome a b e = cc
 
-clash : (nodes : Nodes) (n : OpName) (i : ℕ) (a : Node) → ((i : ℕ) → holds n (node_at nodes i) ≡ false) → node_at nodes i ≡ Some a → a.name.0 ≡ n.0 → ⊥
+clash : (nodes : Nodes) (n : OpName) (i : ℕ) (a : Node) → ((i : ℕ) → holds n (node_at nodes i) ≡ false)
+    → node_at nodes i ≡ Some a → a.name.0 ≡ n.0 → ⊥
 clash nodes n i a un e k = let c : true ≡ false = sym (eq-eqb a.name.0 n.0 k) ∙ ap (holds n) (sym e) ∙ un i in cc
 
 name_in : (a b : Node) → Some a ≡ Some b → a.name ≡ b.name
@@ -46,10 +51,15 @@ self_has u = or_left (eqb u.name.0 u.name.0) (regions_has u.name u.regions || fa
 root_name : (p : OpName) (r i : ℕ) (t u : Tree) → (tree_put p r i t u).name ≡ u.name
 root_name p r i t u = elim (cases_Bool (eqb u.name.0 p.0)) [ inl e ↦ rw e refl | inr e ↦ rw e refl ]
 
-apart_put : (nodes : Nodes) (s : ℕ) (y : Node) → s < length nodes → AreApart nodes → ((i : ℕ) → holds y.name (node_at nodes i) ≡ false) → (i j : ℕ) (a b : Node) → node_at (slice_set nodes s (Some y)) i ≡ Some a → node_at (slice_set nodes s (Some y)) j ≡ Some b → a.name.0 ≡ b.name.0 → i ≡ j
+apart_put : (nodes : Nodes) (s : ℕ) (y : Node) → s < length nodes → AreApart nodes
+    → ((i : ℕ) → holds y.name (node_at nodes i) ≡ false) → (i j : ℕ) (a b : Node)
+    → node_at (slice_set nodes s (Some y)) i ≡ Some a → node_at (slice_set nodes s (Some y)) j ≡ Some b
+    → a.name.0 ≡ b.name.0 → i ≡ j
 apart_put nodes s y l ap_ un i j a b p q k =
     let at_s : node_at (slice_set nodes s (Some y)) s ≡ Some y = get_or-set_same nodes s (Some y) None l in
-    let other : (m : ℕ) → (m ≡ s → ⊥) → node_at (slice_set nodes s (Some y)) m ≡ node_at nodes m = λ m n. get_or-set_other nodes s m (Some y) None n in
+    let other : (m : ℕ) → (m ≡ s → ⊥)
+    → node_at (slice_set nodes s (Some y)) m ≡ node_at nodes m =
+    λ m n. get_or-set_other nodes s m (Some y) None n in
     elim (cases_eq i s) [
       | inl e ↦ elim (cases_eq j s) [
         | inl f ↦ e ∙ sym f
@@ -66,7 +76,8 @@ apart_put nodes s y l ap_ un i j a b p q k =
     ]
 
 -- before a leaf is put
-pub record Ready (nodes : Nodes) (next : List ℕ) (root : ℕ) (u : Tree) (s : ℕ) (t : Tree) (p : OpName) (r i before : ℕ) : Type 0 where
+pub record Ready (nodes : Nodes) (next : List ℕ) (root : ℕ) (u : Tree) (s : ℕ) (t : Tree) (p : OpName)
+    (r i before : ℕ) : Type 0 where
   pub holds : Holds nodes next root u
   pub within : s < length nodes
   pub is_free : node_at nodes s ≡ None
@@ -80,18 +91,30 @@ pub record Ready (nodes : Nodes) (next : List ℕ) (root : ℕ) (u : Tree) (s : 
   pub spot : IsBefore nodes p before
 
 abbrev pub node_of : Nodes → OpName → ℕ → Tree → Node
-node_of nodes p r t = record { name = t.name; kind = t.kind; attrs = t.attrs; operands = t.operands; results = t.results; regions = block_args t.regions; parent = home_of nodes p r }
+node_of nodes p r t = record {
+  name = t.name;
+  kind = t.kind;
+  attrs = t.attrs;
+  operands = t.operands;
+  results =
+      t.results;
+  regions = block_args t.regions;
+  parent = home_of nodes p r;
+}
 
 pub first : (p : OpName) (r i : ℕ) (t u : Tree) → ops_put p r i t (cons u no_ops) ≡ cons (tree_put p r i t u) no_ops
 first p r i t u = elim (cases_Bool (eqb u.name.0 p.0)) [ inl e ↦ rw e refl | inr e ↦ rw e refl ]
 
-pub holds_put : (nodes : Nodes) (next : List ℕ) (root : ℕ) (u : Tree) (s : ℕ) (t : Tree) (p : OpName) (r i before : ℕ) → Ready nodes next root u s t p r i before → Holds (slice_set nodes s (Some (node_of nodes p r t))) (linked before (item s) next) root (tree_put p r i t u)
+pub holds_put : (nodes : Nodes) (next : List ℕ) (root : ℕ) (u : Tree) (s : ℕ) (t : Tree) (p : OpName)
+    (r i before : ℕ) → Ready nodes next root u s t p r i before
+    → Holds (slice_set nodes s (Some (node_of nodes p r t))) (linked before (item s) next) root (tree_put p r i t u)
 holds_put nodes next root u s t p r i before y =
     let n = t.name in
     let new = Some (node_of nodes p r t) in
     let nodes2 = slice_set nodes s new in
     let h = y.holds in
-    let placed : (x : OpName) → ops_has x (cons u no_ops) ≡ true → Placed nodes x = λ x q. ops_placed nodes next None (cons u no_ops) x h.sits q in
+    let placed : (x : OpName) → ops_has x (cons u no_ops) ≡ true
+    → Placed nodes x = λ x q. ops_placed nodes next None (cons u no_ops) x h.sits q in
     let pl : Placed nodes p = placed p y.parent in
     let lives : (x : OpName) → Placed nodes x → eqb n.0 x.0 ≡ false = λ x q.
     false_from_ne_true (eqb n.0 x.0) (λ e.
@@ -110,7 +133,8 @@ holds_put nodes next root u s t p r i before y =
       kept = λ x q. get_or-set_other nodes s (place x nodes) new None (fresh x q);
       links = refl;
       no_head = λ m q f e. elim y.spot [
-        | inl b ↦ eqb-false m.0 p.0 f (one_name m p (node_at nodes (place p nodes)) (let hp : place m nodes ≡ place p nodes = omega arith in rw hp at q) pl)
+        | inl b ↦ eqb-false m.0 p.0 f (one_name m p (node_at nodes (place p nodes))
+            (let hp : place m nodes ≡ place p nodes = omega arith in rw hp at q) pl)
         | inr k ↦ (let b = k.is in omega arith)
       ];
       no_item = λ m x q w f e. elim y.spot [
@@ -130,12 +154,16 @@ holds_put nodes next root u s t p r i before y =
     let tp : place n nodes2 ≡ s = place_new nodes n s (node_of nodes p r t) y.within refl unheld in
     let at_new : node_at nodes2 s ≡ new = get_or-set_same nodes s new None y.within in
     let row : slice_index next2 (head s) ≡ head s = linked_other next before (item s) (head s)
-    (λ e. elim y.spot [ inl b ↦ fresh p pl (omega arith) | inr k ↦ (let b = k.is in omega arith) ]) (λ e. omega arith) ∙ y.alone in
-    let sit : Sits nodes2 next2 (home_of nodes p r) n t.kind t.attrs t.operands t.results (block_args t.regions) (kids t.regions) = record { node = rw tp at_new; row = rw (tp, y.leaf) row } in
-    let only : OnlyName t = λ x f. none3 (eqb n.0 x.0) (regions_has x t.regions) false f (no_kids x t.regions y.leaf) refl in
+    (λ e. elim y.spot [ inl b ↦ fresh p pl (omega arith) | inr k ↦ (let b = k.is in omega arith) ])
+    (λ e. omega arith) ∙ y.alone in
+    let sit : Sits nodes2 next2 (home_of nodes p r) n t.kind t.attrs t.operands t.results (block_args t.regions)
+    (kids t.regions) = record { node = rw tp at_new; row = rw (tp, y.leaf) row } in
+    let only : OnlyName t = λ x f. none3 (eqb n.0 x.0) (regions_has x t.regions) false f
+    (no_kids x t.regions y.leaf) refl in
     let e = first p r i t u in
     record {
-      sits = rw e at (ops_put_sit nodes nodes2 next next2 p s before put r i t None (cons u no_ops) tp (sit, (leaf_sit nodes2 next2 n 0 t.regions y.leaf, tt)) h.sits h.distinct y.split);
+      sits = rw e at (ops_put_sit nodes nodes2 next next2 p s before put r i t None (cons u no_ops) tp
+          (sit, (leaf_sit nodes2 next2 n 0 t.regions y.leaf, tt)) h.sits h.distinct y.split);
       known = λ g x q. elim (cases_eq g s) [
         | inl j ↦
             let w : new ≡ Some x = sym at_new ∙ ap (node_at nodes2) (sym j) ∙ q in
@@ -145,8 +173,13 @@ holds_put nodes next root u s t p r i before y =
             let w : node_at nodes g ≡ Some x = sym (get_or-set_other nodes s g new None j) ∙ q in
             rw e at (put_some x.name p r i t (cons u no_ops) y.range (h.known g x w))
       ];
-      apart = record { same = λ g j a b q z k. apart_put nodes s (node_of nodes p r t) y.within h.apart unheld g j a b q z k };
+      apart = record {
+        same = λ g j a b q z k. apart_put nodes s
+            (node_of nodes p r t) y.within h.apart unheld g j a b q z k;
+      };
       distinct = rw e at (put_distinct p r i t (cons u no_ops) only y.leaf y.is_new h.distinct);
-      size = length-set (slice_set next (item s) (slice_index next before)) before (item s) ∙ length-set next (item s) (slice_index next before) ∙ h.size ∙ ap (λ k. 2 * k) (sym (length-set nodes s new));
+      size = length-set (slice_set next (item s) (slice_index next before)) before (item s)
+          ∙ length-set next (item s) (slice_index next before) ∙ h.size
+          ∙ ap (λ k. 2 * k) (sym (length-set nodes s new));
       top = h.top ∙ rw (root_name p r i t u) (sym (put.places u.name (placed u.name (self_has u))));
     }

@@ -1,6 +1,6 @@
 -- The children of an operation, as the links have them.
-use Rattle.std.proofs.Common.{◌≡◌, ℕ, zero, suc, ◌+◌, ◌*◌, ◌/◌, ◌%◌, ◌<◌, ◌≤◌, List, [], ◌∷◌, ◌++◌, length, slice_index}
-use Rattle.std.proofs.Common.{sym, ◌∙◌, ap, arith, refl, Bool, true, false, cond, eqb, ◌⊎◌, inl, inr}
+use Rattle.std.proofs.Common.{◌≡◌, ℕ, suc, ◌/◌, ◌%◌, ◌<◌, ◌≤◌, List, [], ◌∷◌, ◌++◌, length, slice_index}
+use Rattle.std.proofs.Common.{sym, ◌∙◌, ap, arith, refl, true, false, eqb, inl, inr}
 use Rattle.std.specs.Prelude.{map, Option, Some, None}
 use Rattle.std.proofs.lemmas.List.{map-append, length-map}
 use Rattle.std.proofs.lemmas.Bool.{cases_Bool, eq-eqb, ne_eqb}
@@ -12,7 +12,7 @@ use Rattle.xf_ir.specs.Count.{tree_count, ops_count, regions_count}
 use Rattle.xf_ir.proofs.Found.{first_cases}
 use Rattle.xf_rings.specs.Ring.{Path, chain}
 use Rattle.xf_rings.specs.Groups.{IsLeft, Lacks}
-use Rattle.xf_arena_tree.specs.Names.{heads, kids, ops_has, OpsDistinct}
+use Rattle.xf_arena_tree.specs.Names.{heads, kids, OpsDistinct}
 use Rattle.xf_arena_tree.specs.Kids.{Inner, block_inner, inner_of, first_item}
 use Rattle.xf_arena_tree.proofs.SplitLemmas.{find_has}
 use Rattle.xf_arena_bed.specs.declared.bed.Bed.TheInside.{Inside}
@@ -28,7 +28,7 @@ use Rattle.xf_arena_bed.specs.View.{layout_of, IsBed}
 use Rattle.xf_arena_bed.specs.Kids.{kid_at_home, kid_of_node, kid_seen, inner_kid, kid_before}
 use Rattle.xf_arena_bed.specs.Kids.{kids_left, AreKids, inner_kids}
 use Rattle.xf_arena_bed.proofs.CloseLemmas.{seat_is}
-use Rattle.xf_arena_bed.proofs.FindLemmas.{ops_found, Found}
+use Rattle.xf_arena_bed.proofs.FindLemmas.{ops_found}
 use Rattle.xf_arena_bed.proofs.PlaceLemmas.{place_within}
 use Rattle.xf_arena_bed.proofs.RebuiltLemmas.{Not, chain_is, kids_within}
 use Rattle.xf_arena_bed.proofs.SpotLemmas.{stands}
@@ -73,7 +73,8 @@ AllKidNodes nodes p [] = Unit {0}
 AllKidNodes nodes p (k ∷ ks) = KidNode nodes p k × AllKidNodes nodes p ks
 
 block_nodes : (nodes : Nodes) (next : List ℕ) (p : OpName) (r : ℕ) (ops : Ops) (more : List Inner)
-    → OpsSit nodes next (home_of nodes p r) ops → AllKidNodes nodes p more → AllKidNodes nodes p (block_inner r ops more)
+    → OpsSit nodes next (home_of nodes p r) ops → AllKidNodes nodes p more
+    → AllKidNodes nodes p (block_inner r ops more)
 block_nodes nodes next p r no_ops more s a = a
 block_nodes nodes next p r (op n k ds os ts rs rest) more s a =
     (record { node = _; at = s.0.node; name = refl; home = refl }, block_nodes nodes next p r rest more s.1.1 a)
@@ -153,7 +154,8 @@ pub record RowOf (nodes : Nodes) (next : List ℕ) (p : OpName) (ks : List Inner
   pub nodes_are : AllKidNodes nodes p ks
 
 path_named : (nodes : Nodes) (next : List ℕ) (n p : OpName) (xs ys : List ℕ) → n ≡ p → ys ≡ xs
-    → Path next (head (place n nodes)) xs (head (place n nodes)) → Path next (head (place p nodes)) ys (head (place p nodes))
+    → Path next (head (place n nodes)) xs (head (place n nodes))
+    → Path next (head (place p nodes)) ys (head (place p nodes))
 path_named nodes next n p xs ys e q h = rw (← e, q) h
 
 row_same : (nodes : Nodes) (next : List ℕ) (p : OpName) (f t : Tree) → f ≡ t
@@ -252,7 +254,7 @@ mutual
       elim (cases_Bool (eqb n.0 x.0)) [
         | inl q ↦ (
             let here : Tree =
-                record { name = n; kind = k; attrs = ds; operands = os; results = ts; regions = rs }
+            record { name = n; kind = k; attrs = ds; operands = os; results = ts; regions = rs }
             in
             let w : here ≡ t = same_tree here t (rw q at e) in
             omega (arith, ap tree_count w))
@@ -262,7 +264,8 @@ mutual
         ]
       ]
 
-  regions_find_count : (x : OpName) (rs : Regions) (t : Tree) → regions_find x rs ≡ Some t → tree_count t ≤ regions_count rs
+  regions_find_count : (x : OpName) (rs : Regions) (t : Tree) → regions_find x rs ≡ Some t
+      → tree_count t ≤ regions_count rs
   regions_find_count x no_regions t e = cc
   regions_find_count x (region args ops rest) t e =
       elim (first_cases (ops_find x ops) (regions_find x rest) t e) [

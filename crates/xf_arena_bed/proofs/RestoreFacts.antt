@@ -1,12 +1,13 @@
 -- What a restored tree and its spot are, in the definitions' words.
-use Rattle.std.proofs.Common.{◌≡◌, ℕ, List, [], ◌∷◌, ◌++◌, sym, ◌∙◌, ap, subst, refl, Bool, true, false, eqb, ◌||◌, inl, inr}
+use Rattle.std.proofs.Common.{◌≡◌, ℕ, List, [], ◌∷◌, sym, ◌∙◌, ap, subst, Bool, true, false, eqb}
+use Rattle.std.proofs.Common.{inl, inr}
 use Rattle.std.proofs.lemmas.Bool.{cases_Bool, eqb-true}
 use Rattle.xf_ir.specs.declared.name.OpName.{OpName}
 use Rattle.xf_ir.specs.declared.spot.Spot.{Spot}
 use Rattle.xf_ir.specs.Lists.{Each, Once, is_among}
 use Rattle.xf_ir.specs.Spots as spots
-use Rattle.xf_ir.specs.Tree.{Tree, Ops, cons, no_ops}
-use Rattle.xf_ir.specs.Walk.{ops_names, tree_names}
+use Rattle.xf_ir.specs.Tree.{Tree, cons, no_ops}
+use Rattle.xf_ir.specs.Walk.{tree_names}
 use Rattle.xf_arena_tree.specs.Names.{ops_has, OpsDistinct}
 use Rattle.xf_arena_tree.specs.Without.{OpsWhere}
 use Rattle.xf_arena_tree.specs.Puts.{InRange, tree_put}

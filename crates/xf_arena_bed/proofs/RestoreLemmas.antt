@@ -1,22 +1,23 @@
 -- Steps of putting a tree, block by block.
-use Rattle.std.proofs.Common.{◌≡◌, ℕ, zero, suc, ◌+◌, ◌-◌, ◌*◌, ◌<◌, ◌≤◌, ◌^◌, List, [], ◌∷◌, ◌++◌, length, add-one}
-use Rattle.std.proofs.Common.{sym, ◌∙◌, ap, subst, arith, refl, Bool, true, false, eqb, ◌||◌, ◌⊎◌, inl, inr}
+use Rattle.std.proofs.Common.{◌≡◌, ℕ, zero, suc, ◌+◌, ◌-◌, ◌*◌, ◌<◌, ◌≤◌, ◌^◌, List, [], ◌∷◌, length, add-one}
+use Rattle.std.proofs.Common.{sym, ◌∙◌, ap, subst, arith, refl, Bool, true, false, eqb, ◌||◌, inl, inr}
 use Rattle.std.specs.Prelude.{Option, Some, None, slice_set, slice_index_or}
-use Rattle.std.proofs.lemmas.Bool.{cases_Bool, or_parts, or_cases, or_left, or_right, eqb-true, eq-eqb}
+use Rattle.std.proofs.lemmas.Bool.{cases_Bool, or_left, or_right, eqb-true, eq-eqb}
 use Rattle.xf_ir.specs.declared.name.OpName.{OpName}
 use Rattle.xf_ir.specs.RuleBlocks.{block_args}
-use Rattle.xf_ir.specs.Tree.{Ops, no_ops, op, Regions, no_regions, region, Tree, Body, cons}
-use Rattle.xf_ir.specs.View.{ops_of, regions_of, body_of, tree_size, ops_size, regions_size}
-use Rattle.xf_ir.specs.Bounds.{OpsShort, RegionsShort, TreeIsShort, blocks_of, regions_length}
-use Rattle.xf_ir.specs.Count.{ops_count, regions_count, tree_count}
+use Rattle.xf_ir.specs.Tree.{Ops, no_ops, Regions, no_regions, region, Tree, Body, cons}
+use Rattle.xf_ir.specs.View.{regions_of, tree_size, ops_size, regions_size}
+use Rattle.xf_ir.specs.Bounds.{OpsShort, TreeIsShort, regions_length}
+use Rattle.xf_ir.specs.Count.{ops_count, tree_count}
 use Rattle.xf_ir.specs.Spots.{regions_get, ops_length}
-use Rattle.xf_arena_tree.specs.Names.{ops_has, regions_has, OpsDistinct, RegionsDistinct}
+use Rattle.xf_arena_tree.specs.Names.{ops_has, regions_has, OpsDistinct}
 use Rattle.xf_arena_tree.specs.Without.{OpsWhere}
-use Rattle.xf_arena_tree.specs.Puts.{ops_put, tree_put, InRange, bare, StandsAt}
-use Rattle.xf_arena_tree.specs.Fills.{hollow, puts_in, insert_all, AreShort}
-use Rattle.xf_arena_tree.proofs.WithoutLemmas.{parts3, none3}
+use Rattle.xf_arena_tree.specs.Puts.{tree_put, bare, StandsAt}
+use Rattle.xf_arena_tree.specs.Fills.{hollow, puts_in, AreShort}
+use Rattle.xf_arena_tree.proofs.WithoutLemmas.{parts3}
 use Rattle.xf_arena_tree.proofs.PutTreeLemmas.{put_none}
-use Rattle.xf_arena_tree.proofs.FillLemmas.{Step, step, Apart, apart, hollow_all, puts_put, put_first, filled_where, place_next}
+use Rattle.xf_arena_tree.proofs.FillLemmas.{Step, step, Apart, apart, hollow_all, puts_put, put_first, filled_where}
+use Rattle.xf_arena_tree.proofs.FillLemmas.{place_next}
 use Rattle.xf_arena_bed.specs.declared.node.Node.{Node}
 use Rattle.xf_arena_bed.specs.Blocks.{args_in}
 use Rattle.xf_arena_bed.specs.Live.{leaf_of, partly}
@@ -101,7 +102,8 @@ pub record Parts2 (x : Node) (k : ℕ) (block : Ops) (rs R : Regions) (u : Tree)
   pub short : AreShort (hollow k rs) → AreShort R × ((ops_length block < 2 ^ 32) × OpsShort block)
   pub place : OpsWhere x.name (StandsAt k 0 None) (cons (tree_put p r i (partly x 0 R) u) no_ops)
   pub other : ops_has x.name block ≡ false
-  pub block_new : (n : OpName) → ops_has n block ≡ true → ops_has n (cons (tree_put p r i (partly x 0 R) u) no_ops) ≡ false
+  pub block_new : (n : OpName) → ops_has n block ≡ true
+      → ops_has n (cons (tree_put p r i (partly x 0 R) u) no_ops) ≡ false
   pub own : OpsDistinct block
   pub filled : puts_in x.name k 0 block (tree_put p r i (partly x 0 R) u) ≡ tree_put p r i (partly x k rs) u
 
@@ -126,13 +128,14 @@ parts2 x k block rs u p r i e new d =
     let a : Apart k block rs = apart k block rs e d.1.1.1.0 in
     let own : regions_has x.name R ≡ false = s.fewer x.name d.0 in
     let self : ops_has x.name (cons (partly x k rs) no_ops) ≡ true =
-        or_left (eqb x.name.0 x.name.0) (regions_has x.name (hollow k rs) || false) (eq-eqb x.name.0 x.name.0 refl)
+    or_left (eqb x.name.0 x.name.0) (regions_has x.name (hollow k rs) || false) (eq-eqb x.name.0 x.name.0 refl)
     in
     let lacks : ops_has x.name (cons u no_ops) ≡ false = new x.name self in
     let same : eqb x.name.0 x.name.0 ≡ true = eq-eqb x.name.0 x.name.0 refl in
     let c = s.count in
     record {
-      is_new = λ n h. new n (more_true (eqb x.name.0 n.0) (regions_has n (hollow k rs)) (regions_has n R) (s.fewer n) h);
+      is_new = λ n h. new n (more_true (eqb x.name.0 n.0) (regions_has n (hollow k rs)) (regions_has n R)
+          (s.fewer n) h);
       distinct = (own, (refl, ((λ y h. refl), (a.rest, tt))));
       count = omega arith;
       short = s.short;
@@ -144,9 +147,10 @@ parts2 x k block rs u p r i e new d =
             | inr f ↦ (let z : true ≡ false = sym h ∙ s.inside n f in cc)
           ] in
           let f = name_other (λ y. regions_has y (hollow k rs)) x.name n d.0 inner in
-          let g : ops_has n (cons (partly x 0 R) no_ops) ≡ false = none_cons (eqb x.name.0 n.0) (regions_has n R) f (a.other n h) in
+          let g : ops_has n (cons (partly x 0 R) no_ops) ≡ false =
+          none_cons (eqb x.name.0 n.0) (regions_has n R) f (a.other n h) in
           let w = new n (or_right (eqb x.name.0 n.0) (regions_has n (hollow k rs) || false)
-              (or_left (regions_has n (hollow k rs)) false inner))
+          (or_left (regions_has n (hollow k rs)) false inner))
           in
           subst (λ (o : Ops). ops_has n o ≡ false) (put_first p r i (partly x 0 R) u)
           (put_none n p r i (partly x 0 R) (cons u no_ops) g w);
@@ -193,7 +197,7 @@ pub falls_from : (k : ℕ) (block : Ops) (rs rs2 : Regions) → regions_get k rs
     × (2 * ops_size block < 2 * (regions_size (hollow k rs) - k))
 falls_from k block rs rs2 e l h =
     let q : regions_size (hollow (k + 1) rs2) ≡ regions_size (hollow (suc k) rs) =
-        ap regions_size (l ∙ ap (λ j. hollow j rs) (add-one k))
+    ap regions_size (l ∙ ap (λ j. hollow j rs) (add-one k))
     in
     let s = size_step k block rs e in
     let w = size_long (suc k) rs in
@@ -241,7 +245,8 @@ first_op n k j sibling c rest u size b =
       short = record { lists = b.short.0; inside = b.short.1.0 };
     }
 
-pub next_op : (n : OpName) (k j : ℕ) (sibling : Option OpName) (c : Tree) (rest : Ops) (u : Tree) (size : ℕ) (m : OpName)
+pub next_op : (n : OpName) (k j : ℕ) (sibling : Option OpName) (c : Tree) (rest : Ops) (u : Tree) (size : ℕ)
+    (m : OpName)
     → Before n k j sibling (cons c rest) u size → m ≡ c.name → OpsDistinct (cons (tree_put n k j c u) no_ops)
     → tree_count (tree_put n k j c u) ≤ tree_count u + tree_count c
     → Before n k (j + 1) (Some m) rest (tree_put n k j c u) size
@@ -259,7 +264,7 @@ next_op n k j sibling c rest u size m b e names at_most =
             | inr t ↦ t
           ] in
           let w = b.is_new x (or_right (eqb c.name.0 x.0) (regions_has x c.regions || ops_has x rest)
-              (or_right (regions_has x c.regions) (ops_has x rest) h))
+          (or_right (regions_has x c.regions) (ops_has x rest) h))
           in
           subst (λ (o : Ops). ops_has x o ≡ false) (put_first n k j c u)
           (put_none x n k j c (cons u no_ops) (none_cons (eqb c.name.0 x.0) (regions_has x c.regions) f g) w);

@@ -1,9 +1,7 @@
 -- The names in slots, after a change of one slot.
-use Rattle.std.proofs.Common.{◌≡◌, ℕ, ◌<◌, List, length, slice_set, sym, ◌∙◌, ap, refl, inl, inr}
+use Rattle.std.proofs.Common.{◌≡◌, ℕ, ◌<◌, length, slice_set, sym, ◌∙◌, ap}
 use Rattle.std.specs.Prelude.{map, Option, Some, None}
 use Rattle.std.proofs.lemmas.List.{get_or-set_same, get_or-set_other, length-set, length-map}
-use Rattle.std.proofs.lemmas.Bool.{cases_eq}
-use Rattle.xf_ir.specs.declared.name.OpName.{OpName}
 use Rattle.xf_arena_bed.specs.declared.bed.Bed.TheInside.{Inside}
 use Rattle.xf_arena_bed.specs.declared.node.Node.{Node}
 use Rattle.xf_arena_bed.specs.declared.node.OpId.{OpId}
@@ -11,7 +9,7 @@ use Rattle.xf_arena_bed.specs.Value.{Layout, seat_at}
 use Rattle.xf_arena_bed.specs.Seat.{seat_of}
 use Rattle.xf_arena_bed.specs.Live.{name_of, IsLive}
 use Rattle.xf_arena_bed.specs.Sits.{Nodes, node_at}
-use Rattle.xf_arena_bed.specs.View.{layout_of, IsBed}
+use Rattle.xf_arena_bed.specs.View.{layout_of}
 use Rattle.xf_arena_bed.proofs.CloseLemmas.{seat_is}
 
 pub seat_put : (nodes : Nodes) (s : ℕ) (x : Node) → s < length nodes

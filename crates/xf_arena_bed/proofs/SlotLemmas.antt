@@ -1,14 +1,15 @@
 -- One slot more, the first slot, and the root.
-use Rattle.std.proofs.Common.{◌≡◌, ℕ, zero, suc, ◌+◌, ◌*◌, ◌<◌, ◌≤◌, ◌^◌, List, [], ◌∷◌, ◌++◌, length, slice_index}
-use Rattle.std.proofs.Common.{sym, ◌∙◌, ap, arith, refl, Bool, true, false, eqb, ◌||◌, ◌⊎◌, inl, inr, length-append}
-use Rattle.std.specs.Prelude.{map, Option, Some, None, vec_capacity, slice_set}
-use Rattle.std.proofs.lemmas.List.{get_or_append_left, map-append, get_or-set_same, get_or-set_other, length-set, length-map}
+use Rattle.std.proofs.Common.{◌≡◌, ℕ, zero, suc, ◌+◌, ◌*◌, ◌<◌, ◌≤◌, List, [], ◌∷◌, ◌++◌, length, slice_index}
+use Rattle.std.proofs.Common.{sym, ◌∙◌, ap, arith, refl, true, false, eqb, inl, inr, length-append}
+use Rattle.std.specs.Prelude.{map, Option, Some, None, slice_set}
+use Rattle.std.proofs.lemmas.List.{get_or_append_left, map-append, get_or-set_same, get_or-set_other, length-set}
+use Rattle.std.proofs.lemmas.List.{length-map}
 use Rattle.std.proofs.Math.Seq.{get_or-append_seam}
-use Rattle.std.proofs.lemmas.Bool.{eq-eqb, cases_lt, cases_Bool, cases_eq}
+use Rattle.std.proofs.lemmas.Bool.{eq-eqb, cases_Bool, cases_eq}
 use Rattle.xf_type.specs.declared.payload_type.PayloadType.{PayloadType}
 use Rattle.xf_ir.specs.declared.name.OpName.{OpName}
 use Rattle.xf_ir.specs.RuleBlocks.{block_args}
-use Rattle.xf_ir.specs.Tree.{Ops, no_ops, op, Regions, no_regions, region, Tree, cons}
+use Rattle.xf_ir.specs.Tree.{no_ops, Tree, cons}
 use Rattle.xf_ir.specs.Count.{tree_count, regions_count}
 use Rattle.xf_ir.specs.Walk.{tree_find}
 use Rattle.xf_rings.specs.Ring.{Path}
@@ -19,17 +20,16 @@ use Rattle.xf_arena_tree.specs.Puts.{bare}
 use Rattle.xf_arena_tree.proofs.SplitLemmas.{ops_unfound}
 use Rattle.xf_arena_bed.specs.declared.bed.Bed.TheInside.{Inside}
 use Rattle.xf_arena_bed.specs.declared.node.Node.{Node}
-use Rattle.xf_arena_bed.specs.declared.node.OpId.{OpId}
-use Rattle.xf_arena_bed.specs.Home.{Home}
 use Rattle.xf_arena_bed.specs.Value.{Layout, seat_at}
 use Rattle.xf_arena_bed.specs.Seat.{seat_of}
-use Rattle.xf_arena_bed.specs.Live.{name_of, IsLive, leaf_of}
-use Rattle.xf_arena_bed.specs.Sits.{Nodes, node_at, holds, place, head, item, item_of, OpsSit, RegionsSit, Holds, AllFree, FreeOk}
+use Rattle.xf_arena_bed.specs.Live.{leaf_of}
+use Rattle.xf_arena_bed.specs.Sits.{Nodes, node_at, holds, place, head, item, item_of, RegionsSit, Holds}
+use Rattle.xf_arena_bed.specs.Sits.{AllFree, FreeOk}
 use Rattle.xf_arena_bed.specs.View.{layout_of, IsBed, IsIndexed, number_in}
 use Rattle.xf_arena_bed.proofs.PlaceLemmas.{Placed, AllPlaced, place_within}
 use Rattle.xf_arena_bed.proofs.LeafLemmas.{ops_placed, holder}
-use Rattle.xf_arena_bed.proofs.CloseLemmas.{closed, rebuilt_is, seat_is}
-use Rattle.xf_arena_bed.proofs.FrameLemmas.{Frame, AllPass, ops_frame}
+use Rattle.xf_arena_bed.proofs.CloseLemmas.{seat_is}
+use Rattle.xf_arena_bed.proofs.FrameLemmas.{Frame, ops_frame}
 use Rattle.xf_arena_bed.proofs.HoldsPutLemmas.{self_has}
 use Rattle.xf_arena_bed.proofs.KidRows.{find_is}
 
@@ -68,7 +68,8 @@ abbrev Below : ℕ → List ℕ → Type 0
 Below n [] = Unit {0}
 Below n (x ∷ xs) = (x < n) × Below n xs
 
-path_more : (next : List ℕ) (k a : ℕ) (xs : List ℕ) (b : ℕ) → a < length next → Below (length next) xs → Path next a xs b
+path_more : (next : List ℕ) (k a : ℕ) (xs : List ℕ) (b : ℕ) → a < length next → Below (length next) xs
+    → Path next a xs b
     → Path (next ++ length next ∷ [] ++ k ∷ []) a xs b
 path_more next k a [] b h w q = next_more next k a h ∙ q
 path_more next k a (x ∷ xs) b h w q = (next_more next k a h ∙ q.0, path_more next k x xs b w.0 w.1 q.1)
@@ -88,7 +89,8 @@ frame_more nodes next k e = record {
       (omega (arith, place_within nodes n p)) (items_in nodes (length next) ns e a) q;
 }
 
-free_more : (nodes : Nodes) (next : List ℕ) (k : ℕ) (fs : List ℕ) → length next ≡ 2 * length nodes → AllFree nodes next fs
+free_more : (nodes : Nodes) (next : List ℕ) (k : ℕ) (fs : List ℕ) → length next ≡ 2 * length nodes
+    → AllFree nodes next fs
     → AllFree (nodes ++ None ∷ []) (next ++ length next ∷ [] ++ k ∷ []) fs
 free_more nodes next k [] e a = tt
 free_more nodes next k (f ∷ fs) e a =
@@ -104,12 +106,14 @@ free_more nodes next k (f ∷ fs) e a =
     )
 
 free_last : (nodes : Nodes) (next : List ℕ) (fs : List ℕ) (f : ℕ) → AllFree nodes next fs
-    → (f < length nodes) × ((node_at nodes f ≡ None) × ((slice_index next (item f) ≡ item f) × (slice_index next (head f) ≡ head f)))
+    → (f < length nodes) × ((node_at nodes f ≡ None)
+    × ((slice_index next (item f) ≡ item f) × (slice_index next (head f) ≡ head f)))
     → AllFree nodes next (fs ++ f ∷ [])
 free_last nodes next [] f a h = (h, tt)
 free_last nodes next (g ∷ fs) f a h = (a.0, free_last nodes next fs f a.1 h)
 
-once_last : (nodes : Nodes) (next : List ℕ) (fs : List ℕ) (f : ℕ) → length nodes ≤ f → AllFree nodes next fs → AllOnce fs
+once_last : (nodes : Nodes) (next : List ℕ) (fs : List ℕ) (f : ℕ) → length nodes ≤ f → AllFree nodes next fs
+    → AllOnce fs
     → AllOnce (fs ++ f ∷ [])
 once_last nodes next [] f h a o = (tt, tt)
 once_last nodes next (g ∷ fs) f h a o =
@@ -126,7 +130,8 @@ pub record Grown (nodes : Nodes) (next : List ℕ) (root : ℕ) (t : Tree) (free
 
 pub grown : (nodes : Nodes) (next : List ℕ) (root : ℕ) (t : Tree) (free : List ℕ) (live : ℕ) → Holds nodes next root t
     → FreeOk nodes next free live
-    → Grown (nodes ++ None ∷ []) (next ++ length next ∷ [] ++ (length next + 1) ∷ []) root t (free ++ length nodes ∷ []) live
+    → Grown (nodes ++ None ∷ []) (next ++ length next ∷ [] ++ (length next + 1) ∷ []) root t
+    (free ++ length nodes ∷ []) live
 grown nodes next root t free live h f =
     let k = length next + 1 in
     let nodes2 = nodes ++ None ∷ [] in
@@ -143,7 +148,8 @@ grown nodes next root t free live h f =
     let alone : slice_index next2 (head s) ≡ head s = rw h1 (next_first next k) in
     record {
       holds = record {
-        sits = ops_frame nodes nodes2 next next2 (λ n. true) (frame_more nodes next k sz) None (cons t no_ops) (λ x q. refl)
+        sits = ops_frame nodes nodes2 next next2 (λ n. true) (frame_more nodes next k sz) None (cons t no_ops)
+            (λ x q. refl)
             h.sits;
         known = λ i x q. h.known i x (sym (node_more nodes i) ∙ q);
         apart = record {
@@ -151,7 +157,8 @@ grown nodes next root t free live h f =
         };
         distinct = h.distinct;
         size = omega (arith, ln, l1, l2);
-        top = h.top ∙ sym (place_more nodes t.name (ops_placed nodes next None (cons t no_ops) t.name h.sits (self_has t)));
+        top = h.top ∙ sym (place_more nodes t.name
+            (ops_placed nodes next None (cons t no_ops) t.name h.sits (self_has t)));
       };
       free_are = record {
         each = free_last nodes2 next2 free s (free_more nodes next k free sz f.each)
@@ -251,8 +258,7 @@ root_live a v y x i e q w =
     let h : Holds a.nodes.items a.links a.root v.root = rw root at i.holds in
     let r = root_node a.nodes.items a.links a.root v.root h in
     let z : Some r.node ≡ Some x = sym r.at ∙ sym q ∙ w in
-    let same : r.node ≡ x = some_node r.node x z in
-    (
+    let same : r.node ≡ x = some_node r.node x z in (
       ap (λ (m : Layout). seat_at m.seats a.root) (sym e) ∙ seat_is a.nodes.items a.root ∙ ap seat_of (sym q ∙ w),
       ap (λ (n : Node). n.name) (sym same) ∙ r.name,
     )

@@ -1,16 +1,16 @@
 -- The number that a child is linked behind.
-use Rattle.std.proofs.Common.{◌≡◌, ℕ, zero, suc, ◌+◌, ◌*◌, ◌<◌, length, List, [], ◌∷◌, ◌++◌, sym, ◌∙◌, ap, arith, refl}
-use Rattle.std.proofs.Common.{Bool, true, false, ◌⊎◌, inl, inr}
+use Rattle.std.proofs.Common.{◌≡◌, ℕ, ◌<◌, length, List, [], ◌∷◌, ◌++◌, sym, ◌∙◌, ap, arith, refl}
+use Rattle.std.proofs.Common.{true, false, inl, inr}
 use Rattle.std.specs.Prelude.{map, Option, Some, None}
 use Rattle.xf_ir.specs.declared.name.OpName.{OpName}
-use Rattle.xf_ir.specs.Tree.{Ops, no_ops, op, Regions, no_regions, region, Tree, cons}
+use Rattle.xf_ir.specs.Tree.{no_ops, Regions, Tree, cons}
 use Rattle.xf_arena_tree.specs.Names.{kids, ops_has}
 use Rattle.xf_arena_tree.specs.Without.{OpsWhere}
 use Rattle.xf_arena_tree.specs.Puts.{InRange, kids_before, kids_after, last_name, StandsAt}
 use Rattle.xf_arena_tree.proofs.WhereLemmas.{where_map, where_found}
 use Rattle.xf_arena_bed.specs.declared.bed.Bed.TheInside.{Inside}
 use Rattle.xf_arena_bed.specs.declared.node.OpId.{OpId}
-use Rattle.xf_arena_bed.specs.Value.{Layout, seat_at}
+use Rattle.xf_arena_bed.specs.Value.{Layout}
 use Rattle.xf_arena_bed.specs.Live.{name_of, names_of, IsLive, AreLive, number_before}
 use Rattle.xf_arena_bed.specs.Sits.{Nodes, node_at, holds, place, head, item, item_of, Holds}
 use Rattle.xf_arena_bed.specs.View.{layout_of, IsBed}
@@ -18,8 +18,8 @@ use Rattle.xf_arena_bed.proofs.PlaceLemmas.{Placed, place_within}
 use Rattle.xf_arena_bed.proofs.LeafLemmas.{place_is, holder}
 use Rattle.xf_arena_bed.proofs.CloseLemmas.{seated}
 use Rattle.xf_arena_bed.proofs.FindLemmas.{ops_found}
-use Rattle.xf_arena_bed.proofs.PutLemmas.{SplitAt, last, under, AllUnder, kids_under, kids_split, placed_left}
-use Rattle.xf_arena_bed.proofs.PutLemmas.{KidItem, IsBefore}
+use Rattle.xf_arena_bed.proofs.PutLemmas.{SplitAt, last, under, AllUnder, kids_under, kids_split}
+use Rattle.xf_arena_bed.proofs.PutLemmas.{IsBefore}
 
 -- ---- a live operation, in the fields
 
@@ -104,7 +104,8 @@ spotted a v p (Some k) r i b e lp ls w =
     let f = ops_found nodes a.links None (cons v.root no_ops) (name_of p) s.holds.sits s.has in
     let q = where_found (name_of p) (StandsAt r i (Some (name_of k))) (cons v.root no_ops) f.0 w f.1.0 in
     let split = kids_split r i f.0.regions q.in_range in
-    let all : AllUnder nodes f.0.name (kids f.0.regions) = kids_under nodes a.links f.0.name 0 f.0.regions f.1.1.inner in
+    let all : AllUnder nodes f.0.name (kids f.0.regions) =
+    kids_under nodes a.links f.0.name 0 f.0.regions f.1.1.inner in
     let some = under_left nodes f.0.name (kids_before r i f.0.regions) (kids_after r i f.0.regions) (rw split at all) in
     let below = last_under nodes f.0.name (kids_before r i f.0.regions) (name_of k) q.before some in
     record {

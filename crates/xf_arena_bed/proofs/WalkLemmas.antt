@@ -1,5 +1,5 @@
 -- Where the walk to a place stops.
-use Rattle.std.proofs.Common.{◌≡◌, ℕ, ◌<◌, ◌≤◌, List, [], ◌∷◌, ◌++◌, sym, ◌∙◌, ap, refl, eqb, true, false, arith}
+use Rattle.std.proofs.Common.{◌≡◌, ℕ, ◌<◌, List, [], ◌∷◌, ◌++◌, sym, ◌∙◌, ap, refl, eqb, true, false, arith}
 use Rattle.std.specs.Prelude.{Option, Some, None, nat_lt}
 use Rattle.std.proofs.lemmas.Bool.{eq-eqb, lt-ltb, le-ltb}
 use Rattle.xf_ir.specs.declared.name.OpName.{OpName}
@@ -34,11 +34,12 @@ pub sibling_place : (p : OpName) (r i left : ℕ) (root : Tree) (kids init now :
     → OpsDistinct (cons root no_ops) → (t : Tree) × (tree_find p root ≡ Some t)
     → ((t : Tree) → tree_find p root ≡ Some t → inner_kids kids ≡ inner_of 0 t.regions)
     → OpsWhere p (InRange r i) (cons root no_ops) → init ≡ kids
-    → last_or (names_of before) (before_place r left (inner_kids now)) ≡ last_or None (before_place r i (inner_kids init))
+    → last_or (names_of before) (before_place r left (inner_kids now))
+    ≡ last_or None (before_place r i (inner_kids init))
     → before_place r left (inner_kids now) ≡ [] → OpsWhere p (StandsAt r i (names_of before)) (cons root no_ops)
 sibling_place p r i left root kids init now before d f all w e told stop =
     let s : names_of before ≡ last_or None (before_place r i (inner_kids kids)) =
-        sym (ap (last_or (names_of before)) stop) ∙ told ∙ ap (λ l. last_or None (before_place r i (inner_kids l))) e
+    sym (ap (last_or (names_of before)) stop) ∙ told ∙ ap (λ l. last_or None (before_place r i (inner_kids l))) e
     in
     stands_at p r i root f.0 (inner_kids kids) (names_of before) d f.1 (all f.0 f.1) w s
 

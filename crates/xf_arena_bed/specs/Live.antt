@@ -1,5 +1,5 @@
 -- Live operations.
-use Rattle.std.specs.Prelude.{◌≡◌, ℕ, List, Option, Some, None}
+use Rattle.std.specs.Prelude.{◌≡◌, ℕ, Option, Some, None}
 use Rattle.xf_ir.specs.Tree.{Tree, Regions}
 use Rattle.xf_arena_tree.specs.Fills.{hollow}
 use Rattle.xf_arena_tree.specs.Puts.{bare}

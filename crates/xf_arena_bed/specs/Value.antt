@@ -1,5 +1,5 @@
 -- What contracts see: a tree, and the slots.
-use Rattle.std.specs.Prelude.{◌≡◌, ℕ, List, Option, Some, None, slice_index_or, refl}
+use Rattle.std.specs.Prelude.{ℕ, List, Option, None, slice_index_or, refl}
 use Rattle.std.specs.Coded.{Coded, code_by, coded×, coded_list, coded_option}
 use Rattle.xf_ir.specs.Tree.{Tree, tree_code}
 use Rattle.xf_ir.specs.declared.name.OpName.{OpName}

@@ -1,7 +1,6 @@
 -- What the fields are seen as, and what they keep.
-use Rattle.std.specs.Prelude.{◌≡◌, ℕ, ◌<◌, ◌≤◌, ◌^◌, List, length, map, Option, Some, None, vec_capacity}
+use Rattle.std.specs.Prelude.{◌≡◌, ℕ, ◌≤◌, ◌^◌, List, length, map, Option, Some, None, vec_capacity}
 use Rattle.xf_ir.specs.Count.{tree_count}
-use Rattle.xf_ir.specs.declared.name.OpName.{OpName}
 use Rattle.xf_index.specs.Index.{name_at}
 use Rattle.xf_arena_bed.specs.declared.bed.Bed.TheInside.{Inside}
 use Rattle.xf_arena_bed.specs.declared.node.Node.{Node}

@@ -100,7 +100,8 @@ impl Bed {
         requires live { IsLive self.old parent }
         requires home { node.parent ≡ Some (parent, at.region) }
         requires sibling { AreLive self.old sibling }
-        requires place { OpsWhere (name_of parent) (StandsAt at.region at.at (names_of sibling)) (cons self.old.root no_ops) }
+        requires place { OpsWhere (name_of parent) (StandsAt at.region at.at (names_of sibling))
+            (cons self.old.root no_ops) }
         requires is_new { ops_has node.name (cons self.old.root no_ops) ≡ false }
         requires room { tree_count self.old.root < length self.old.seats }
         ensures root { self.new.root ≡ tree_put (name_of parent) at.region at.at (leaf_of node) self.old.root }

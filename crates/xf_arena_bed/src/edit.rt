@@ -38,7 +38,8 @@ impl Bed {
         self.erase_leaf(id);
     }
 
-    /// Puts a tree of new names at a spot, and takes slots for it where too few are free; all others stay in their slots.
+    /// Puts a tree of new names at a spot, and takes slots for it where too few are free; all others stay in their
+    /// slots.
     ///
     /// Refuses for want of memory alone, and then all operations are as before.
     pub fn insert(&mut self, alloc: Global, tree: Op, at: Spot) -> Result<OpId, NoMemory>

@@ -54,8 +54,10 @@ impl Bed {
     ) -> OpId
         requires live { IsLive self.old parent }
         requires sibling { AreLive self.old sibling }
-        requires place { OpsWhere (name_of parent) (StandsAt at.region at.at (names_of sibling)) (cons self.old.root no_ops) }
-        requires fresh { (x : OpName) → ops_has x (cons tree no_ops) ≡ true → ops_has x (cons self.old.root no_ops) ≡ false }
+        requires place { OpsWhere (name_of parent) (StandsAt at.region at.at (names_of sibling))
+            (cons self.old.root no_ops) }
+        requires fresh { (x : OpName) → ops_has x (cons tree no_ops) ≡ true
+            → ops_has x (cons self.old.root no_ops) ≡ false }
         requires distinct { OpsDistinct (cons tree no_ops) }
         requires room { tree_count self.old.root + tree_count tree ≤ length self.old.seats }
         requires short { TreeIsShort tree }
@@ -104,7 +106,8 @@ impl Bed {
         requires home { node.parent ≡ Some (parent, at.region) }
         requires live { IsLive self.old parent }
         requires sibling { AreLive self.old sibling }
-        requires place { OpsWhere (name_of parent) (StandsAt at.region at.at (names_of sibling)) (cons self.old.root no_ops) }
+        requires place { OpsWhere (name_of parent) (StandsAt at.region at.at (names_of sibling))
+            (cons self.old.root no_ops) }
         requires fresh { (x : OpName) → ops_has x (cons (partly node region (regions_of regions.items)) no_ops) ≡ true
             → ops_has x (cons self.old.root no_ops) ≡ false }
         requires distinct { OpsDistinct (cons (partly node region (regions_of regions.items)) no_ops) }
@@ -136,7 +139,8 @@ impl Bed {
         requires live { IsLive self.old parent }
         requires place { OpsWhere (name_of parent) (StandsAt region 0 None) (cons self.old.root no_ops) }
         requires other { ops_has (name_of parent) (ops_of ops.items) ≡ false }
-        requires fresh { (x : OpName) → ops_has x (ops_of ops.items) ≡ true → ops_has x (cons self.old.root no_ops) ≡ false }
+        requires fresh { (x : OpName) → ops_has x (ops_of ops.items) ≡ true
+            → ops_has x (cons self.old.root no_ops) ≡ false }
         requires distinct { OpsDistinct (ops_of ops.items) }
         requires names { OpsDistinct (cons self.old.root no_ops) }
         requires room { tree_count self.old.root + ops_count (ops_of ops.items) ≤ length self.old.seats }

@@ -1,5 +1,6 @@
 //! Slots, and what they hold.
-ghost use Rattle.std.specs.Prelude.{◌≡◌, ℕ, ◌+◌, ◌<◌, ◌≤◌, ◌^◌, [], ◌∷◌, ◌++◌, length, Some, None, IfSome, IfNone, IfOk, OnOk, OnErr};
+ghost use Rattle.std.specs.Prelude.{◌≡◌, ℕ, ◌+◌, ◌<◌, ◌≤◌, ◌^◌, [], ◌∷◌, ◌++◌, length};
+ghost use Rattle.std.specs.Prelude.{Some, None, IfSome, IfNone, IfOk, OnOk, OnErr};
 ghost use Rattle.xf_index.specs.Index.{name_at};
 ghost use Rattle.xf_ir.specs.Count.{tree_count};
 ghost use Rattle.xf_ir.specs.Tree.{cons, no_ops};

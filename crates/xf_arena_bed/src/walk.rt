@@ -19,7 +19,8 @@ impl Bed {
         requires live { IsLive self.now parent }
         requires range { OpsWhere (name_of parent) (InRange at.region at.at) (cons self.now.root no_ops) }
         ensures live { AreLive self.now result }
-        ensures place { OpsWhere (name_of parent) (StandsAt at.region at.at (names_of result)) (cons self.now.root no_ops) }
+        ensures place { OpsWhere (name_of parent) (StandsAt at.region at.at (names_of result))
+            (cons self.now.root no_ops) }
     {
         let mut before = None;
         let mut left = at.at;

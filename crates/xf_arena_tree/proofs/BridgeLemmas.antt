@@ -1,13 +1,13 @@
 -- The edits of the definitions, where names are distinct.
-use Rattle.std.proofs.Common.{◌≡◌, ℕ, zero, suc, ◌+◌, ◌<◌, ◌≤◌, List, [], ◌∷◌, ◌++◌, length}
-use Rattle.std.proofs.Common.{sym, ◌∙◌, ap, subst, arith, refl, Bool, true, false, eqb, ◌||◌, ◌⊎◌, inl, inr}
+use Rattle.std.proofs.Common.{◌≡◌, ℕ, zero, suc, ◌≤◌, List, [], ◌∷◌, ◌++◌, length}
+use Rattle.std.proofs.Common.{sym, ◌∙◌, ap, arith, refl, Bool, true, false, eqb, ◌||◌, inl, inr}
 use Rattle.std.specs.Prelude.{Option, Some, None}
 use Rattle.std.proofs.lemmas.Bool.{cases_Bool, or_parts, eqb-true, eq-eqb}
 use Rattle.xf_ir.specs.declared.name.OpName.{OpName}
 use Rattle.xf_ir.specs.declared.spot.Spot.{Spot}
 use Rattle.xf_ir.specs.Tree.{Ops, no_ops, op, Regions, no_regions, region, Tree, cons}
 use Rattle.xf_ir.specs.Walk.{ops_names, regions_names, tree_names, ops_find, regions_find, tree_find, first_of}
-use Rattle.xf_ir.specs.Lists.{same_name, is_among, Once}
+use Rattle.xf_ir.specs.Lists.{is_among, Once}
 use Rattle.xf_ir.specs.Edits.{ops_at, regions_at, tail, tree_erased}
 use Rattle.xf_ir.specs.Spots as spots
 use Rattle.xf_ir.specs.Spots.{ops_insert, regions_insert, regions_get, ops_length, IsSpot}
@@ -44,7 +44,8 @@ mutual
       rw (a, b) refl
 
 pub erased_is : (o : OpName) (t : Tree) → OpsDistinct (cons t no_ops) → tree_without o t ≡ tree_erased o t
-erased_is o t d = ap (λ (rs : Regions). let w : Tree = record t { regions = rs } in w) (regions_without_is o t.regions d.1.1.1.0)
+erased_is o t d = ap (λ (rs : Regions). let w : Tree = record t { regions = rs } in w)
+    (regions_without_is o t.regions d.1.1.1.0)
 
 -- ---- put
 
@@ -118,13 +119,16 @@ mutual
   pub regions_among_is : (x : OpName) (rs : Regions) → is_among x (regions_names rs) ≡ regions_has x rs
   regions_among_is x no_regions = refl
   regions_among_is x (region args ops rest) =
-      among_append x (ops_names ops) (regions_names rest) ∙ ap (λ b. b || is_among x (regions_names rest)) (among_is x ops)
+      among_append x (ops_names ops) (regions_names rest)
+      ∙ ap (λ b. b || is_among x (regions_names rest)) (among_is x ops)
       ∙ ap (λ b. ops_has x ops || b) (regions_among_is x rest)
-
 
 pub once_left : (ns ms : List OpName) → Once (ns ++ ms) → Once ns
 once_left [] ms o = tt
-once_left (n ∷ ns) ms o = ((or_parts (is_among n ns) (is_among n ms) (sym (among_append n ns ms) ∙ o.0)).0, once_left ns ms o.1)
+once_left (n ∷ ns) ms o = (
+  (or_parts (is_among n ns) (is_among n ms) (sym (among_append n ns ms) ∙ o.0)).0,
+  once_left ns ms o.1,
+)
 
 pub once_right : (ns ms : List OpName) → Once (ns ++ ms) → Once ms
 once_right [] ms o = o
@@ -145,13 +149,14 @@ mutual
   once_distinct no_ops o = tt
   once_distinct (op n k ds os ts rs rest) o =
       let p = or_parts (is_among n (regions_names rs)) (is_among n (ops_names rest))
-          (sym (among_append n (regions_names rs) (ops_names rest)) ∙ o.0)
+      (sym (among_append n (regions_names rs) (ops_names rest)) ∙ o.0)
       in (
         sym (regions_among_is n rs) ∙ p.0,
         (
           sym (among_is n rest) ∙ p.1,
           (
-            (λ x h. sym (among_is x rest) ∙ once_apart x (regions_names rs) (ops_names rest) o.1 (regions_among_is x rs ∙ h)),
+            (λ x h. sym (among_is x rest) ∙ once_apart x (regions_names rs) (ops_names rest) o.1
+                (regions_among_is x rs ∙ h)),
             (
               regions_once_distinct rs (once_left (regions_names rs) (ops_names rest) o.1),
               once_distinct rest (once_right (regions_names rs) (ops_names rest) o.1),
@@ -174,8 +179,7 @@ pub once_append : (ns ms : List OpName) → Once ns → Once ms
     → ((x : OpName) → is_among x ns ≡ true → is_among x ms ≡ false) → Once (ns ++ ms)
 once_append [] ms a b h = b
 once_append (n ∷ ns) ms a b h =
-    let here : is_among n (n ∷ ns) ≡ true = (let z = eq-eqb n.0 n.0 refl in rw z refl) in
-    (
+    let here : is_among n (n ∷ ns) ≡ true = (let z = eq-eqb n.0 n.0 refl in rw z refl) in (
       among_append n ns ms ∙ (let y = h n here in rw (a.0, y) refl),
       once_append ns ms a.1 b (λ x q. h x (behind n x ns q)),
     )
@@ -188,11 +192,11 @@ mutual
   distinct_once no_ops d = tt
   distinct_once (op n k ds os ts rs rest) d =
       let a = regions_among_is n rs ∙ d.0 in
-      let b = among_is n rest ∙ d.1.0 in
-      (
+      let b = among_is n rest ∙ d.1.0 in (
         among_append n (regions_names rs) (ops_names rest) ∙ rw (a, b) refl,
-        once_append (regions_names rs) (ops_names rest) (regions_distinct_once rs d.1.1.1.0) (distinct_once rest d.1.1.1.1)
-        (λ x h. among_is x rest ∙ d.1.1.0 x (sym (regions_among_is x rs) ∙ h)),
+        once_append (regions_names rs) (ops_names rest) (regions_distinct_once rs d.1.1.1.0)
+            (distinct_once rest d.1.1.1.1)
+            (λ x h. among_is x rest ∙ d.1.1.0 x (sym (regions_among_is x rs) ∙ h)),
       )
 
   pub regions_distinct_once : (rs : Regions) → RegionsDistinct rs → Once (regions_names rs)
@@ -220,14 +224,15 @@ regions_eq : (t x : Tree) → Some t ≡ Some x → x.regions ≡ t.regions
 regions_eq t x e = let q : t ≡ x = cc in ap (λ (y : Tree). y.regions) (sym q)
 
 mutual
-  pub found_where : (o : OpName) (Q : Regions → Type 0) (ops : Ops) (x : Tree) → OpsDistinct ops → ops_find o ops ≡ Some x
+  pub found_where : (o : OpName) (Q : Regions → Type 0) (ops : Ops) (x : Tree) → OpsDistinct ops
+      → ops_find o ops ≡ Some x
       → Q x.regions → OpsWhere o Q ops
   found_where o Q no_ops x d e q = cc
   found_where o Q (op n k ds os ts rs rest) x d e q =
       elim (cases_Bool (eqb n.0 o.0)) [
         | inl t ↦ (
             let here : Tree =
-                record { name = n; kind = k; attrs = ds; operands = os; results = ts; regions = rs }
+            record { name = n; kind = k; attrs = ds; operands = os; results = ts; regions = rs }
             in
             let w = regions_eq here x (rw t at e) in
             let inner : regions_has o rs ≡ false = rw (same_op n o t) at d.0 in
@@ -254,8 +259,7 @@ mutual
       elim (first_cases (ops_find o ops) (regions_find o rest) x e) [
         | inl a ↦ (found_where o Q ops x d.1.0 a q, regions_where_absent o Q rest (d.0 o (find_has o ops x a)))
         | inr a ↦ (
-            let b = find_has_regions o rest x a.1 in
-            (
+            let b = find_has_regions o rest x a.1 in (
               where_absent o Q ops (not_both (λ y. ops_has y ops) (λ y. regions_has y rest) o d.0 b),
               regions_found_where o Q rest x d.1.1 a.1 q,
             ))
@@ -267,7 +271,8 @@ length_heads : (ops : Ops) → ops_length ops ≡ length (heads ops)
 length_heads no_ops = refl
 length_heads (op n k ds os ts rs rest) = omega (arith, length_heads rest)
 
-range_of : (r i : ℕ) (rs : Regions) (block : Ops) → regions_get r rs ≡ Some block → i ≤ ops_length block → InRange r i rs
+range_of : (r i : ℕ) (rs : Regions) (block : Ops) → regions_get r rs ≡ Some block → i ≤ ops_length block
+    → InRange r i rs
 range_of r i no_regions block e l = cc
 range_of zero i (region args ops rest) block e l =
     let q : ops ≡ block = cc in

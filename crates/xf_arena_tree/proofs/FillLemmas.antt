@@ -1,21 +1,22 @@
 -- Trees that are filled block by block.
-use Rattle.std.proofs.Common.{◌≡◌, ℕ, zero, suc, ◌+◌, ◌<◌, ◌≤◌, List, [], ◌∷◌, ◌++◌, length, take, drop}
-use Rattle.std.proofs.Common.{sym, ◌∙◌, ap, subst, arith, refl, Bool, true, false, eqb, ◌||◌, ◌⊎◌, inl, inr, append_assoc, ◌^◌}
+use Rattle.std.proofs.Common.{◌≡◌, ℕ, zero, suc, ◌+◌, ◌<◌, ◌≤◌, List, [], ◌∷◌, ◌++◌, length, take}
+use Rattle.std.proofs.Common.{sym, ◌∙◌, ap, subst, arith, refl, true, false, eqb, inl, inr}
+use Rattle.std.proofs.Common.{append_assoc, ◌^◌}
 use Rattle.std.specs.Prelude.{Option, Some, None}
-use Rattle.std.proofs.lemmas.Bool.{cases_Bool, or_parts, or_left, or_right, eqb-true, eq-eqb}
+use Rattle.std.proofs.lemmas.Bool.{cases_Bool, or_parts, eqb-true}
 use Rattle.xf_type.specs.declared.payload_type.PayloadType.{PayloadType}
 use Rattle.xf_ir.specs.declared.name.OpName.{OpName}
 use Rattle.xf_ir.specs.RuleBlocks.{block_args}
 use Rattle.xf_ir.specs.Tree.{Ops, no_ops, op, Regions, no_regions, region, Tree, cons}
-use Rattle.xf_ir.specs.Count.{ops_count, regions_count, tree_count}
+use Rattle.xf_ir.specs.Count.{ops_count, regions_count}
 use Rattle.xf_ir.specs.Spots.{ops_insert, regions_insert, regions_get, ops_length}
-use Rattle.xf_ir.specs.Bounds.{OpsShort, RegionsShort, blocks_of, regions_length}
+use Rattle.xf_ir.specs.Bounds.{OpsShort, regions_length}
 use Rattle.xf_ir.specs.Replaced.{append}
-use Rattle.xf_arena_tree.specs.Names.{heads, kids, ops_has, regions_has, OpsDistinct, RegionsDistinct}
+use Rattle.xf_arena_tree.specs.Names.{heads, ops_has, regions_has, OpsDistinct, RegionsDistinct}
 use Rattle.xf_arena_tree.specs.Without.{OpsWhere, RegionsWhere}
 use Rattle.xf_arena_tree.specs.Puts.{ops_put, regions_put, tree_put, InRange, bare, kids_before, last_name, StandsAt}
 use Rattle.xf_arena_tree.specs.Fills.{hollow, puts_in, insert_all, AreShort}
-use Rattle.xf_arena_tree.proofs.WithoutLemmas.{parts3, none2, none3}
+use Rattle.xf_arena_tree.proofs.WithoutLemmas.{parts3}
 use Rattle.xf_arena_tree.proofs.GrowLemmas.{with_child, put_put}
 
 -- ---- a block filled from its start
@@ -137,8 +138,8 @@ tree_put_put : (n : OpName) (k j : ℕ) (c : Tree) (p : OpName) (r i : ℕ) (x u
     → ops_has n (cons u no_ops) ≡ false → tree_put n k j c (tree_put p r i x u) ≡ tree_put p r i (with_child k j c x) u
 tree_put_put n k j c p r i x u e h =
     trees_same _ _ (
-      sym (put_first n k j c (tree_put p r i x u)) ∙ ap (ops_put n k j c) (sym (put_first p r i x u))
-      ∙ put_put n k j c p r i x (cons u no_ops) e h ∙ put_first p r i (with_child k j c x) u)
+    sym (put_first n k j c (tree_put p r i x u)) ∙ ap (ops_put n k j c) (sym (put_first p r i x u))
+    ∙ put_put n k j c p r i x (cons u no_ops) e h ∙ put_first p r i (with_child k j c x) u)
 
 pub puts_put : (n : OpName) (k j : ℕ) (ops : Ops) (p : OpName) (r i : ℕ) (x u : Tree) → eqb x.name.0 n.0 ≡ true
     → ops_has n (cons u no_ops) ≡ false
@@ -155,8 +156,10 @@ mutual
   pub where_absent : (o : OpName) (Q : Regions → Type 0) (ops : Ops) → ops_has o ops ≡ false → OpsWhere o Q ops
   where_absent o Q no_ops h = tt
   where_absent o Q (op n k ds os ts rs rest) h =
-      let p = parts3 (eqb n.0 o.0) (regions_has o rs) (ops_has o rest) h in
-      ((λ e. let z : true ≡ false = sym e ∙ p.0 in cc), (regions_where_absent o Q rs p.1.0, where_absent o Q rest p.1.1))
+      let p = parts3 (eqb n.0 o.0) (regions_has o rs) (ops_has o rest) h in (
+        (λ e. let z : true ≡ false = sym e ∙ p.0 in cc),
+        (regions_where_absent o Q rs p.1.0, where_absent o Q rest p.1.1),
+      )
 
   pub regions_where_absent : (o : OpName) (Q : Regions → Type 0) (rs : Regions) → regions_has o rs ≡ false
       → RegionsWhere o Q rs
@@ -194,7 +197,8 @@ mutual
             rw e (
               (λ z. f rs (w.0 e)),
               (
-                regions_insert_where p R r i t rs (where_absent p R (cons t no_ops) g) (regions_where_absent p R rs lacks),
+                regions_insert_where p R r i t rs (where_absent p R (cons t no_ops) g)
+                    (regions_where_absent p R rs lacks),
                 where_absent p R rest behind,
               ),
             ))
@@ -267,7 +271,8 @@ before_next : (k j : ℕ) (t : Tree) (rs : Regions) → InRange k j rs
 before_next k j t no_regions h = absurd h
 before_next zero j t (region args ops rest) h = take_next j t ops h
 before_next (suc k) j t (region args ops rest) h =
-    ap (λ l. heads ops ++ l) (before_next k j t rest h) ∙ sym (append_assoc (heads ops) (kids_before k j rest) (t.name ∷ []))
+    ap (λ l. heads ops ++ l) (before_next k j t rest h)
+    ∙ sym (append_assoc (heads ops) (kids_before k j rest) (t.name ∷ []))
 
 last_end : (ns : List OpName) (n : OpName) → last_name (ns ++ n ∷ []) ≡ Some n
 last_end [] n = refl
@@ -285,5 +290,6 @@ pub place_next : (n : OpName) (k j : ℕ) (sibling : Option OpName) (t u : Tree)
     → OpsDistinct (cons u no_ops) → OpsWhere n (StandsAt k j sibling) (cons u no_ops)
     → OpsWhere n (StandsAt k (suc j) (Some t.name)) (cons (tree_put n k j t u) no_ops)
 place_next n k j sibling t u f d w =
-    subst (λ (o : Ops). OpsWhere n (StandsAt k (suc j) (Some t.name)) o) (put_first n k j t u) (put_where n (StandsAt k j sibling) (StandsAt k (suc j) (Some t.name)) k j t (cons u no_ops)
+    subst (λ (o : Ops). OpsWhere n (StandsAt k (suc j) (Some t.name)) o) (put_first n k j t u)
+    (put_where n (StandsAt k j sibling) (StandsAt k (suc j) (Some t.name)) k j t (cons u no_ops)
     (λ rs s. stands_next k j sibling t rs s) f d w)

@@ -1,12 +1,12 @@
 -- Places among the operations that one holds.
-use Rattle.std.proofs.Common.{◌≡◌, ℕ, zero, suc, ◌+◌, ◌-◌, ◌<◌, ◌≤◌, List, [], ◌∷◌, ◌++◌, length, take}
-use Rattle.std.proofs.Common.{sym, ◌∙◌, ap, arith, refl, Bool, true, false, cond, eqb, ◌⊎◌, inl, inr, append-nil}
+use Rattle.std.proofs.Common.{◌≡◌, ℕ, zero, suc, ◌+◌, ◌-◌, ◌<◌, ◌≤◌, List, [], ◌∷◌, ◌++◌, take}
+use Rattle.std.proofs.Common.{sym, ◌∙◌, ap, arith, refl, true, false, eqb}
 use Rattle.std.specs.Prelude.{Option, Some, None, nat_lt}
-use Rattle.std.proofs.lemmas.Bool.{cases_Bool, eq-eqb, ne_eqb, lt-ltb, le-ltb}
+use Rattle.std.proofs.lemmas.Bool.{eq-eqb, ne_eqb, lt-ltb, le-ltb}
 use Rattle.xf_ir.specs.declared.name.OpName.{OpName}
 use Rattle.xf_ir.specs.Tree.{Ops, no_ops, op, Regions, no_regions, region, Tree, cons}
-use Rattle.xf_ir.specs.Walk.{ops_find, tree_find}
-use Rattle.xf_arena_tree.specs.Names.{heads, kids, OpsDistinct}
+use Rattle.xf_ir.specs.Walk.{tree_find}
+use Rattle.xf_arena_tree.specs.Names.{heads, OpsDistinct}
 use Rattle.xf_arena_tree.specs.Without.{OpsWhere}
 use Rattle.xf_arena_tree.specs.Puts.{InRange, kids_before, last_name, StandsAt}
 use Rattle.xf_arena_tree.specs.Kids.{Inner, block_inner, inner_of, before_place, names_in, last_or, first_item}
@@ -61,7 +61,8 @@ later_before r i j no_regions h = refl
 later_before r i j (region args ops rest) h =
     block_before_more r i j ops (inner_of (suc j) rest) h (later_before r i (suc j) rest (omega arith))
 
-pub before_is : (r i j : ℕ) (rs : Regions) → InRange r i rs → before_place (j + r) i (inner_of j rs) ≡ kids_before r i rs
+pub before_is : (r i j : ℕ) (rs : Regions) → InRange r i rs
+    → before_place (j + r) i (inner_of j rs) ≡ kids_before r i rs
 before_is r i j no_regions h = absurd h
 before_is zero i j (region args ops rest) h =
     let e : j + 0 ≡ j = omega arith in
@@ -89,7 +90,7 @@ stands_at p r i root t ks sibling d e k w s =
     let range : InRange r i t.regions = where_found p (InRange r i) (cons root no_ops) t w f in
     let z : 0 + r ≡ r = omega arith in
     let b : before_place r i (inner_of 0 t.regions) ≡ kids_before r i t.regions =
-        ap (λ q. before_place q i (inner_of 0 t.regions)) (sym z) ∙ before_is r i 0 t.regions range
+    ap (λ q. before_place q i (inner_of 0 t.regions)) (sym z) ∙ before_is r i 0 t.regions range
     in
     found_where p (StandsAt r i sibling) (cons root no_ops) t d f (record {
       in_range = range;
@@ -122,7 +123,8 @@ block_rises r (op n k ds os ts rs rest) more a h = (block_from r rest more a, bl
 inner_from : (j : ℕ) (rs : Regions) → AllFrom j (inner_of j rs)
 inner_from j no_regions = tt
 inner_from j (region args ops rest) =
-    block_from j ops (inner_of (suc j) rest) (from_less (suc j) j (inner_of (suc j) rest) (omega arith) (inner_from (suc j) rest))
+    block_from j ops (inner_of (suc j) rest)
+    (from_less (suc j) j (inner_of (suc j) rest) (omega arith) (inner_from (suc j) rest))
 
 inner_rises : (j : ℕ) (rs : Regions) → Rises (inner_of j rs)
 inner_rises j no_regions = tt
@@ -143,13 +145,13 @@ none_from r q (k ∷ ks) h a =
 -- the first one behind, where it has the region, and else none
 pub next_in : (rs : Regions) (us : List Inner) (n : OpName) (r : ℕ) (vs : List Inner)
     → inner_of 0 rs ≡ us ++ record { name = n; region = r } ∷ vs → (k : Inner) (ks : List Inner) → vs ≡ k ∷ ks
-    → (k.region ≡ r → first_item (names_in r vs) ≡ Some k.name) × ((k.region ≡ r → ⊥) → first_item (names_in r vs) ≡ None)
+    → (k.region ≡ r → first_item (names_in r vs) ≡ Some k.name)
+    × ((k.region ≡ r → ⊥) → first_item (names_in r vs) ≡ None)
 next_in rs us n r vs e k ks q =
     let me : Inner = record { name = n; region = r } in
     let b = rises_behind us me vs (rw e at (inner_rises 0 rs)) in
     let a : AllFrom r (k ∷ ks) = rw q at b.0 in
-    let c : Rises (k ∷ ks) = rw q at b.1 in
-    (
+    let c : Rises (k ∷ ks) = rw q at b.1 in (
       (λ z. let w = eq-eqb k.region r z in rw (q, w) refl),
       (λ z. let w = ne_eqb k.region r z in
           let y = none_from k.region r ks (let x = a.0 in omega arith) c.0 in

@@ -1,6 +1,6 @@
 -- Operands and values of a tree as functions, before and after an edit.
-use Rattle.std.proofs.Common.{◌≡◌, ℕ, zero, suc, ◌+◌, ◌<◌, ◌≤◌, List, [], ◌∷◌, ◌++◌, length, sym, ◌∙◌, ap, arith, refl}
-use Rattle.std.proofs.Common.{Bool, true, false, cond, eqb, ◌||◌, ◌⊎◌, inl, inr}
+use Rattle.std.proofs.Common.{◌≡◌, ℕ, List, [], ◌∷◌, ◌++◌, sym, ◌∙◌, ap, refl}
+use Rattle.std.proofs.Common.{Bool, true, false, cond, eqb, ◌||◌, inl, inr}
 use Rattle.std.specs.Prelude.{Option, Some, None, ◌&&◌}
 use Rattle.std.proofs.lemmas.Bool.{cases_Bool, or_parts, and_parts, eqb-true}
 use Rattle.xf_ir.specs.Walk.{first_of}
@@ -8,7 +8,7 @@ use Rattle.xf_uses.specs.declared.cell.Definition.{Definition}
 use Rattle.xf_uses.specs.Cells.{Cells}
 use Rattle.xf_uses.specs.Uses.{Operands, Values, with_operand, with_value, same_value, AreUses}
 use Rattle.xf_arena_tree.specs.Listed.{Entry, with_entries, without_entries, with_values, entry_at, is_value_among}
-use Rattle.xf_arena_tree.specs.Listed.{is_key_among, KeysOnce, ValuesOnce, Splits}
+use Rattle.xf_arena_tree.specs.Listed.{is_key_among, KeysOnce, Splits}
 
 -- ---- operands
 

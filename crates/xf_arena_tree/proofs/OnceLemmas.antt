@@ -1,15 +1,13 @@
 -- Where names occur once, no operand and no value stands twice.
-use Rattle.std.proofs.Common.{◌≡◌, ℕ, zero, suc, ◌+◌, ◌<◌, ◌≤◌, List, [], ◌∷◌, ◌++◌, length, sym, ◌∙◌, ap, arith, refl}
-use Rattle.std.proofs.Common.{Bool, true, false, eqb, ◌||◌, ◌⊎◌, inl, inr}
+use Rattle.std.proofs.Common.{◌≡◌, ℕ, zero, suc, ◌+◌, ◌<◌, List, [], ◌∷◌, ◌++◌, length, sym, ◌∙◌, ap, arith, refl}
+use Rattle.std.proofs.Common.{Bool, true, false, eqb, ◌||◌, inl, inr}
 use Rattle.std.specs.Prelude.{Option, Some, None, ◌&&◌}
-use Rattle.std.proofs.lemmas.Bool.{cases_Bool, or_parts, or_cases, and_parts, eqb-true, ne_eqb, eq-eqb}
-use Rattle.xf_type.specs.declared.payload_type.PayloadType.{PayloadType}
+use Rattle.std.proofs.lemmas.Bool.{cases_Bool, or_parts, eqb-true, ne_eqb, eq-eqb}
 use Rattle.xf_ir.specs.declared.name.OpName.{OpName}
 use Rattle.xf_ir.specs.declared.name.ValueName.{ValueName}
-use Rattle.xf_ir.specs.Tree.{Ops, no_ops, op, Regions, no_regions, region, Tree, cons}
+use Rattle.xf_ir.specs.Tree.{Ops, no_ops, op, Regions, no_regions, region}
 use Rattle.xf_uses.specs.declared.cell.Definition.{Definition}
 use Rattle.xf_uses.specs.declared.cell.Definition.TheVariants.{Result, Argument}
-use Rattle.xf_uses.specs.Uses.{same_value}
 use Rattle.xf_arena_tree.specs.Names.{ops_has, regions_has, OpsDistinct, RegionsDistinct}
 use Rattle.xf_arena_tree.specs.Listed.{Entry, definition_of, entry_before, numbered, ops_entries, regions_entries}
 use Rattle.xf_arena_tree.specs.Listed.{results_from, arguments_from, ops_values, regions_values, is_value_among}
@@ -44,7 +42,8 @@ before_lacks : (o i : ℕ) (v : Option Definition) (es : List Entry) (n k : ℕ)
 before_lacks o i None es n k a b = b
 before_lacks o i (Some v) es n k a b = none_of (eqb o n && eqb i k) (is_key_among n k es) a b
 
-numbered_lacks : (o i : ℕ) (vs : List ValueName) (n k : ℕ) → eqb o n ≡ false → is_key_among n k (numbered o i vs) ≡ false
+numbered_lacks : (o i : ℕ) (vs : List ValueName) (n k : ℕ) → eqb o n ≡ false
+    → is_key_among n k (numbered o i vs) ≡ false
 numbered_lacks o i [] n k h = refl
 numbered_lacks o i (v ∷ vs) n k h =
     before_lacks o i (definition_of v) (numbered o (i + 1) vs) n k (both_first (eqb o n) (eqb i k) h)
@@ -96,7 +95,8 @@ numbered_apart o i (v ∷ vs) ys h =
     before_apart o i (definition_of v) (numbered o (i + 1) vs) ys (h i) (numbered_apart o (i + 1) vs ys h)
 
 mutual
-  pub entries_lack : (x : OpName) (k : ℕ) (ops : Ops) → ops_has x ops ≡ false → is_key_among x.0 k (ops_entries ops) ≡ false
+  pub entries_lack : (x : OpName) (k : ℕ) (ops : Ops) → ops_has x ops ≡ false
+      → is_key_among x.0 k (ops_entries ops) ≡ false
   entries_lack x k no_ops h = refl
   entries_lack x k (op n kd ds os ts rs rest) h =
       let p = parts3 (eqb n.0 x.0) (regions_has x rs) (ops_has x rest) h in
@@ -126,7 +126,8 @@ mutual
       → KeysApart (regions_entries n r rs) ys
   regions_apart n r no_regions ys h = tt
   regions_apart n r (region args ops rest) ys h =
-      apart_append (ops_entries ops) _ ys (entries_apart ops ys (λ x k a. h x k (front (ops_has x ops) (regions_has x rest) a)))
+      apart_append (ops_entries ops) _ ys
+      (entries_apart ops ys (λ x k a. h x k (front (ops_has x ops) (regions_has x rest) a)))
       (regions_apart n (suc r) rest ys (λ x k a. h x k (behind (ops_has x ops) (regions_has x rest) a)))
 
 mutual
@@ -164,7 +165,8 @@ value_both : (xs ys : List Definition) (v : Definition) → is_value_among xs v 
     → is_value_among (xs ++ ys) v ≡ false
 value_both xs ys v a b = value_append xs ys v ∙ none_of (is_value_among xs v) (is_value_among ys v) a b
 
-results_lack : (o i count : ℕ) (v : Definition) → eqb o (definer v) ≡ false → is_value_among (results_from o i count) v ≡ false
+results_lack : (o i count : ℕ) (v : Definition) → eqb o (definer v) ≡ false
+    → is_value_among (results_from o i count) v ≡ false
 results_lack o i zero v h = refl
 results_lack o i (suc count) (Result p j) h =
     none_of _ _ (both_first (eqb o p) (eqb i j) h) (results_lack o (i + 1) count (Result p j) h)
@@ -191,17 +193,20 @@ arguments_lack o r i (suc count) (Result p j) h = arguments_lack o r (i + 1) cou
 arguments_lack o r i (suc count) (Argument p q j) h =
     none_of _ _ (both_first (eqb o p) (eqb r q && eqb i j) h) (arguments_lack o r (i + 1) count (Argument p q j) h)
 
-arguments_later : (o r i count : ℕ) (v : Definition) → Earlier r v → is_value_among (arguments_from o r i count) v ≡ false
+arguments_later : (o r i count : ℕ) (v : Definition) → Earlier r v
+    → is_value_among (arguments_from o r i count) v ≡ false
 arguments_later o r i zero v h = refl
 arguments_later o r i (suc count) (Result p j) h = arguments_later o r (i + 1) count (Result p j) h
 arguments_later o r i (suc count) (Argument p q j) h =
-    none_of _ _ (both_second (eqb o p) (eqb r q && eqb i j) (both_first (eqb r q) (eqb i j) (ne_eqb r q (λ e. omega arith))))
+    none_of _ _ (both_second (eqb o p) (eqb r q && eqb i j)
+    (both_first (eqb r q) (eqb i j) (ne_eqb r q (λ e. omega arith))))
     (arguments_later o r (i + 1) count (Argument p q j) h)
 
 arguments_above : (o r i count p q j : ℕ) → j < i → is_value_among (arguments_from o r i count) (Argument p q j) ≡ false
 arguments_above o r i zero p q j h = refl
 arguments_above o r i (suc count) p q j h =
-    none_of _ _ (both_second (eqb o p) (eqb r q && eqb i j) (both_second (eqb r q) (eqb i j) (ne_eqb i j (λ e. omega arith))))
+    none_of _ _ (both_second (eqb o p) (eqb r q && eqb i j)
+    (both_second (eqb r q) (eqb i j) (ne_eqb i j (λ e. omega arith))))
     (arguments_above o r (i + 1) count p q j (omega arith))
 
 arguments_once : (o r i count : ℕ) → ValuesOnce (arguments_from o r i count)
@@ -238,7 +243,8 @@ mutual
   values_lack x v (op n k ds os ts rs rest) e h =
       let p = parts3 (eqb n.0 x.0) (regions_has x rs) (ops_has x rest) h in
       value_both (results_from n.0 0 (length ts)) _ v (results_lack n.0 0 (length ts) v (ap (eqb n.0) e ∙ p.0))
-      (value_both (regions_values n 0 rs) _ v (regions_values_lack x v n 0 rs e p.0 p.1.0) (values_lack x v rest e p.1.1))
+      (value_both (regions_values n 0 rs) _ v (regions_values_lack x v n 0 rs e p.0 p.1.0)
+      (values_lack x v rest e p.1.1))
 
   -- neither of the holder nor of what it holds
   pub regions_values_lack : (x : OpName) (v : Definition) (n : OpName) (r : ℕ) (rs : Regions) → definer v ≡ x.0
@@ -246,11 +252,13 @@ mutual
   regions_values_lack x v n r no_regions e f h = refl
   regions_values_lack x v n r (region args ops rest) e f h =
       let p = or_parts (ops_has x ops) (regions_has x rest) h in
-      value_both (arguments_from n.0 r 0 (length args)) _ v (arguments_lack n.0 r 0 (length args) v (ap (eqb n.0) e ∙ f))
+      value_both (arguments_from n.0 r 0 (length args)) _ v
+      (arguments_lack n.0 r 0 (length args) v (ap (eqb n.0) e ∙ f))
       (value_both (ops_values ops) _ v (values_lack x v ops e p.0) (regions_values_lack x v n (suc r) rest e f p.1))
 
 -- of the holder's own, those of later regions alone
-own_lack : (n : OpName) (v : Definition) (r : ℕ) (rs : Regions) → definer v ≡ n.0 → Earlier r v → regions_has n rs ≡ false
+own_lack : (n : OpName) (v : Definition) (r : ℕ) (rs : Regions) → definer v ≡ n.0 → Earlier r v
+    → regions_has n rs ≡ false
     → is_value_among (regions_values n r rs) v ≡ false
 own_lack n v r no_regions e w h = refl
 own_lack n v r (region args ops rest) e w h =
@@ -274,7 +282,8 @@ mutual
       (values_apart (regions_values n 0 rs) _ ys
       (regions_values_apart n 0 rs ys (λ v e. h n v here e)
       (λ x v a e. h x v (behind (eqb n.0 x.0) _ (front (regions_has x rs) (ops_has x rest) a)) e))
-      (values_apart_of rest ys (λ x v a e. h x v (behind (eqb n.0 x.0) _ (behind (regions_has x rs) (ops_has x rest) a)) e)))
+      (values_apart_of rest ys (λ x v a e. h x v
+      (behind (eqb n.0 x.0) _ (behind (regions_has x rs) (ops_has x rest) a)) e)))
 
   regions_values_apart : (n : OpName) (r : ℕ) (rs : Regions) (ys : List Definition)
       → ((v : Definition) → definer v ≡ n.0 → is_value_among ys v ≡ false)
@@ -323,5 +332,7 @@ mutual
       (λ x v h e. regions_values_lack x v n (suc r) rest e (other_name (λ y. ops_has y ops) n x p.0 h) (d.0 x h)))
       in
       values_append (arguments_from n.0 r 0 (length args)) _ (arguments_once n.0 r 0 (length args)) a
-      (arguments_apart n.0 r 0 (length args) _ (λ j. value_both (ops_values ops) (regions_values n (suc r) rest) (Argument n.0 r j)
-      (values_lack n (Argument n.0 r j) ops refl p.0) (own_lack n (Argument n.0 r j) (suc r) rest refl (omega arith) p.1)))
+      (arguments_apart n.0 r 0 (length args) _
+      (λ j. value_both (ops_values ops) (regions_values n (suc r) rest) (Argument n.0 r j)
+      (values_lack n (Argument n.0 r j) ops refl p.0)
+      (own_lack n (Argument n.0 r j) (suc r) rest refl (omega arith) p.1)))

@@ -1,11 +1,12 @@
 -- What is gathered from a tree, before and after an edit.
-use Rattle.std.proofs.Common.{◌≡◌, ℕ, zero, suc, ◌+◌, ◌<◌, ◌≤◌, List, [], ◌∷◌, ◌++◌, length, sym, ◌∙◌, ap, subst, arith, refl}
-use Rattle.std.proofs.Common.{Bool, true, false, eqb, ◌||◌, ◌⊎◌, inl, inr, append_assoc, append-nil}
+use Rattle.std.proofs.Common.{◌≡◌, ℕ, zero, suc, ◌≤◌, List, [], ◌++◌, length, sym, ◌∙◌, ap, subst}
+use Rattle.std.proofs.Common.{arith, refl}
+use Rattle.std.proofs.Common.{Bool, true, false, eqb, ◌||◌, inl, inr, append_assoc}
 use Rattle.std.specs.Prelude.{Option, Some, None}
 use Rattle.std.proofs.lemmas.Bool.{cases_Bool, or_parts, eqb-true}
 use Rattle.xf_ir.proofs.Found.{first_cases}
 use Rattle.xf_ir.specs.declared.name.OpName.{OpName}
-use Rattle.xf_ir.specs.Tree.{Ops, no_ops, op, Regions, no_regions, region, Tree, cons}
+use Rattle.xf_ir.specs.Tree.{Ops, no_ops, op, Regions, no_regions, region, Tree}
 use Rattle.xf_ir.specs.Spots.{ops_insert, regions_insert}
 use Rattle.xf_ir.specs.Walk.{ops_find, regions_find, first_of}
 use Rattle.xf_arena_tree.specs.Names.{heads, ops_has, regions_has, OpsDistinct, RegionsDistinct}

@@ -1,10 +1,10 @@
 -- What holds at the operation of a name.
-use Rattle.std.proofs.Common.{◌≡◌, ℕ, List, [], ◌∷◌, sym, ◌∙◌, ap, refl, Bool, true, false, eqb, ◌||◌, ◌⊎◌, inl, inr}
-use Rattle.std.specs.Prelude.{Option, Some, None}
+use Rattle.std.proofs.Common.{◌≡◌, ap, eqb, inl, inr}
+use Rattle.std.specs.Prelude.{Some}
 use Rattle.std.proofs.lemmas.Bool.{cases_Bool}
 use Rattle.xf_ir.specs.declared.name.OpName.{OpName}
-use Rattle.xf_ir.specs.Tree.{Ops, no_ops, op, Regions, no_regions, region, Tree, cons}
-use Rattle.xf_ir.specs.Walk.{ops_find, regions_find, first_of}
+use Rattle.xf_ir.specs.Tree.{Ops, no_ops, op, Regions, no_regions, region, Tree}
+use Rattle.xf_ir.specs.Walk.{ops_find, regions_find}
 use Rattle.xf_ir.proofs.Found.{first_cases}
 use Rattle.xf_arena_tree.specs.Without.{OpsWhere, RegionsWhere}
 
@@ -32,7 +32,7 @@ mutual
       elim (cases_Bool (eqb n.0 o.0)) [
         | inl t ↦ (
             let here : Tree =
-                record { name = n; kind = k; attrs = ds; operands = os; results = ts; regions = rs }
+            record { name = n; kind = k; attrs = ds; operands = os; results = ts; regions = rs }
             in
             let q = regions_are here x (rw t at e) in
             rw (← q) (w.0 t))

@@ -1,9 +1,9 @@
 -- Trees that are filled block by block.
-use Rattle.std.specs.Prelude.{◌≡◌, ℕ, zero, suc, ◌<◌, ◌^◌, List, [], ◌∷◌}
+use Rattle.std.specs.Prelude.{ℕ, zero, suc, ◌<◌, ◌^◌}
 use Rattle.xf_ir.specs.declared.name.OpName.{OpName}
 use Rattle.xf_ir.specs.Tree.{Ops, no_ops, op, Regions, no_regions, region, Tree}
 use Rattle.xf_ir.specs.Spots.{regions_insert, ops_length}
-use Rattle.xf_ir.specs.Bounds.{OpsShort, RegionsShort, blocks_of}
+use Rattle.xf_ir.specs.Bounds.{RegionsShort, blocks_of}
 use Rattle.xf_ir.specs.Lists.{Each}
 use Rattle.xf_arena_tree.specs.Puts.{tree_put}
 

@@ -1,5 +1,5 @@
 -- An operation inside another one.
-use Rattle.std.specs.Prelude.{◌≡◌, ℕ, ◌+◌, ◌<◌, ◌==◌, Some, true, false, if◌then◌else◌}
+use Rattle.std.specs.Prelude.{◌≡◌, ℕ, ◌+◌, ◌<◌, ◌==◌, true, false, if◌then◌else◌}
 use Rattle.xf_ir.specs.declared.name.OpName.{OpName}
 use Rattle.xf_ir.specs.Tree.{Ops, no_ops, op, Regions, no_regions, region, Tree, cons}
 use Rattle.xf_ir.specs.Count.{regions_count}
@@ -10,7 +10,8 @@ use Rattle.xf_arena_tree.specs.Without.{tree_without}
 abbrev mutual
   pub ops_below : OpName → Ops → ℕ
   ops_below o no_ops = 0
-  ops_below o (op n k ds os ts rs rest) = (if n.0 == o.0 then regions_count rs else regions_below o rs) + ops_below o rest
+  ops_below o (op n k ds os ts rs rest) =
+      (if n.0 == o.0 then regions_count rs else regions_below o rs) + ops_below o rest
 
   pub regions_below : OpName → Regions → ℕ
   regions_below o no_regions = 0

@@ -1,7 +1,7 @@
 -- The names of a tree.
-use Rattle.std.specs.Prelude.{◌≡◌, ℕ, suc, List, [], ◌∷◌, ◌++◌, Bool, true, false, ◌||◌, ◌==◌, if◌then◌else◌}
+use Rattle.std.specs.Prelude.{◌≡◌, List, [], ◌∷◌, ◌++◌, Bool, true, false, ◌||◌, ◌==◌}
 use Rattle.xf_ir.specs.declared.name.OpName.{OpName}
-use Rattle.xf_ir.specs.Tree.{Ops, no_ops, op, Regions, no_regions, region, Tree, cons}
+use Rattle.xf_ir.specs.Tree.{Ops, no_ops, op, Regions, no_regions, region}
 
 -- the names of a block's own operations
 abbrev pub heads : Ops → List OpName
@@ -28,8 +28,11 @@ abbrev mutual
   pub OpsDistinct : Ops → Type 0
   OpsDistinct no_ops = Unit {0}
   OpsDistinct (op n k ds os ts rs rest) =
-      (regions_has n rs ≡ false) × ((ops_has n rest ≡ false) × (((x : OpName) → regions_has x rs ≡ true → ops_has x rest ≡ false) × (RegionsDistinct rs × OpsDistinct rest)))
+      (regions_has n rs ≡ false) × ((ops_has n rest ≡ false)
+      × (((x : OpName) → regions_has x rs ≡ true → ops_has x rest ≡ false)
+      × (RegionsDistinct rs × OpsDistinct rest)))
 
   pub RegionsDistinct : Regions → Type 0
   RegionsDistinct no_regions = Unit {0}
-  RegionsDistinct (region args ops rest) = ((x : OpName) → ops_has x ops ≡ true → regions_has x rest ≡ false) × (OpsDistinct ops × RegionsDistinct rest)
+  RegionsDistinct (region args ops rest) = ((x : OpName) → ops_has x ops ≡ true → regions_has x rest ≡ false)
+      × (OpsDistinct ops × RegionsDistinct rest)

@@ -1,8 +1,9 @@
 use Rattle.xf_type.specs.declared.payload_type.PayloadType.{PayloadType}
 -- A tree put at a spot.
-use Rattle.std.specs.Prelude.{◌≡◌, ℕ, zero, suc, ◌≤◌, List, [], ◌∷◌, ◌++◌, length, take, drop, Option, Some, None, ◌==◌, if◌then◌else◌}
+use Rattle.std.specs.Prelude.{◌≡◌, ℕ, zero, suc, ◌≤◌, List, [], ◌∷◌, ◌++◌, length, take, drop, Option, Some, None}
+use Rattle.std.specs.Prelude.{◌==◌, if◌then◌else◌}
 use Rattle.xf_ir.specs.declared.name.OpName.{OpName}
-use Rattle.xf_ir.specs.Tree.{Ops, no_ops, op, Regions, no_regions, region, Tree, cons}
+use Rattle.xf_ir.specs.Tree.{Ops, no_ops, op, Regions, no_regions, region, Tree}
 use Rattle.xf_ir.specs.Spots.{regions_insert}
 use Rattle.xf_arena_tree.specs.Names.{heads, kids}
 
@@ -10,14 +11,16 @@ abbrev mutual
   pub ops_put : OpName → ℕ → ℕ → Tree → Ops → Ops
   ops_put p r i t no_ops = no_ops
   ops_put p r i t (op n k ds os ts rs rest) =
-      if n.0 == p.0 then op n k ds os ts (regions_insert r i t rs) rest else op n k ds os ts (regions_put p r i t rs) (ops_put p r i t rest)
+      if n.0 == p.0 then op n k ds os ts (regions_insert r i t rs) rest else op n k ds os ts (regions_put p r i t rs)
+      (ops_put p r i t rest)
 
   pub regions_put : OpName → ℕ → ℕ → Tree → Regions → Regions
   regions_put p r i t no_regions = no_regions
   regions_put p r i t (region args ops rest) = region args (ops_put p r i t ops) (regions_put p r i t rest)
 
 abbrev pub tree_put : OpName → ℕ → ℕ → Tree → Tree → Tree
-tree_put p r i t u = if u.name.0 == p.0 then record u { regions = regions_insert r i t u.regions } else record u { regions = regions_put p r i t u.regions }
+tree_put p r i t u = if u.name.0 == p.0 then record u { regions = regions_insert r i t u.regions } else record u
+    { regions = regions_put p r i t u.regions }
 
 -- the place is one of the regions
 abbrev pub InRange : ℕ → ℕ → Regions → Type 0

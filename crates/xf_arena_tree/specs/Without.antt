@@ -1,4 +1,4 @@
-use Rattle.std.specs.Prelude.{◌≡◌, true, ℕ, List, [], ◌∷◌, Bool, not, ◌==◌, if◌then◌else◌}
+use Rattle.std.specs.Prelude.{◌≡◌, true, [], Bool, not, ◌==◌, if◌then◌else◌}
 use Rattle.xf_ir.specs.declared.name.OpName.{OpName}
 use Rattle.xf_arena_tree.specs.Names.{kids}
 use Rattle.xf_ir.specs.Tree.{Ops, no_ops, op, Regions, no_regions, region, Tree}
@@ -10,7 +10,8 @@ is_not o n = not (n.0 == o.0)
 abbrev mutual
   pub ops_without : OpName → Ops → Ops
   ops_without name no_ops = no_ops
-  ops_without name (op n k ds os ts rs rest) = if n.0 == name.0 then ops_without name rest else op n k ds os ts (regions_without name rs) (ops_without name rest)
+  ops_without name (op n k ds os ts rs rest) =
+      if n.0 == name.0 then ops_without name rest else op n k ds os ts (regions_without name rs) (ops_without name rest)
 
   pub regions_without : OpName → Regions → Regions
   regions_without name no_regions = no_regions

@@ -1,7 +1,7 @@
-use Rattle.std.proofs.Common.{◌≡◌, ◌∙◌, sym, ap, arith, length, add-one}
-use Rattle.std.specs.Prelude.{Some, [], List}
-use Rattle.xf_ir.specs.Tree.{Body, Tree}
-use Rattle.xf_ir.specs.View.{ops_of, regions_of}
+use Rattle.std.proofs.Common.{◌∙◌, sym, ap}
+use Rattle.std.specs.Prelude.{Some}
+use Rattle.xf_ir.specs.Tree.{Body}
+use Rattle.xf_ir.specs.View.{ops_of}
 use Rattle.xf_arena_bed.proofs.RestoreLemmas.{get_block, hollow_emptied}
 use Rattle.xf_arena_bed.proofs.restore.take_ops.Goals as goal
 

@@ -1,4 +1,4 @@
-use Rattle.std.proofs.Common.{◌≡◌, ◌∙◌, sym, ap, length}
+use Rattle.std.proofs.Common.{◌∙◌, sym, ap, length}
 use Rattle.xf_arena_bed.proofs.ArgsLemmas.{length_args}
 use Rattle.xf_arena_bed.proofs.args.ArgsList.len.Goals as goal
 

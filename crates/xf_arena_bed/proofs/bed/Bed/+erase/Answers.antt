@@ -1,9 +1,4 @@
-use Rattle.std.proofs.Common.{◌≡◌, ℕ, ◌+◌, ◌<◌, ◌≤◌, arith, sym, ◌∙◌, ap, refl, true, false, eqb, length, rules}
-use Rattle.std.proofs.lemmas.List.{length-set}
-use Rattle.std.specs.Prelude.{None}
-use Rattle.xf_ir.specs.declared.name.OpName.{OpName}
-use Rattle.xf_ir.specs.Tree.{Tree, cons, no_ops}
-use Rattle.xf_arena_tree.specs.Names.{ops_has}
+use Rattle.std.proofs.Common.{arith, sym, ◌∙◌, ap, refl}
 use Rattle.xf_arena_tree.specs.Without.{tree_without}
 use Rattle.xf_arena_tree.specs.Inner.{tree_below}
 use Rattle.xf_arena_bed.specs.Live.{name_of}
@@ -44,7 +39,8 @@ loop-last-preserved t c =
       low = step_low u c.erase.new.self.root k c.args.id.serial e inv.low;
       root = ap (tree_without o) e ∙ inner.inside ∙ inv.root;
       slots = c.erase.ensures.slots ∙ inv.slots;
-      seats = λ s n h q. c.erase.ensures.seats s n (inv.seats s n h (has_before u c.erase.new.self.root k n e inner.low q)) q;
+      seats = λ s n h q. c.erase.ensures.seats s n
+          (inv.seats s n h (has_before u c.erase.new.self.root k n e inner.low q)) q;
       below = omega (arith, ap (tree_below o) e, inner.fewer, inv.below);
       leaf = c.last_kid-last-in-Some.ensures.none;
       kid_live = c.last_kid-last-in-Some.ensures.live;

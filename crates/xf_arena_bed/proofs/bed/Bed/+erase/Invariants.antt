@@ -1,5 +1,5 @@
-use Rattle.std.proofs.Common.{◌≡◌, ℕ, ◌+◌, ◌<◌, ◌≤◌, true, false, eqb, length}
-use Rattle.std.specs.Prelude.{Some, Option, IfSome, IfNone}
+use Rattle.std.proofs.Common.{◌≡◌, ℕ, ◌≤◌, true, false, eqb, length}
+use Rattle.std.specs.Prelude.{Some, IfSome, IfNone}
 use Rattle.xf_ir.specs.declared.name.OpName.{OpName}
 use Rattle.xf_ir.specs.Edits.{tree_erased}
 use Rattle.xf_ir.specs.Tree.{cons, no_ops}

@@ -1,4 +1,4 @@
-use Rattle.std.proofs.Common.{◌≡◌, sym}
+use Rattle.std.proofs.Common.{sym}
 use Rattle.xf_arena_bed.specs.Live.{name_of}
 use Rattle.xf_arena_bed.proofs.WalkLemmas.{after_same, after_other, after_none}
 use Rattle.xf_arena_bed.proofs.bed.Bed.after.Goals as goal

@@ -1,7 +1,6 @@
-use Rattle.std.proofs.Common.{rules, ◌≡◌, ℕ, ◌-◌, arith, length, slice_set, sym, ◌∙◌, ap, refl}
+use Rattle.std.proofs.Common.{arith, length, ◌∙◌, ap, refl}
 use Rattle.std.proofs.lemmas.List.{length-set}
 use Rattle.std.specs.Prelude.{None}
-use Rattle.xf_ir.specs.Tree.{cons, no_ops}
 use Rattle.xf_arena_tree.specs.Without.{tree_without}
 use Rattle.xf_arena_bed.specs.Live.{name_of}
 use Rattle.xf_arena_bed.proofs.CloseLemmas.{closed, cut_holds, seats_cut, rebuilt_is, indexed_with}
@@ -24,7 +23,8 @@ invariant_of-self c =
     c.requires.live c.requires.leaf c.unlink-before.ensures.before
     in
     let f2 = rw (← c.unlink-before.ensures.done, ← c.set_node.ensures, ← c.push_reserved.ensures.items) at f in
-    let x = rw (← c.set_node.ensures, ← c.remove.ensures) at (indexed_with a.nodes.items a.index c.args.id.slot None None refl within
+    let x = rw (← c.set_node.ensures, ← c.remove.ensures) at
+    (indexed_with a.nodes.items a.index c.args.id.slot None None refl within
     c.self.invariant.indexed)
     in
     let len = ap length c.set_node.ensures ∙ length-set a.nodes.items c.args.id.slot None in

@@ -1,5 +1,3 @@
-use Rattle.std.proofs.Common.{◌≡◌, sym, ◌∙◌, ap}
-use Rattle.xf_arena_tree.specs.Kids.{inner_of}
 use Rattle.xf_arena_bed.specs.Live.{name_of}
 use Rattle.xf_arena_bed.proofs.KidRows.{row_of, first_seen}
 use Rattle.xf_arena_bed.proofs.SpotLemmas.{stands}

@@ -1,4 +1,4 @@
-use Rattle.std.proofs.Common.{◌≡◌, ◌∙◌, ap, arith, length}
+use Rattle.std.proofs.Common.{◌∙◌, ap, arith}
 use Rattle.std.specs.Prelude.{option_map}
 use Rattle.xf_arena_bed.specs.Live.{name_of}
 use Rattle.xf_arena_bed.specs.Finds.{shown_tree}

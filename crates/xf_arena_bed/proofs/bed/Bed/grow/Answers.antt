@@ -11,11 +11,11 @@ invariant_of-self-2 c =
     let a = c.self.inside in
     let i = c.self.invariant in
     let g = grown_done _ _ _ _ _ _ _ _ _ _ _ c.len-slots.result i.holds i.free c.reserve.ensures.items
-        c.push_reserved.ensures.items c.in_ok-grow_twice.ensures.ok c.reserve-2.ensures.items
-        c.push_reserved-2.ensures.items (search rules)
+    c.push_reserved.ensures.items c.in_ok-grow_twice.ensures.ok c.reserve-2.ensures.items
+    c.push_reserved-2.ensures.items (search rules)
     in
     let x = indexed_done _ _ _ _ _ c.len-slots.result i.indexed c.grow_index.ensures.room c.grow_index.ensures.same
-        c.in_ok-grow_index.ensures.ok (search rules) c.reserve.ensures.items c.push_reserved.ensures.items
+    c.in_ok-grow_index.ensures.ok (search rules) c.reserve.ensures.items c.push_reserved.ensures.items
     in
     let n = ap length c.push_reserved.ensures.items ∙ length-append c.reserve.new.self.items (None ∷ []) in
     let n1 = ap length c.reserve.ensures.items in
@@ -29,8 +29,8 @@ returns-clause-root c =
     let a = c.self.inside in
     let i = c.self.invariant in
     let g = grown_done _ _ _ _ _ _ _ _ _ _ _ c.len-slots.result i.holds i.free c.reserve.ensures.items
-        c.push_reserved.ensures.items c.in_ok-grow_twice.ensures.ok c.reserve-2.ensures.items
-        c.push_reserved-2.ensures.items (search rules)
+    c.push_reserved.ensures.items c.in_ok-grow_twice.ensures.ok c.reserve-2.ensures.items
+    c.push_reserved-2.ensures.items (search rules)
     in
     rebuilt_is _ _ _ (layout_of a).root _ g.holds (omega (arith, i.count))
     ∙ ap (λ (m : Layout). m.root) c.self.view_is

@@ -1,4 +1,3 @@
-use Rattle.std.proofs.Common.{◌≡◌}
 use Rattle.xf_arena_bed.proofs.KidRows.{whole, live_found, kids_are, kids_live, kids_inner, names_distinct}
 use Rattle.xf_arena_bed.proofs.bed.Bed.kids.Goals as goal
 
@@ -14,7 +13,8 @@ invariant_of-result c =
     kids_are _ _ c.args.id.slot _ _ _ _ w c.as_slice.ensures.value c.of.ensures
 
 pub returns-clause-live : goal.returns-clause-live
-returns-clause-live c = kids_live c.self.inside c.args.self.now c.as_slice.result.now c.of.result c.self.view_is c.as_slice.ensures.value
+returns-clause-live c = kids_live c.self.inside c.args.self.now c.as_slice.result.now c.of.result c.self.view_is
+    c.as_slice.ensures.value
 
 pub returns-clause-all : goal.returns-clause-all
 returns-clause-all c = λ t e.

@@ -1,16 +1,13 @@
-use Rattle.std.proofs.Common.{rules, ◌≡◌, ◌<◌, ℕ, arith, length, sym, ◌∙◌, ap, subst, refl, ◌+◌}
-use Rattle.std.specs.Prelude.{None, Some, map}
-use Rattle.std.proofs.lemmas.List.{length-set, length-map}
+use Rattle.std.proofs.Common.{arith, length, sym, ◌∙◌, ap, subst, refl, ◌+◌}
+use Rattle.std.specs.Prelude.{Some}
 use Rattle.xf_ir.specs.Tree.{Tree, cons, no_ops}
 use Rattle.xf_arena_tree.specs.Names.{OpsDistinct}
 use Rattle.xf_arena_tree.specs.Puts.{tree_put}
 use Rattle.xf_arena_bed.specs.Live.{name_of, leaf_of}
 use Rattle.xf_ir.specs.Count.{tree_count}
 use Rattle.xf_arena_bed.specs.Value.{Layout}
-use Rattle.xf_arena_bed.specs.Seat.{seat_of}
 use Rattle.xf_arena_bed.proofs.CloseLemmas.{closed, rebuilt_is, indexed_with}
 use Rattle.xf_arena_bed.proofs.FreeLemmas.{taken, inserted}
-use Rattle.xf_arena_bed.proofs.PlaceLemmas.{place_within}
 use Rattle.xf_arena_bed.proofs.SpotLemmas.{stands, spotted, before_within, before_other}
 use Rattle.xf_arena_bed.proofs.SeatLemmas.{seats_put, seat_put, seats_long}
 use Rattle.xf_arena_bed.proofs.bed.Bed.put_leaf.Goals as goal
@@ -85,7 +82,8 @@ invariant_of-self c =
 
 pub returns-clause-root : goal.returns-clause-root
 returns-clause-root c =
-    let k = inserted c.self.inside c.args.self.now c.args.node c.args.parent c.args.sibling c.args.at.region c.args.at.at
+    let k = inserted c.self.inside c.args.self.now c.args.node c.args.parent c.args.sibling c.args.at.region
+    c.args.at.at
     _ _ c.self.invariant c.self.view_is c.requires.live c.requires.sibling c.requires.place c.requires.is_new
     c.requires.home c.in-Some.ensures.items
     in
@@ -108,9 +106,10 @@ returns-clause-slots c =
 
 pub returns-clause-names : goal.returns-clause-names
 returns-clause-names c =
-    let k = inserted c.self.inside c.args.self.now c.args.node c.args.parent c.args.sibling c.args.at.region c.args.at.at
-        _ _ c.self.invariant c.self.view_is c.requires.live c.requires.sibling c.requires.place c.requires.is_new
-        c.requires.home c.in-Some.ensures.items
+    let k = inserted c.self.inside c.args.self.now c.args.node c.args.parent c.args.sibling c.args.at.region
+    c.args.at.at
+    _ _ c.self.invariant c.self.view_is c.requires.live c.requires.sibling c.requires.place c.requires.is_new
+    c.requires.home c.in-Some.ensures.items
     in
     let h = rw (← c.number_before.ensures, ← c.link.ensures, ← c.set_node.ensures) at k.holds in
     let q = rebuilt_is _ _ _ _ (c.self.inside.live + 1) h (omega (arith, k.count)) in
@@ -118,9 +117,10 @@ returns-clause-names c =
 
 pub returns-clause-count : goal.returns-clause-count
 returns-clause-count c =
-    let k = inserted c.self.inside c.args.self.now c.args.node c.args.parent c.args.sibling c.args.at.region c.args.at.at
-        _ _ c.self.invariant c.self.view_is c.requires.live c.requires.sibling c.requires.place c.requires.is_new
-        c.requires.home c.in-Some.ensures.items
+    let k = inserted c.self.inside c.args.self.now c.args.node c.args.parent c.args.sibling c.args.at.region
+    c.args.at.at
+    _ _ c.self.invariant c.self.view_is c.requires.live c.requires.sibling c.requires.place c.requires.is_new
+    c.requires.home c.in-Some.ensures.items
     in
     let h = rw (← c.number_before.ensures, ← c.link.ensures, ← c.set_node.ensures) at k.holds in
     let q = rebuilt_is _ _ _ _ (c.self.inside.live + 1) h (omega (arith, k.count)) in
