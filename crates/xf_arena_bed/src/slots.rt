@@ -122,7 +122,8 @@ impl Bed {
         let slots = self.nodes.len();
         grow_index(&mut self.index, alloc, slots)?;
         self.nodes.reserve(1)?;
-        self.free.reserve(slots + 1)?;
+        let more = slots + 1 - self.free.len();
+        self.free.reserve(more)?;
         self.links.grow_twice()?;
         self.nodes.push_reserved(None);
         self.free.push_reserved(slots as u32);

@@ -7,7 +7,7 @@ use xf_ir::{Kind, OpName, ValueList};
 use xf_type::{ListOf, NoMemory};
 
 /// How many slots there are.
-const SLOTS: u64 = 1_000_000;
+const SLOTS: u64 = 100_000;
 
 /// An operation that stands in no other and holds none.
 fn alone(alloc: Global, name: u64) -> Result<Bed, NoMemory> {
