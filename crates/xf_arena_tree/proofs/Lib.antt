@@ -9,3 +9,4 @@ pub mod WhereLemmas
 pub mod FillLemmas
 pub mod BridgeLemmas
 pub mod KidsLemmas
+pub mod RebuildLemmas

@@ -5,3 +5,4 @@ pub mod Inner
 pub mod Listed
 pub mod Kids
 pub mod Fills
+pub mod Rebuilds
