@@ -15,6 +15,7 @@ mod kids;
 mod node;
 mod restore;
 mod slots;
+mod tree;
 mod walk;
 
 pub use args::ArgsList;

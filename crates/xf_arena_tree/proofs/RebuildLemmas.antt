@@ -50,7 +50,8 @@ abbrev count : Regions → ℕ
 count no_regions = 0
 count (region args ops rest) = suc (count rest)
 
-push_behind : (done : Regions) (t : Tree) (args : List PayloadType) (pre : Ops) (more : Regions) (r : ℕ) → r ≡ count done
+push_behind : (done : Regions) (t : Tree) (args : List PayloadType) (pre : Ops) (more : Regions) (r : ℕ)
+    → r ≡ count done
     → regions_push r t (behind done (region args pre more))
     ≡ behind done (region args (append pre (cons t no_ops)) more)
 push_behind no_regions t args pre more zero e = refl
@@ -59,7 +60,8 @@ push_behind (region a o rest) t args pre more zero e = absurd (omega arith)
 push_behind (region a o rest) t args pre more (suc r) e =
     ap (region a o) (push_behind rest t args pre more r (omega arith))
 
-push_block : (done : Regions) (ops : Ops) (args : List PayloadType) (pre : Ops) (more : Regions) (cs : List Child) (r : ℕ)
+push_block : (done : Regions) (ops : Ops) (args : List PayloadType) (pre : Ops) (more : Regions) (cs : List Child)
+    (r : ℕ)
     → r ≡ count done → push_all (block_children r ops cs) (behind done (region args pre more))
     ≡ push_all cs (behind done (region args (append pre ops) more))
 push_block done no_ops args pre more cs r e =
@@ -170,14 +172,13 @@ block_found : (r : ℕ) (ops : Ops) (g : OpName → Option Tree) (more : List Ch
 block_found r no_ops g more d h a = a
 block_found r (op n k ds os ts rs rest) g more d h a =
     let here : Tree = record { name = n; kind = k; attrs = ds; operands = os; results = ts; regions = rs } in
-    let own : eqb n.0 n.0 ≡ true = eq-eqb n.0 n.0 refl in
-    (
+    let own : eqb n.0 n.0 ≡ true = eq-eqb n.0 n.0 refl in (
       h n here (rw own refl),
       block_found r rest g more d.1.1.1.1 (λ x t e. h x t (
-        let b = find_has x rest t e in
-        let f = name_other (λ y. ops_has y rest) n x d.1.0 b in
-        let q = regions_unfound x rs (not_both (λ y. regions_has y rs) (λ y. ops_has y rest) x d.1.1.0 b) in
-        rw (f, q, e) refl)) a,
+          let b = find_has x rest t e in
+          let f = name_other (λ y. ops_has y rest) n x d.1.0 b in
+          let q = regions_unfound x rs (not_both (λ y. regions_has y rs) (λ y. ops_has y rest) x d.1.1.0 b) in
+          rw (f, q, e) refl)) a,
     )
 
 regions_found : (r : ℕ) (rs : Regions) (g : OpName → Option Tree) → RegionsDistinct rs
@@ -186,9 +187,9 @@ regions_found r no_regions g d h = tt
 regions_found r (region args ops rest) g d h =
     block_found r ops g (children (suc r) rest) d.1.0 (λ x t e. h x t (rw e refl))
     (regions_found (suc r) rest g d.1.1 (λ x t e. h x t (
-      let b = find_has_regions x rest t e in
-      let q = ops_unfound x ops (not_both (λ y. ops_has y ops) (λ y. regions_has y rest) x d.0 b) in
-      rw (q, e) refl)))
+    let b = find_has_regions x rest t e in
+    let q = ops_unfound x ops (not_both (λ y. ops_has y ops) (λ y. regions_has y rest) x d.0 b) in
+    rw (q, e) refl)))
 
 mutual
   inner_distinct : (p : OpName) (ops : Ops) (t : Tree) → OpsDistinct ops → ops_find p ops ≡ Some t
