@@ -1,3 +1,4 @@
 pub mod StackLemmas
 pub mod Values
 pub mod SizeLemmas
+pub mod GivenLemmas

@@ -14,7 +14,7 @@ use Rattle.xf_sem.specs.declared.value.Value.{Value}
 use Rattle.xf_sem.specs.declared.value.Value.TheVariants.{Scalar, Tensor}
 use Rattle.xf_sem.specs.Values.{IsValue, fits_width, is_value, fits_dim, fits_dims, fits_type, fit_types}
 
-every_when : {A : Type 0} (p : A → Bool) (P : A → Type 0) (xs : List A) → ((x : A) → P x → p x ≡ true) → Each P xs
+pub every_when : {A : Type 0} (p : A → Bool) (P : A → Type 0) (xs : List A) → ((x : A) → P x → p x ≡ true) → Each P xs
     → every p xs ≡ true
 every_when p P [] f h = refl
 every_when p P (x ∷ xs) f h = and_from (p x) (every p xs) (f x h.0) (every_when p P xs f h.1)
