@@ -1,0 +1,8 @@
+//! Points of iteration spaces by counters, elements of tensors at indices, and the operations of linalg that have a name.
+#![tactic(auto)]
+
+mod place;
+mod span;
+
+pub use place::{element_at, select};
+pub use span::{Span, advance, are_open, first_point};
