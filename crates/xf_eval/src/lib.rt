@@ -1,0 +1,5 @@
+//! The evaluator.
+#![tactic(auto)]
+
+mod arith;
+mod bounds;
