@@ -1,1 +1,4 @@
 pub mod BoundLemmas
+pub mod RunLemmas
+pub mod RegionLemmas
+pub mod TurnLemmas

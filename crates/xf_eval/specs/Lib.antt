@@ -1,3 +1,6 @@
 pub mod Plain
 pub mod Numbers
 pub mod Loops
+pub mod Branches
+pub mod Runs
+pub mod Found

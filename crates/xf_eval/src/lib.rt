@@ -3,3 +3,8 @@
 
 mod arith;
 mod bounds;
+mod branch;
+mod entering;
+mod find;
+mod lists;
+mod plain;
