@@ -2,3 +2,4 @@ pub mod BoundLemmas
 pub mod RunLemmas
 pub mod RegionLemmas
 pub mod TurnLemmas
+pub mod PlainLemmas

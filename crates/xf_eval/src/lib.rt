@@ -8,3 +8,4 @@ mod entering;
 mod find;
 mod lists;
 mod plain;
+mod run;

@@ -1,10 +1,12 @@
 //! Operations that enter nothing.
-ghost use Rattle.std.specs.Prelude.{◌≡◌, ◌∷◌, [], IfOk, Some};
+ghost use Rattle.std.specs.Prelude.{◌≡◌, ◌∷◌, [], ◌+◌, IfOk, Some, true};
 ghost use Rattle.xf_sem.specs.declared.value.Value.TheVariants.{Scalar};
 ghost use Rattle.xf_type.specs.declared.payload_type.Elem.TheVariants.{Num};
 ghost use Rattle.xf_eval_values.specs.Given.{given_run, listed_one};
 ghost use Rattle.xf_eval_values.specs.Meets.{Meets};
-ghost use Rattle.xf_eval.specs.Plain.{is_plain};
+ghost use Rattle.xf_sem.specs.Structured.{points_of};
+ghost use Rattle.xf_sem.specs.Meaning.{charge, elements, finish, where_fit};
+ghost use Rattle.xf_eval.specs.Plain.{is_plain, plain_given};
 
 use std::alloc::Global;
 use xf_eval_values::{Held, HeldList, Stop, admit_values};
@@ -66,4 +68,32 @@ pub fn is_plain(kind: &Kind) -> bool
         Kind::Generic { .. } => false,
         _ => true,
     }
+}
+
+/// What an operation answers that enters nothing, on the values of its operands.
+pub fn perform_plain(
+    alloc: Global,
+    op: &Op,
+    args: HeldList,
+    budget: &mut u64,
+) -> Result<HeldList, Stop>
+    requires { is_plain op.now.kind ≡ true }
+    ensures { Meets (given_run op.now.name op.now.results (points_of op.now.kind args)
+        (plain_given op.now.kind op.now.results args)) budget.old budget.new result }
+{
+    Err(Stop::NoMemory)
+}
+
+/// What an operation answers that entered blocks or called a function and was given these values.
+pub fn admit_results(
+    alloc: Global,
+    op: &Op,
+    args: &[Held],
+    values: HeldList,
+    budget: &mut u64,
+) -> Result<HeldList, Stop>
+    ensures { Meets (where_fit op.now.name op.now.results values
+        (charge (points_of op.now.kind args.now + elements values) (finish values))) budget.old budget.new result }
+{
+    Err(Stop::NoMemory)
 }
