@@ -2,7 +2,18 @@
 use Rattle.std.proofs.Common.{◌≡◌, ℕ, zero, suc, ◌+◌, ◌-◌, ◌<◌, ◌≤◌, List, [], ◌∷◌, ◌++◌, length, get_or, drop, Bool}
 use Rattle.std.proofs.Common.{true, false, Some, None, Ok, Err, refl, ap, sym, ◌∙◌, subst, arith}
 use Rattle.std.proofs.lemmas.List.{drop_more, drop_all}
-use Rattle.std.specs.Prelude.{map}
+use Rattle.std.proofs.lemmas.Bool.{lt-ltb, le-ltb}
+use Rattle.std.specs.Prelude.{map, nat_lt, if◌then◌else◌}
+use Rattle.xf_type.specs.declared.payload_type.Width.{Width}
+use Rattle.xf_ir.specs.Tree.{Body as Block}
+use Rattle.xf_ir.specs.View.{regions_of}
+use Rattle.xf_sem.specs.Actions.{Action, results, enters}
+use Rattle.xf_sem.specs.Control.{induction, on_for, on_if}
+use Rattle.xf_eval.specs.declared.bounds.Bounds.{Bounds}
+use Rattle.xf_eval.specs.Loops.{bounds_of, loop_by}
+use Rattle.xf_eval.specs.Branches.{region_of}
+use Rattle.xf_eval.specs.Found.{branch_by}
+use Rattle.xf_eval.proofs.BoundLemmas.{for_is}
 use Rattle.xf_ir.specs.declared.name.OpName.{OpName}
 use Rattle.xf_ir.specs.Kinds.{is_terminator}
 use Rattle.xf_ir.specs.Places.{results_of}
@@ -18,8 +29,9 @@ use Rattle.xf_eval_values.specs.declared.stack.Entry.{Entry}
 use Rattle.xf_eval_values.specs.Meets.{Meets}
 use Rattle.xf_eval_values.proofs.StackLemmas.{env_from-push}
 use Rattle.xf_eval.specs.Runs.{env_at}
-use Rattle.xf_eval.proofs.RunLemmas.{Outcome, Going, then_going, then_fails, step_ends, step_goes, step_fails, does_length}
-use Rattle.xf_eval.proofs.RegionLemmas.{env_push}
+use Rattle.xf_eval.proofs.RunLemmas.{Outcome, Going, then_going, then_fails, step_ends, step_goes, step_fails}
+use Rattle.xf_eval.proofs.RunLemmas.{does_length, then_finish}
+use Rattle.xf_eval.proofs.RegionLemmas.{env_push, count_is, if_is}
 
 -- ---- blocks
 
@@ -127,3 +139,44 @@ pub turns_over : (c : Calls) (n : OpName) (bodies : Bodies) (at : ℕ → Value)
 turns_over c n bodies at turns k vs b h =
     subst (λ j. Meets (performed c n bodies (turn_by_turn at k j vs)) b b (Ok vs)) (sym (no_turns turns k h))
     (refl, omega arith)
+
+pub loop_none : (c : Calls) (n : OpName) (bodies : Bodies) (w : Width) (args : List Value) (b : ℕ)
+    → None ≡ bounds_of w args → Meets (performed c n bodies (on_for w args)) b b (Err (Undefined n))
+loop_none c n bodies w args b h =
+    subst (λ (a : Action). Meets (performed c n bodies a) b b (Err (Undefined n)))
+    (ap (λ o. loop_by w o (drop 3 args)) h ∙ sym (for_is w args)) (refl, omega arith)
+
+pub loop_meets : (c : Calls) (n : OpName) (bodies : Bodies) (w : Width) (args vs : List Value) (l : Bounds) (b b' : ℕ)
+    (o : Outcome)
+    → Some l ≡ bounds_of w args → vs ≡ drop 3 args
+    → Meets (performed c n bodies (turn_by_turn (induction w l.lower l.step) 0 l.turns vs)) b b' o
+    → Meets (performed c n bodies (on_for w args)) b b' o
+loop_meets c n bodies w args vs l b b' o h e m =
+    subst (λ (a : Action). Meets (performed c n bodies a) b b' o)
+    (ap (loop_by w (Some l)) e ∙ ap (λ o. loop_by w o (drop 3 args)) h ∙ sym (for_is w args)) m
+
+-- ---- branches
+
+pub branch_past : (c : Calls) (n : OpName) (bs : List Block) (env : Env) (args : List Value) (r b : ℕ)
+    → Some r ≡ region_of args → length bs ≤ r
+    → Meets (performed c n (bodies_of c n 0 (regions_of bs) env)
+    (on_if (bodies_of c n 0 (regions_of bs) env).count args)) b b (Ok [])
+branch_past c n bs env args r b h l =
+    let bodies = bodies_of c n 0 (regions_of bs) env in
+    subst (λ (a : Action). Meets (performed c n bodies a) b b (Ok []))
+    (ap (branch_by bodies.count) h ∙ sym (if_is bodies.count args))
+    (subst (λ x. Meets (performed c n bodies (if x then enters r [] results else results [])) b b (Ok []))
+    (sym (ap (nat_lt r) (count_is c n 0 bs env) ∙ le-ltb r (length bs) l)) (refl, omega arith))
+
+pub branch_in : (c : Calls) (n : OpName) (bs : List Block) (env : Env) (args none : List Value) (r b b' : ℕ) (o : Outcome)
+    → Some r ≡ region_of args → r < length bs → none ≡ []
+    → Meets ((bodies_of c n 0 (regions_of bs) env).block r none) b b' o
+    → Meets (performed c n (bodies_of c n 0 (regions_of bs) env)
+    (on_if (bodies_of c n 0 (regions_of bs) env).count args)) b b' o
+branch_in c n bs env args none r b b' o h l e m =
+    let bodies = bodies_of c n 0 (regions_of bs) env in
+    subst (λ (a : Action). Meets (performed c n bodies a) b b' o)
+    (ap (branch_by bodies.count) h ∙ sym (if_is bodies.count args))
+    (subst (λ x. Meets (performed c n bodies (if x then enters r [] results else results [])) b b' o)
+    (sym (ap (nat_lt r) (count_is c n 0 bs env) ∙ lt-ltb r (length bs) l))
+    (then_finish (bodies.block r []) b b' o (subst (λ vs. Meets (bodies.block r vs) b b' o) e m)))
