@@ -1,2 +1,4 @@
 pub mod Spans
 pub mod Places
+pub mod Frames
+pub mod Onto
