@@ -1,3 +1,4 @@
 pub mod SpanLemmas
 pub mod PlaceLemmas
 pub mod FrameLemmas
+pub mod OntoLemmas
