@@ -1,10 +1,10 @@
 //! Counters over the points of a box, in lexicographic order.
-ghost use Rattle.std.specs.Prelude.{◌≡◌, ◌<◌, length, map, IfOk, nat_lt};
+ghost use Rattle.std.specs.Prelude.{◌≡◌, length, IfOk, nat_lt};
 ghost use Rattle.xf_ir.specs.Lists.{Each, every};
 ghost use Rattle.xf_eval_points.specs.Spans.{IsOpen, first_of, rest_from, later};
 
 use std::alloc::Global;
-use xf_type::{ListOf, NoMemory};
+use xf_type::NoMemory;
 
 /// The numbers of a dimension from one on, and below another.
 #[derive(Clone, Copy)]
@@ -25,15 +25,21 @@ pub fn are_open(spans: &[Span]) -> bool
     true
 }
 
-/// The first point of a box. Refuses for want of memory alone.
-pub fn first_point(alloc: Global, spans: &[Span]) -> Result<ListOf<u32>, NoMemory>
-    ensures { IfOk result (λ point. point ≡ first_of spans.now) }
+/// Goes to the first point of a box.
+pub fn begin(spans: &[Span], point: &mut [u32])
+    requires { length point.old ≡ length spans.now }
+    ensures { point.new ≡ first_of spans.now }
 {
-    let mut point = Vec::with_capacity(alloc, spans.len())?;
-    for span in spans {
-        point.push(span.from)?;
+    for at in 0..spans.len() {
+        point[at] = spans[at].from;
     }
-    Ok(ListOf::from_vec(point))
+}
+
+/// A place for points of so many dimensions. Refuses for want of memory alone.
+pub fn room_for(alloc: Global, rank: usize) -> Result<Vec<u32>, NoMemory>
+    ensures { IfOk result (λ point. length point.items ≡ rank) }
+{
+    vec![in alloc; 0; rank]
 }
 
 /// Goes on to the next point of a box, and tells whether there is one.

@@ -31,6 +31,11 @@ abbrev pub fits_scalar : Width → PayloadType → Bool
 fits_scalar width (type_of.Scalar wanted) = same_width width wanted
 fits_scalar width (type_of.Tensor wanted) = false
 
+-- the element of a scalar; a tensor has none that is its own
+abbrev pub scalar_of : Value → Option Elem
+scalar_of (value_of.Scalar width elem) = Some elem
+scalar_of (value_of.Tensor width shape elems) = None
+
 -- the parts of a tensor; a scalar has none
 abbrev pub tensor_of : Value → Option Tensor
 tensor_of (value_of.Scalar width elem) = None

@@ -93,6 +93,27 @@ pub fn admit(
     }
 }
 
+/// Takes the units of a tensor that a structured operation is to give, and of its points, from the budget, by the extents
+/// of its dimensions, and tells how many elements the tensor has. Refuses as `admit` does.
+pub fn admit_points(
+    op: OpName,
+    types: &[PayloadType],
+    width: Width,
+    sizes: &[u32],
+    extents: &[u32],
+    budget: &mut u64,
+) -> Result<u64, Stop>
+    ensures { IsAdmitted op types.now width sizes.now (product extents.now) budget.old budget.new result }
+{
+    if !fits_one(width, sizes, types) {
+        return Err(Stop::Undefined(op));
+    }
+    match product_within(extents, *budget) {
+        None => Err(Stop::Budget),
+        Some(points) => admit(op, types, width, sizes, points, budget),
+    }
+}
+
 /// Takes as many units as a value has elements from the budget; none where there are fewer.
 fn charge_elements(value: &Held, budget: &mut u64) -> bool
     ensures taken { result ≡ nat_le (elements_of value.now) budget.old }

@@ -1,7 +1,7 @@
 //! Values that are held, without copies of the elements of tensors.
 ghost use Rattle.std.specs.Prelude.{◌≡◌, IfOk, IfSome, true};
 ghost use Rattle.std.specs.Option.{option_copied};
-ghost use Rattle.xf_eval_values.specs.Held.{elem_of, tensor_of, as_value};
+ghost use Rattle.xf_eval_values.specs.Held.{elem_of, scalar_of, tensor_of, as_value};
 ghost use Rattle.xf_sem.specs.Tensors.{width_of, shape_of};
 ghost use Rattle.xf_type.specs.Integers.{FitsWidth};
 ghost use Rattle.xf_sem.specs.Values.{IsValue, is_value, fits_type};
@@ -188,6 +188,17 @@ impl Held {
         match &self.item {
             Item::Scalar(_, _) => None,
             Item::Shared(shared) => Some(&**shared),
+        }
+    }
+
+    /// The element of a scalar; a tensor is none.
+    pub fn as_scalar(&self) -> Option<Elem>
+        ensures elem { result ≡ scalar_of self.now }
+        ensures fits { IfSome result (λ elem. FitsWidth (width_of self.now) elem) }
+    {
+        match &self.item {
+            Item::Scalar(_, elem) => Some(*elem),
+            Item::Shared(_) => None,
         }
     }
 
