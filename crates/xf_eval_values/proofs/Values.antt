@@ -1,6 +1,6 @@
 -- A value passes the test of values.
 use Rattle.std.proofs.Common.{◌≡◌, ◌≢◌, ℕ, suc, List, [], ◌∷◌, Bool, true, false, refl, sym, ap}
-use Rattle.std.proofs.lemmas.Bool.{and_from, and_right, lt-ltb, eq-eqb}
+use Rattle.std.proofs.lemmas.Bool.{and_from, and_right, lt-ltb, ltb-true, eq-eqb}
 use Rattle.std.specs.Prelude.{◌^◌, ◌<◌, length, ◌==◌, ◌&&◌, nat_lt}
 use Rattle.xf_type.specs.declared.payload_type.Width.{Width}
 use Rattle.xf_type.specs.declared.payload_type.Elem.{Elem}
@@ -10,6 +10,7 @@ use Rattle.xf_type.specs.declared.payload_type.PayloadType.{PayloadType}
 use Rattle.xf_type.specs.Integers.{bits_of, FitsWidth}
 use Rattle.xf_ir.specs.Lists.{Each, every}
 use Rattle.xf_points.specs.Points.{product}
+use Rattle.xf_sem.proofs.Fits.{every_says}
 use Rattle.xf_sem.specs.declared.value.Value.{Value}
 use Rattle.xf_sem.specs.declared.value.Value.TheVariants.{Scalar, Tensor}
 use Rattle.xf_sem.specs.Values.{IsValue, fits_width, is_value, fits_dim, fits_dims, fits_type, fit_types}
@@ -47,3 +48,15 @@ unequal_types [] (t ∷ ts) h = refl
 unequal_types (v ∷ vs) [] h = refl
 unequal_types (v ∷ vs) (t ∷ ts) h =
     sym (and_right (is_value v && fits_type v t) (fit_types vs ts) (sym (unequal_types vs ts (λ e. h (ap suc e)))))
+
+-- ---- elements that pass the test
+
+fits_width_says : (w : Width) (e : Elem) → fits_width w e ≡ true → FitsWidth w e
+fits_width_says w (Num n) h = ltb-true n (2 ^ bits_of w) h
+fits_width_says w NoNumber h = tt
+
+pub all_fit_says : (w : Width) (es : List Elem) → every (fits_width w) es ≡ true → Each (FitsWidth w) es
+all_fit_says w es h = every_says (fits_width w) (FitsWidth w) es (fits_width_says w) h
+
+pub elem_fits : (w : Width) (e : Elem) → fits_width w e ≡ true → FitsWidth w e
+elem_fits w e h = fits_width_says w e h

@@ -1,18 +1,20 @@
 //! What is asked before a tensor is made: that it fits, and that the budget has its units.
-ghost use Rattle.std.specs.Prelude.{◌≡◌, ◌+◌, ◌≤◌, ◌<◌, ◌^◌, MatchOption, nat_lt, nat_le, true};
-ghost use Rattle.xf_ir.specs.Lists.{every};
+ghost use Rattle.std.specs.Prelude.{◌≡◌, ◌+◌, ◌≤◌, ◌<◌, ◌^◌, MatchOption, Some, length, nat_lt, nat_le, true};
+ghost use Rattle.xf_ir.specs.Lists.{Each, every};
 ghost use Rattle.xf_points.specs.Points.{product};
-ghost use Rattle.xf_eval_values.specs.Given.{fits_one, IsAdmitted};
+ghost use Rattle.xf_eval_values.specs.Given.{fits_one, given_run, listed_one, IsAdmitted};
 ghost use Rattle.xf_eval_values.specs.Sizes.{has_zero};
-ghost use Rattle.xf_eval_values.specs.Held.{elements_of};
+ghost use Rattle.xf_eval_values.specs.Held.{as_value, elements_of};
+ghost use Rattle.xf_sem.specs.Values.{fits_width};
 ghost use Rattle.xf_eval_values.specs.Meets.{Meets};
 ghost use Rattle.xf_sem.specs.Meaning.{charge, elements, finish, where_fit};
 
 use crate::fits::{fit_types, fits_tensor};
-use crate::held::{Held, HeldList};
+use crate::held::{Held, HeldList, Tensor};
 use crate::stop::{Stop, charge};
 use xf_ir::OpName;
-use xf_type::{PayloadType, Width};
+use std::alloc::Global;
+use xf_type::{Elem, PayloadType, Width, greatest};
 
 /// Whether one of the sizes is 0.
 fn has_zero(sizes: &[u32]) -> bool
@@ -157,5 +159,51 @@ pub fn admit_values(
         Ok(values)
     } else {
         Err(Stop::Budget)
+    }
+}
+
+/// Whether an element is one of a width.
+pub fn fits_width(width: Width, elem: Elem) -> bool
+    ensures { result ≡ fits_width width elem }
+{
+    match elem {
+        Elem::Num(number) => number <= greatest(width),
+        Elem::NoNumber => true,
+    }
+}
+
+/// Whether all elements are of a width.
+fn all_fit(width: Width, elems: &[Elem]) -> bool
+    ensures { result ≡ every (fits_width width) elems.now }
+{
+    for elem in elems {
+        if !fits_width(width, *elem) {
+            return false;
+        }
+    }
+    true
+}
+
+/// The tensor that a structured operation gives, where its elements are of its width and it fits the type of the one
+/// result, its units and those of its points taken from the budget.
+pub fn admit_made(
+    alloc: Global,
+    op: OpName,
+    types: &[PayloadType],
+    made: Tensor,
+    extents: &[u32],
+    budget: &mut u64,
+) -> Result<Held, Stop>
+    requires sizes { Each (λ size. size < 2 ^ 31) made.shape }
+    requires elems { length made.elems ≡ product made.shape }
+    ensures { Meets (given_run op types.now (product extents.now) (Some (as_value made)))
+        budget.old budget.new (listed_one result) }
+{
+    if !all_fit(made.width, made.elems.as_slice()) {
+        return Err(Stop::Undefined(op));
+    }
+    match admit_points(op, types, made.width, made.shape.as_slice(), extents, budget) {
+        Err(stop) => Err(stop),
+        Ok(_) => Ok(Held::tensor(alloc, made)?),
     }
 }

@@ -202,6 +202,16 @@ impl Held {
         }
     }
 
+    /// It is a value, whatever it holds: nothing is done.
+    pub fn is_value(&self)
+        ensures { IsValue self.now }
+    {
+        match &self.item {
+            Item::Scalar(_, _) => {}
+            Item::Shared(_) => {}
+        }
+    }
+
     /// The width.
     pub fn width(&self) -> Width
         ensures { result ≡ width_of self.now }
