@@ -3,3 +3,6 @@ pub mod PlaceLemmas
 pub mod FrameLemmas
 pub mod OntoLemmas
 pub mod ReadLemmas
+pub mod ShapeLemmas
+pub mod DimLemmas
+pub mod BoxLemmas

@@ -253,3 +253,7 @@ points_in_box out es j b =
     tests true b f g = rw (f refl) refl
     tests false true f g = (let m = g refl in cc)
     tests false false f g = refl
+
+pub spans_length : (out : List ℕ) (j : Point) (es : List ℕ) → length (spans_onto out j es) ≡ length es
+spans_length out j es =
+    length-map (counted 0 (length es)) (λ d. span_onto d (get_or es d 0) out j) ∙ length_counted (length es) 0

@@ -1,5 +1,11 @@
 -- Maps and operands of a structured operation, the out among them as the last.
-use Rattle.std.specs.Prelude.{ℕ, List, [], ◌∷◌, map}
+use Rattle.std.specs.Prelude.{ℕ, List, [], ◌∷◌, map, Option, Some, None, if◌then◌else◌}
+use Rattle.xf_type.specs.declared.payload_type.Elem.{Elem}
+use Rattle.xf_type.specs.declared.payload_type.Elem.TheVariants.{NoNumber}
+use Rattle.xf_points.specs.Points.{listed, element}
+use Rattle.xf_points.specs.Operands.{BodyOf, structured}
+use Rattle.xf_sem.specs.Structured.{Frame, front, last_or, extents, agree, operands}
+use Rattle.xf_eval_values.specs.declared.held.Tensor.{Tensor}
 use Rattle.xf_type.specs.declared.attribute.AffineMap.{AffineMap}
 use Rattle.xf_sem.specs.declared.value.Value.{Value}
 use Rattle.xf_sem.specs.Tensors.{shape_of}
@@ -11,3 +17,17 @@ maps_seen (m ∷ ms) = map (λ (m : AffineMap). m.results) (m ∷ ms)
 
 abbrev pub shapes : List Value → List (List ℕ)
 shapes vs = map shape_of vs
+
+-- the frame of these maps, that of the out as the last
+abbrev pub frame_seen : ℕ → List (List ℕ) → Frame
+frame_seen rank maps = record { rank = rank; maps = front maps; out = last_or [] maps }
+
+-- the extents, where all operands have those that their maps select
+abbrev pub agreed : ℕ → List (List ℕ) → List Value → Option (List ℕ)
+agreed rank maps vs =
+    if agree (extents rank maps (shapes vs)) maps (shapes vs) then Some (extents rank maps (shapes vs)) else None
+
+-- the elements of the result of a structured operation over a tensor
+abbrev pub made : BodyOf Elem → List ℕ → List (List ℕ) → List Value → List ℕ → Tensor → List Elem
+made body es maps ins out t =
+    listed t.shape (structured es out body (operands maps ins) (element NoNumber t.shape t.elems))

@@ -1,12 +1,15 @@
 //! The extents of structured operations, from their operands through their maps.
-ghost use Rattle.std.specs.Prelude.{◌≡◌, map, IfOk};
+ghost use Rattle.std.specs.Prelude.{◌≡◌, [], IfOk, IfSome};
 ghost use Rattle.xf_points.specs.Points.{at, same_point};
-ghost use Rattle.xf_sem.specs.Structured.{extent_in, extent_of, extents, agree};
-ghost use Rattle.xf_eval_points.specs.Frames.{maps_seen, shapes};
+ghost use Rattle.xf_sem.specs.Structured.{extent_in, extent_of, extents, agree, front, last_or, out_of};
+ghost use Rattle.xf_eval_points.specs.Frames.{maps_seen, shapes, agreed};
+ghost use Rattle.std.specs.Option.{option_copied};
+ghost use Rattle.xf_sem.specs.Values.{IsValue};
+ghost use Rattle.xf_eval_values.specs.Held.{as_value, tensor_of};
 
 use crate::place::select;
 use std::alloc::Global;
-use xf_eval_values::Held;
+use xf_eval_values::{Held, Tensor};
 use xf_type::{AffineMap, Duplicate, ListOf, NoMemory, PlaceList};
 
 /// The dimensions that each of the maps of a generic selects.
@@ -100,4 +103,67 @@ pub fn agree(extents: &[u32], maps: &[PlaceList], args: &[Held]) -> bool
         }
     }
     true
+}
+
+/// The extents of so many dimensions, where each operand has those that its map selects. Refuses for want of memory
+/// alone.
+pub fn agreed_extents(
+    alloc: Global,
+    rank: usize,
+    maps: &[PlaceList],
+    args: &[Held],
+) -> Result<Option<ListOf<u32>>, NoMemory>
+    ensures { IfOk result (λ es. es ≡ agreed rank maps.now args.now) }
+{
+    let all = extents(alloc, rank, maps, args)?;
+    if agree(all.as_slice(), maps, args) {
+        Ok(Some(all))
+    } else {
+        Ok(None)
+    }
+}
+
+/// The maps of what is read: all but that of the out, which is the last.
+#[tactic(auto, using(crate::proofs::ShapeLemmas::front_taken))]
+pub fn in_maps(maps: &[PlaceList]) -> &[PlaceList]
+    ensures { result.now ≡ front maps.now }
+{
+    if maps.is_empty() {
+        return maps;
+    }
+    &maps[..maps.len() - 1]
+}
+
+/// What the map of the out selects.
+#[tactic(auto, using(crate::proofs::ShapeLemmas::last_got))]
+pub fn out_map(maps: &[PlaceList]) -> &[u32]
+    ensures { result.now ≡ last_or [] maps.now }
+{
+    if maps.is_empty() {
+        return &[];
+    }
+    maps[maps.len() - 1].as_slice()
+}
+
+/// The operands that are read: all but the out, which is the last.
+#[tactic(auto, using(crate::proofs::ShapeLemmas::front_taken))]
+pub fn ins_of(args: &[Held]) -> &[Held]
+    ensures { result.now ≡ front args.now }
+{
+    if args.is_empty() {
+        return args;
+    }
+    &args[..args.len() - 1]
+}
+
+/// The out, where it is a tensor.
+#[tactic(auto, using(crate::proofs::ShapeLemmas::out_got))]
+pub fn out_tensor(args: &[Held]) -> Option<&Tensor>
+    ensures parts { option_copied result ≡ tensor_of (out_of args.now) }
+    ensures is_value { IfSome result (λ t. IsValue (as_value t.now)) }
+{
+    if args.is_empty() {
+        return None;
+    }
+    args[args.len() - 1].as_tensor()
 }
