@@ -1,7 +1,7 @@
 -- Maps and operands without the last, and the last; frames from maps that are seen.
 use Rattle.std.proofs.Common.{◌≡◌, ◌≢◌, ℕ, zero, suc, ◌+◌, ◌-◌, ◌<◌, ◌≤◌, List, [], ◌∷◌, length, get_or, take, refl, sym, ap}
-use Rattle.std.proofs.Common.{◌∙◌, arith, Option, Some, None, Bool, true, false}
-use Rattle.std.specs.Prelude.{map, if◌then◌else◌}
+use Rattle.std.proofs.Common.{◌∙◌, arith, Option, Some, None, Bool, true, false, subst}
+use Rattle.std.specs.Prelude.{map, if◌then◌else◌, ◌&&◌}
 use Rattle.xf_type.specs.declared.payload_type.Elem.{Elem}
 use Rattle.xf_type.specs.declared.payload_type.Elem.TheVariants.{NoNumber}
 use Rattle.xf_type.specs.declared.payload_type.Width.TheVariants.{I1}
@@ -12,10 +12,14 @@ use Rattle.xf_sem.specs.declared.value.Value.{Value}
 use Rattle.xf_sem.specs.declared.value.Value.TheVariants.{Scalar, Tensor}
 use Rattle.xf_sem.specs.Tensors.{shape_of}
 use Rattle.xf_sem.specs.Structured.{Frame, end_with, all_maps, all_shapes, extents, agree, given, front, last_or, out_of}
-use Rattle.xf_sem.specs.Structured.{frame_by, extents_of}
+use Rattle.xf_sem.specs.Structured.{frame_by, extents_of, on_points, each_index}
+use Rattle.xf_sem.specs.Actions.{results, is_undefined}
+use Rattle.xf_points.specs.Points.{points, at, same_point}
+use Rattle.xf_points.proofs.Maps.{same_point-true}
+use Rattle.std.proofs.lemmas.Bool.{and_parts, both_ways}
 use Rattle.xf_eval_values.specs.declared.held.Tensor.{Tensor as Parts}
 use Rattle.xf_eval_values.specs.Held.{tensor_of, as_value}
-use Rattle.xf_eval_points.specs.Frames.{maps_seen, shapes, frame_seen, agreed, made}
+use Rattle.xf_eval_points.specs.Frames.{maps_seen, shapes, frame_seen, agreed, made, entered}
 
 -- ---- all but the last, and the last
 
@@ -180,3 +184,142 @@ scalar_none f body ins (Tensor w sh es) e = cc
 pub given_scalar : (f : Frame) (body : BodyOf Elem) (vs : List Value) → tensor_of (out_of vs) ≡ None
     → given f body (front vs) (out_of vs) ≡ None
 given_scalar f body vs e = scalar_none f body (front vs) (out_of vs) e
+
+-- ---- generics
+
+-- what a generic does, where its out is a tensor
+pub points_made : (rank : ℕ) (ms : List AffineMap) (vs : List Value) (t : Parts) (es : List ℕ)
+    → tensor_of (out_of vs) ≡ Some t → Some es ≡ agreed rank (maps_seen ms) vs
+    → on_points (frame_by rank ms) (front vs) (out_of vs)
+    ≡ each_index (entered es (front (maps_seen ms)) (front vs) (last_or [] (maps_seen ms)) t) (points t.shape)
+    (λ made. results (Tensor t.width t.shape made ∷ []))
+points_made rank ms vs t es e a =
+    ap (λ g. on_points g (front vs) (out_of vs)) (frame_is rank ms)
+    ∙ ap (on_points (frame_seen rank (maps_seen ms)) (front vs)) (value_is (out_of vs) t e)
+    ∙ by t (agree (extents rank (maps_seen ms) (shapes vs)) (maps_seen ms) (shapes vs)) refl a
+    (sym (ap (λ o. all_shapes (front vs) o) (value_is (out_of vs) t e)) ∙ shapes_are vs t e)
+  where
+    by : (t : Parts) (b : Bool) → agree (extents rank (maps_seen ms) (shapes vs)) (maps_seen ms) (shapes vs) ≡ b
+        → Some es ≡ (if b then Some (extents rank (maps_seen ms) (shapes vs)) else None)
+        → all_shapes (front vs) (as_value t) ≡ shapes vs
+        → on_points (frame_seen rank (maps_seen ms)) (front vs) (as_value t)
+        ≡ each_index (entered es (front (maps_seen ms)) (front vs) (last_or [] (maps_seen ms)) t) (points t.shape)
+        (λ made. results (Tensor t.width t.shape made ∷ []))
+    by t false q a s = cc
+    by t true q a s =
+        let M = maps_seen ms in
+        let f = frame_seen rank M in
+        let whole : extents rank (all_maps f) (all_shapes (front vs) (as_value t)) ≡ extents rank M (shapes vs) =
+            ap (λ maps. extents rank maps (all_shapes (front vs) (as_value t))) (maps_are rank ms)
+            ∙ ap (extents rank M) s in
+        let own : es ≡ extents rank M (shapes vs) = cc in
+        let has : agree (extents rank (all_maps f) (all_shapes (front vs) (as_value t))) (all_maps f)
+                (all_shapes (front vs) (as_value t)) ≡ true =
+            ap (λ us. agree us (all_maps f) (all_shapes (front vs) (as_value t))) whole
+            ∙ ap (λ maps. agree (extents rank M (shapes vs)) maps (all_shapes (front vs) (as_value t))) (maps_are rank ms)
+            ∙ ap (agree (extents rank M (shapes vs)) M) s ∙ q in
+        let go = (λ (made : List Elem). results (Tensor t.width t.shape made ∷ [])) in
+        ap (λ b. if b then each_index (entered (extents rank (all_maps f) (all_shapes (front vs) (as_value t))) (front M) (front vs) (last_or [] M) t)
+        (points t.shape) go else is_undefined) has
+        ∙ ap (λ us. each_index (entered us (front M) (front vs) (last_or [] M) t) (points t.shape) go) (whole ∙ sym own)
+
+pub points_none : (rank : ℕ) (ms : List AffineMap) (vs : List Value) (t : Parts)
+    → tensor_of (out_of vs) ≡ Some t → None ≡ agreed rank (maps_seen ms) vs
+    → on_points (frame_by rank ms) (front vs) (out_of vs) ≡ is_undefined
+points_none rank ms vs t e a =
+    ap (λ g. on_points g (front vs) (out_of vs)) (frame_is rank ms)
+    ∙ ap (on_points (frame_seen rank (maps_seen ms)) (front vs)) (value_is (out_of vs) t e)
+    ∙ by t (agree (extents rank (maps_seen ms) (shapes vs)) (maps_seen ms) (shapes vs)) refl a
+    (sym (ap (λ o. all_shapes (front vs) o) (value_is (out_of vs) t e)) ∙ shapes_are vs t e)
+  where
+    by : (t : Parts) (b : Bool) → agree (extents rank (maps_seen ms) (shapes vs)) (maps_seen ms) (shapes vs) ≡ b
+        → None ≡ (if b then Some (extents rank (maps_seen ms) (shapes vs)) else None)
+        → all_shapes (front vs) (as_value t) ≡ shapes vs
+        → on_points (frame_seen rank (maps_seen ms)) (front vs) (as_value t) ≡ is_undefined
+    by t true q a s = cc
+    by t false q a s =
+        let M = maps_seen ms in
+        let f = frame_seen rank M in
+        let whole : extents rank (all_maps f) (all_shapes (front vs) (as_value t)) ≡ extents rank M (shapes vs) =
+            ap (λ maps. extents rank maps (all_shapes (front vs) (as_value t))) (maps_are rank ms)
+            ∙ ap (extents rank M) s in
+        let has : agree (extents rank (all_maps f) (all_shapes (front vs) (as_value t))) (all_maps f)
+                (all_shapes (front vs) (as_value t)) ≡ false =
+            ap (λ us. agree us (all_maps f) (all_shapes (front vs) (as_value t))) whole
+            ∙ ap (λ maps. agree (extents rank M (shapes vs)) maps (all_shapes (front vs) (as_value t))) (maps_are rank ms)
+            ∙ ap (agree (extents rank M (shapes vs)) M) s ∙ q in
+        ap (λ b. if b then each_index (entered (extents rank (all_maps f) (all_shapes (front vs) (as_value t))) (front M) (front vs) (last_or [] M) t)
+        (points t.shape) (λ made. results (Tensor t.width t.shape made ∷ [])) else is_undefined) has
+
+scalar_undefined : (f : Frame) (ins : List Value) (v : Value) → tensor_of v ≡ None → on_points f ins v ≡ is_undefined
+scalar_undefined f ins (Scalar w a) e = refl
+scalar_undefined f ins (Tensor w sh es) e = cc
+
+pub points_scalar : (f : Frame) (vs : List Value) → tensor_of (out_of vs) ≡ None
+    → on_points f (front vs) (out_of vs) ≡ is_undefined
+points_scalar f vs e = scalar_undefined f (front vs) (out_of vs) e
+
+-- the out has the sizes that its map selects of the extents, and there is a map for each operand
+last_agrees : (es : List ℕ) (none : List ℕ) (x : Value) (ks : List ℕ) (maps : List (List ℕ)) (none' : Value) (vs : List Value)
+    → agree es (ks ∷ maps) (shapes (x ∷ vs)) ≡ true
+    → shape_of (last_or none' (x ∷ vs)) ≡ at (last_or none (ks ∷ maps)) es
+last_agrees es none x ks [] none' [] h = same_point-true (shape_of x) (at ks es) (and_parts (same_point (shape_of x) (at ks es)) true h).0
+last_agrees es none x ks [] none' (y ∷ vs) h = absurd (both_ways (same_point (shape_of x) (at ks es) && false) (and_false (same_point (shape_of x) (at ks es))) h)
+  where
+    and_false : (b : Bool) → (b && false) ≡ false
+    and_false true = refl
+    and_false false = refl
+last_agrees es none x ks (ks' ∷ maps) none' [] h = absurd (both_ways (same_point (shape_of x) (at ks es) && false) (and_false (same_point (shape_of x) (at ks es))) h)
+  where
+    and_false : (b : Bool) → (b && false) ≡ false
+    and_false true = refl
+    and_false false = refl
+last_agrees es none x ks (ks' ∷ maps) none' (y ∷ vs) h =
+    last_agrees es ks y ks' maps x vs (and_parts (same_point (shape_of x) (at ks es)) (agree es (ks' ∷ maps) (shapes (y ∷ vs))) h).1
+
+agree_length : (es : List ℕ) (maps : List (List ℕ)) (vs : List Value) → agree es maps (shapes vs) ≡ true
+    → length maps ≡ length vs
+agree_length es [] [] h = refl
+agree_length es [] (v ∷ vs) h = cc
+agree_length es (ks ∷ maps) [] h = cc
+agree_length es (ks ∷ maps) (v ∷ vs) h =
+    ap suc (agree_length es maps vs (and_parts (same_point (shape_of v) (at ks es)) (agree es maps (shapes vs)) h).1)
+
+pub record Agrees (maps : List (List ℕ)) (vs : List Value) (t : Parts) (es : List ℕ) : Type 0 where
+  pub same : length (front maps) ≡ length (front vs)
+  pub out : t.shape ≡ at (last_or [] maps) es
+
+front_length : {A : Type 0} (xs : List A) → length (front xs) ≡ length xs - 1
+front_length [] = refl
+front_length (x ∷ []) = refl
+front_length (x ∷ (y ∷ xs)) =
+    ap suc (front_length (y ∷ xs)) ∙ (let z : suc (suc (length xs) - 1) ≡ suc (suc (length xs)) - 1 = omega arith in z)
+
+pub agreed_parts : (rank : ℕ) (ms : List AffineMap) (vs : List Value) (t : Parts) (es : List ℕ)
+    → tensor_of (out_of vs) ≡ Some t → Some es ≡ agreed rank (maps_seen ms) vs → Agrees (maps_seen ms) vs t es
+agreed_parts rank ms vs t es e a =
+    by (agree (extents rank (maps_seen ms) (shapes vs)) (maps_seen ms) (shapes vs)) refl a
+  where
+    shaped : (ms' : List (List ℕ)) → 0 < length ms' → agree es ms' (shapes vs) ≡ true → (vs' : List Value) → vs' ≡ vs → tensor_of (out_of vs') ≡ Some t
+        → t.shape ≡ at (last_or [] ms') es
+    shaped [] l h vs' q k = absurd (omega arith)
+    shaped (ks ∷ maps) l h [] q k = cc
+    shaped (ks ∷ maps) l h (x ∷ us) q k =
+        sym (ap shape_of (value_is (out_of (x ∷ us)) t k))
+        ∙ last_agrees es [] x ks maps (Scalar I1 NoNumber) us (subst (λ ws. agree es (ks ∷ maps) (shapes ws) ≡ true) (sym q) h)
+
+    some_map : (ms : List AffineMap) → 0 < length (maps_seen ms)
+    some_map [] = omega arith
+    some_map (m ∷ ms) = omega arith
+
+    by : (b : Bool) → agree (extents rank (maps_seen ms) (shapes vs)) (maps_seen ms) (shapes vs) ≡ b
+        → Some es ≡ (if b then Some (extents rank (maps_seen ms) (shapes vs)) else None) → Agrees (maps_seen ms) vs t es
+    by false q a = cc
+    by true q a =
+        let own : es ≡ extents rank (maps_seen ms) (shapes vs) = cc in
+        let h : agree es (maps_seen ms) (shapes vs) ≡ true =
+            ap (λ us. agree us (maps_seen ms) (shapes vs)) own ∙ q in
+        record {
+          same = front_length (maps_seen ms) ∙ ap (λ n. n - 1) (agree_length es (maps_seen ms) vs h) ∙ sym (front_length vs);
+          out = shaped (maps_seen ms) (some_map ms) h vs refl e;
+        }

@@ -1,14 +1,17 @@
 -- Maps and operands of a structured operation, the out among them as the last.
-use Rattle.std.specs.Prelude.{ℕ, List, [], ◌∷◌, map, Option, Some, None, if◌then◌else◌}
+use Rattle.std.specs.Prelude.{ℕ, List, [], ◌∷◌, map, Option, Some, None, if◌then◌else◌, filter}
 use Rattle.xf_type.specs.declared.payload_type.Elem.{Elem}
 use Rattle.xf_type.specs.declared.payload_type.Elem.TheVariants.{NoNumber}
-use Rattle.xf_points.specs.Points.{listed, element}
+use Rattle.xf_points.specs.Points.{Point, listed, element, points}
+use Rattle.xf_points.specs.Folds.{onto}
+use Rattle.xf_sem.specs.Actions.{Action}
+use Rattle.xf_eval_values.specs.Held.{as_value}
 use Rattle.xf_points.specs.Operands.{BodyOf, structured}
-use Rattle.xf_sem.specs.Structured.{Frame, front, last_or, extents, agree, operands}
+use Rattle.xf_sem.specs.Structured.{Frame, front, last_or, extents, agree, operands, through, arguments}
 use Rattle.xf_eval_values.specs.declared.held.Tensor.{Tensor}
 use Rattle.xf_type.specs.declared.attribute.AffineMap.{AffineMap}
 use Rattle.xf_sem.specs.declared.value.Value.{Value}
-use Rattle.xf_sem.specs.Tensors.{shape_of}
+use Rattle.xf_sem.specs.Tensors.{shape_of, items_of}
 
 -- the dimensions that each map selects; the out's map selects none where there is no map
 abbrev pub maps_seen : List AffineMap → List (List ℕ)
@@ -31,3 +34,8 @@ agreed rank maps vs =
 abbrev pub made : BodyOf Elem → List ℕ → List (List ℕ) → List Value → List ℕ → Tensor → List Elem
 made body es maps ins out t =
     listed t.shape (structured es out body (operands maps ins) (element NoNumber t.shape t.elems))
+
+-- what a generic does at an index of its out: it enters its block once for each point that leads there
+abbrev pub entered : List ℕ → List (List ℕ) → List Value → List ℕ → Tensor → Point → (Elem → Action) → Action
+entered es maps ins out t j =
+    through (arguments maps ins (as_value t)) (filter (onto out j) (points es)) (items_of (as_value t) j)
