@@ -3,3 +3,4 @@ pub mod RunLemmas
 pub mod RegionLemmas
 pub mod TurnLemmas
 pub mod PlainLemmas
+pub mod PointLemmas

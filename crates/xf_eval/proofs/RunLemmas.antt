@@ -28,17 +28,10 @@ use Rattle.xf_eval_values.specs.Meets.{Meets}
 use Rattle.xf_eval_values.specs.Given.{given_run}
 use Rattle.xf_eval_values.proofs.StackLemmas.{env_from-push}
 use Rattle.xf_eval.specs.Plain.{is_plain, plain_given}
-use Rattle.xf_eval.specs.Runs.{calls_at, env_at, bodies_at}
+use Rattle.xf_eval.specs.Going.{Going}
 
 abbrev pub Outcome : Type 0
 Outcome = Result (List Value) Stop
-
--- what is left of a run, and of the budget
-pub record Going (all rest : Run (List Value)) (before after : ℕ) : Type 0 where
-  pub spent : ℕ
-  pub same : all.answer ≡ rest.answer
-  pub units : all.units ≡ spent + rest.units
-  pub paid : before ≡ spent + after
 
 pub going_start : (r : Run (List Value)) (b : ℕ) → Going r r b b
 going_start r b = record { spent = 0; same = refl; units = omega arith; paid = omega arith }

@@ -28,8 +28,9 @@ use Rattle.xf_eval_values.specs.declared.stop.Stop.TheVariants.{Undefined, Budge
 use Rattle.xf_eval_values.specs.declared.stack.Entry.{Entry}
 use Rattle.xf_eval_values.specs.Meets.{Meets}
 use Rattle.xf_eval_values.proofs.StackLemmas.{env_from-push}
+use Rattle.xf_eval.specs.Going.{Going}
 use Rattle.xf_eval.specs.Runs.{env_at}
-use Rattle.xf_eval.proofs.RunLemmas.{Outcome, Going, then_going, then_fails, step_ends, step_goes, step_fails}
+use Rattle.xf_eval.proofs.RunLemmas.{Outcome, then_going, then_fails, step_ends, step_goes, step_fails}
 use Rattle.xf_eval.proofs.RunLemmas.{does_length, then_finish}
 use Rattle.xf_eval.proofs.RegionLemmas.{env_push, count_is, if_is}
 

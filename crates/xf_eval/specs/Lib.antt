@@ -4,3 +4,5 @@ pub mod Loops
 pub mod Branches
 pub mod Runs
 pub mod Found
+pub mod Going
+pub mod Points

@@ -1,26 +1,19 @@
 //! Operations that enter nothing.
-ghost use Rattle.std.specs.Prelude.{◌≡◌, ◌∷◌, [], ◌+◌, IfOk, Some, true};
+ghost use Rattle.std.specs.Prelude.{◌≡◌, ℕ, ◌+◌, List, Some, true};
 ghost use Rattle.xf_sem.specs.declared.value.Value.TheVariants.{Scalar};
 ghost use Rattle.xf_type.specs.declared.payload_type.Elem.TheVariants.{Num};
 ghost use Rattle.xf_eval_values.specs.Given.{given_run, listed_one};
 ghost use Rattle.xf_eval_values.specs.Meets.{Meets};
 ghost use Rattle.xf_sem.specs.Structured.{points_of};
-ghost use Rattle.xf_sem.specs.Meaning.{charge, elements, finish, where_fit};
+ghost use Rattle.xf_sem.specs.Meaning.{Run, and_then, charge, elements, finish, where_fit};
+ghost use Rattle.xf_sem.specs.declared.value.Value.{Value};
 ghost use Rattle.xf_eval.specs.Plain.{is_plain, plain_given};
 
+use crate::lists::one;
 use std::alloc::Global;
 use xf_eval_values::{Held, HeldList, Stop, admit_values};
 use xf_ir::{Kind, Op};
-use xf_type::{Elem, ListOf, NoMemory, Width, greatest};
-
-/// One value as a list.
-fn one(alloc: Global, value: Held) -> Result<HeldList, NoMemory>
-    ensures { IfOk result (λ values. values ≡ value ∷ []) }
-{
-    let mut values = ListOf::new(alloc);
-    values.push(value)?;
-    Ok(values)
-}
+use xf_type::{Elem, Width, greatest};
 
 /// What an operation answers that gives this value, where there is one.
 fn answer(
@@ -57,19 +50,6 @@ fn constant(
     answer(alloc, op, Some(Held::scalar(width, Elem::Num(bits as u64))), budget)
 }
 
-/// Whether an operation enters nothing.
-pub fn is_plain(kind: &Kind) -> bool
-    ensures { result ≡ is_plain kind.now }
-{
-    match kind {
-        Kind::Call { .. } => false,
-        Kind::For { .. } => false,
-        Kind::If => false,
-        Kind::Generic { .. } => false,
-        _ => true,
-    }
-}
-
 /// What an operation answers that enters nothing, on the values of its operands.
 pub fn perform_plain(
     alloc: Global,
@@ -84,16 +64,18 @@ pub fn perform_plain(
     Err(Stop::NoMemory)
 }
 
-/// What an operation answers that entered blocks or called a function and was given these values.
-pub fn admit_results(
-    alloc: Global,
+/// What an operation answers that entered a block or called a function, by how that ended.
+pub fn admit_outcome(
     op: &Op,
-    args: &[Held],
-    values: HeldList,
+    outcome: Result<HeldList, Stop>,
     budget: &mut u64,
 ) -> Result<HeldList, Stop>
-    ensures { Meets (where_fit op.now.name op.now.results values
-        (charge (points_of op.now.kind args.now + elements values) (finish values))) budget.old budget.new result }
+    ensures { (run : Run (List Value)) (b : ℕ) → Meets run b budget.old outcome
+        → Meets (and_then run (λ ws. where_fit op.now.name op.now.results ws (charge (0 + elements ws) (finish ws))))
+        b budget.new result }
 {
-    Err(Stop::NoMemory)
+    match outcome {
+        Err(stop) => Err(stop),
+        Ok(values) => admit_values(op.name, op.results.as_slice(), 0, values, budget),
+    }
 }

@@ -15,7 +15,8 @@ use Rattle.xf_eval.specs.Plain.{is_plain, plain_given}
 use Rattle.xf_eval.specs.Loops.{loop_by}
 use Rattle.xf_eval.specs.Found.{branch_by}
 use Rattle.xf_eval.specs.Runs.{calls_at, env_at, bodies_at}
-use Rattle.xf_eval.proofs.RunLemmas.{Going, going_on, going_meets, plain_meets}
+use Rattle.xf_eval.specs.Going.{Going, Passes}
+use Rattle.xf_eval.proofs.RunLemmas.{going_on, going_meets, plain_meets}
 use Rattle.xf_eval.proofs.PlainLemmas.{plain_acts}
 use Rattle.xf_eval.proofs.BoundLemmas.{for_is}
 use Rattle.xf_eval.proofs.RegionLemmas.{past_meets, unfit_meets, block_meets, call_meets, call_none, env_none, if_is, count_is}
@@ -137,16 +138,6 @@ run_loop-returns-clause-meets t c =
     (going_meets _ _ _ _ c.loop-turn.budget (Ok c.loop-turn.values) c.loop-turn.invariant.going
     (turns_over calls c.args.op.now.name bodies (induction c.args.width c.in-Some.bounds.lower c.in-Some.bounds.step) _
     c.loop-turn.turn c.loop-turn.values c.loop-turn.budget (omega arith)))
-
-pub run_op-returns-then-is_plain-clause-meets : goal.run_op-returns-then-is_plain-clause-meets
-run_op-returns-then-is_plain-clause-meets t c =
-    let op = c.args.op.now in
-    let bodies = bodies_at c.args.depth c.args.functions.now op c.args.base c.args.stack.now in
-    plain_meets (calls_at c.args.depth c.args.functions.now) op.name op.kind op.results bodies c.args.args
-    (plain_given op.kind op.results c.args.args) _ _ _
-    (plain_acts op.kind bodies.count op.results c.args.args
-    (sym (ap (λ (t : Tree). is_plain t.kind) c.op.view_is) ∙ sym c.is_plain.ensures ∙ c.if-is_plain.true))
-    c.perform_plain.ensures
 
 pub run_region-returns-then-region-len-clause-meets : goal.run_region-returns-then-region-len-clause-meets
 run_region-returns-then-region-len-clause-meets t c =
