@@ -4,3 +4,5 @@ pub mod RegionLemmas
 pub mod TurnLemmas
 pub mod PlainLemmas
 pub mod PointLemmas
+pub mod GenericLemmas
+pub mod TopLemmas

@@ -6,3 +6,5 @@ pub mod Runs
 pub mod Found
 pub mod Going
 pub mod Points
+pub mod Answers
+pub mod Faults

@@ -1,12 +1,10 @@
 //! Operations that enter nothing.
-ghost use Rattle.std.specs.Prelude.{◌≡◌, ℕ, ◌+◌, List, Some, true};
+ghost use Rattle.std.specs.Prelude.{◌≡◌, Some, true};
 ghost use Rattle.xf_sem.specs.declared.value.Value.TheVariants.{Scalar};
 ghost use Rattle.xf_type.specs.declared.payload_type.Elem.TheVariants.{Num};
 ghost use Rattle.xf_eval_values.specs.Given.{given_run, listed_one};
 ghost use Rattle.xf_eval_values.specs.Meets.{Meets};
 ghost use Rattle.xf_sem.specs.Structured.{points_of};
-ghost use Rattle.xf_sem.specs.Meaning.{Run, and_then, charge, elements, finish, where_fit};
-ghost use Rattle.xf_sem.specs.declared.value.Value.{Value};
 ghost use Rattle.xf_eval.specs.Plain.{is_plain, plain_given};
 
 use crate::lists::one;
@@ -62,20 +60,4 @@ pub fn perform_plain(
         (plain_given op.now.kind op.now.results args)) budget.old budget.new result }
 {
     Err(Stop::NoMemory)
-}
-
-/// What an operation answers that entered a block or called a function, by how that ended.
-pub fn admit_outcome(
-    op: &Op,
-    outcome: Result<HeldList, Stop>,
-    budget: &mut u64,
-) -> Result<HeldList, Stop>
-    ensures { (run : Run (List Value)) (b : ℕ) → Meets run b budget.old outcome
-        → Meets (and_then run (λ ws. where_fit op.now.name op.now.results ws (charge (0 + elements ws) (finish ws))))
-        b budget.new result }
-{
-    match outcome {
-        Err(stop) => Err(stop),
-        Ok(values) => admit_values(op.name, op.results.as_slice(), 0, values, budget),
-    }
 }

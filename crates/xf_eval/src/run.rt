@@ -22,14 +22,14 @@ use crate::branch::{region_of};
 use crate::entering::{Entering, entered_by};
 use crate::lists::{arguments, first_elem, one, share_behind, with_first};
 use crate::find::function_named;
-use crate::plain::{admit_outcome, perform_plain};
+use crate::plain::perform_plain;
 use std::alloc::Global;
 use xf_eval_points::{
     Span, advance, agreed_extents, are_open, begin, dims_of_maps, element_of, in_maps, ins_of, out_map, out_tensor, room_for,
     spans_onto, whole_spans,
 };
 use xf_eval_values::{
-    Entry, Held, HeldList, Stack, Stop, Tensor, admit_made, charge, fit_types, fits_width, operands,
+    Entry, Held, HeldList, Stack, Stop, Tensor, admit_made, admit_values, charge, fit_types, fits_width, operands,
 };
 use xf_ir::{IteratorKind, Op, OpName};
 use xf_sem::ElemList;
@@ -94,16 +94,22 @@ fn run_op(
 {
     match entered_by(&op.kind) {
         Entering::Loop(width) => {
-            let outcome = run_loop(alloc, functions, depth, op, width, args.as_slice(), stack, base, budget);
-            admit_outcome(op, outcome, budget)
+            match run_loop(alloc, functions, depth, op, width, args.as_slice(), stack, base, budget) {
+                Ok(values) => admit_values(op.name, op.results.as_slice(), 0, values, budget),
+                Err(stop) => Err(stop),
+            }
         }
         Entering::Branch => {
-            let outcome = run_branch(alloc, functions, depth, op, args.as_slice(), stack, base, budget);
-            admit_outcome(op, outcome, budget)
+            match run_branch(alloc, functions, depth, op, args.as_slice(), stack, base, budget) {
+                Ok(values) => admit_values(op.name, op.results.as_slice(), 0, values, budget),
+                Err(stop) => Err(stop),
+            }
         }
         Entering::Call(callee) => {
-            let outcome = run_call(alloc, functions, depth, op.name, callee, args, stack, budget);
-            admit_outcome(op, outcome, budget)
+            match run_call(alloc, functions, depth, op.name, callee, args, stack, budget) {
+                Ok(values) => admit_values(op.name, op.results.as_slice(), 0, values, budget),
+                Err(stop) => Err(stop),
+            }
         }
         Entering::Points(maps, iterators) => {
             run_points(alloc, functions, depth, op, maps, iterators, args.as_slice(), stack, base, budget)

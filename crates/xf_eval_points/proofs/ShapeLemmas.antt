@@ -323,3 +323,12 @@ agreed_parts rank ms vs t es e a =
           same = front_length (maps_seen ms) ∙ ap (λ n. n - 1) (agree_length es (maps_seen ms) vs h) ∙ sym (front_length vs);
           out = shaped (maps_seen ms) (some_map ms) h vs refl e;
         }
+
+pub agreed_extents_are : (rank : ℕ) (maps : List (List ℕ)) (vs : List Value) (es : List ℕ) → Some es ≡ agreed rank maps vs
+    → es ≡ extents rank maps (shapes vs)
+agreed_extents_are rank maps vs es a = by (agree (extents rank maps (shapes vs)) maps (shapes vs)) a
+  where
+    by : (b : Bool) → Some es ≡ (if b then Some (extents rank maps (shapes vs)) else None)
+        → es ≡ extents rank maps (shapes vs)
+    by true a = cc
+    by false a = cc

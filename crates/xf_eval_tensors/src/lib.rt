@@ -1,0 +1,10 @@
+//! The operations of tensor: sizes, elements, slices and casts, and dense constants.
+#![tactic(auto)]
+
+
+mod element;
+mod index;
+
+
+pub use element::{dim, extract};
+pub use index::{index_in, index_of, indices};
