@@ -1,2 +1,3 @@
 pub mod IndexLemmas
 pub mod ElementLemmas
+pub mod CastLemmas

@@ -4,7 +4,9 @@
 
 mod element;
 mod index;
+mod shape;
 
 
 pub use element::{dim, extract};
+pub use shape::cast;
 pub use index::{index_in, index_of, indices};
