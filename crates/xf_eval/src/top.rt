@@ -11,7 +11,7 @@ use crate::find::function_named;
 use crate::run::run_call;
 use std::alloc::Global;
 use xf_eval_values::{Held, HeldList, Stack, fit_types};
-use xf_ir::{Module, Op, first_args};
+use xf_ir::{Module, Op, OpName, first_args};
 use xf_sem::Value;
 use xf_type::{ListOf, NoMemory};
 
@@ -23,6 +23,13 @@ fn functions_of(payload: &Module) -> &[Op]
         [] => &[],
         [block, ..] => block.ops.as_slice(),
     }
+}
+
+/// The name of the root of a module.
+fn root_of(payload: &Module) -> OpName
+    ensures { result ≡ payload.now.root.name }
+{
+    payload.root.name
 }
 
 /// Copies of values, to be held.
@@ -73,9 +80,10 @@ pub fn eval(
     if !fit_types(held.as_slice(), first_args(&function.regions)) {
         return Err(EvalFault::BadArguments);
     }
+    let root = root_of(payload);
     let mut stack = Stack::new(alloc);
     let mut left = budget;
-    match run_call(alloc, functions, 32, payload.root.name, name, held, &mut stack, &mut left) {
+    match run_call(alloc, functions, 32, root, name, held, &mut stack, &mut left) {
         Ok(values) => Ok(values_of(alloc, values.as_slice())?),
         Err(stop) => Err(fault_of(stop)),
     }

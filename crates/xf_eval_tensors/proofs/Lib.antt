@@ -1,3 +1,4 @@
 pub mod IndexLemmas
 pub mod ElementLemmas
 pub mod CastLemmas
+pub mod MadeLemmas

@@ -4,9 +4,11 @@
 
 mod element;
 mod index;
+mod made;
 mod shape;
 
 
 pub use element::{dim, extract};
+pub use made::{empty, filled};
 pub use shape::cast;
 pub use index::{index_in, index_of, indices};

@@ -37,7 +37,7 @@ pub fn cast(types: &[PayloadType], args: &[Held]) -> Result<Option<Held>, NoMemo
 }
 
 /// The sizes of a type whose dynamic dimensions have these sizes, where there are as many and all are below 2^31.
-fn sizes_with(
+pub fn sizes_with(
     alloc: Global,
     dims: &[Dim],
     numbers: &[u64],

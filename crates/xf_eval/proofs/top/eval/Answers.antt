@@ -42,10 +42,10 @@ returns-in-Ok c =
     answered_values m name f c.args.args.now c.in-Ok.values c.in_ok-values_of-in-Ok.field-0 c.args.budget
     c.run_call.new.budget found fits (c.in_ok-values_of-in-Ok.ensures ∙ c.as_slice-in-Ok.ensures)
     (subst (λ n. Meets (calls_to 32 (functions_of m) n name c.args.args.now) c.args.budget c.run_call.new.budget (Ok c.in-Ok.values))
-    (ap (λ (t : Tree). t.name) c.payload.view_is)
-    (subst (λ vs. Meets (calls_to 32 (functions_of m) c.payload.inside.name name vs) c.args.budget c.run_call.new.budget (Ok c.in-Ok.values))
+    c.root_of-root.ensures
+    (subst (λ vs. Meets (calls_to 32 (functions_of m) c.root_of-root.result name vs) c.args.budget c.run_call.new.budget (Ok c.in-Ok.values))
     c.in_ok-held.ensures
-    (subst (λ fs. Meets (calls_to 32 fs c.payload.inside.name name c.in_ok-held.held) c.args.budget
+    (subst (λ fs. Meets (calls_to 32 fs c.root_of-root.result name c.in_ok-held.held) c.args.budget
     c.run_call.new.budget (Ok c.in-Ok.values)) c.functions_of-functions.ensures c.in-Ok.ensures.meets)))
 
 pub returns : goal.returns
@@ -64,8 +64,8 @@ returns c =
     subst (λ e. Answers m name c.args.args.now c.args.budget (Err e)) (sym c.fault_of.ensures)
     (answered_fault m name f c.args.args.now c.args.budget c.run_call.new.budget c.in-Err.stop found fits
     (subst (λ n. Meets (calls_to 32 (functions_of m) n name c.args.args.now) c.args.budget c.run_call.new.budget (Err c.in-Err.stop))
-    (ap (λ (t : Tree). t.name) c.payload.view_is)
-    (subst (λ vs. Meets (calls_to 32 (functions_of m) c.payload.inside.name name vs) c.args.budget c.run_call.new.budget (Err c.in-Err.stop))
+    c.root_of-root.ensures
+    (subst (λ vs. Meets (calls_to 32 (functions_of m) c.root_of-root.result name vs) c.args.budget c.run_call.new.budget (Err c.in-Err.stop))
     c.in_ok-held.ensures
-    (subst (λ fs. Meets (calls_to 32 fs c.payload.inside.name name c.in_ok-held.held) c.args.budget
+    (subst (λ fs. Meets (calls_to 32 fs c.root_of-root.result name c.in_ok-held.held) c.args.budget
     c.run_call.new.budget (Err c.in-Err.stop)) c.functions_of-functions.ensures c.in-Err.ensures.meets))))
