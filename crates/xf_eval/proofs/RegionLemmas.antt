@@ -105,11 +105,11 @@ pub block_meets : (c : Calls) (n : OpName) (bs : List Block) (base : ℕ) (es es
 block_meets c n bs base es es' i b vs ops u u' o h e f l p q m =
     let own : Entry = record { op = n; region = Some i; values = vs } in
     let seen : env_at base es' ≡ extend (args_of n i (length b.args)) vs (env_at base es) =
-        ap (env_at base) p ∙ env_push base es own l ∙ env_from-push nowhere (drop base es) own
-        ∙ ap (λ k. extend (args_of n i k) vs (env_at base es)) (fit_length vs b.args f) in
+    ap (env_at base) p ∙ env_push base es own l ∙ env_from-push nowhere (drop base es) own
+    ∙ ap (λ k. extend (args_of n i k) vs (env_at base es)) (fit_length vs b.args f) in
     let inner : Meets (ops_run c n b.ops (extend (args_of n i (length b.args)) vs (env_at base es))) u u' o =
-        subst (λ env. Meets (ops_run c n b.ops env) u u' o) seen
-        (subst (λ x. Meets (ops_run c n x (env_at base es')) u u' o) q m) in
+    subst (λ env. Meets (ops_run c n b.ops env) u u' o) seen
+    (subst (λ x. Meets (ops_run c n x (env_at base es')) u u' o) q m) in
     subst (λ r. Meets r u u' o)
     (sym (block_is c n 0 bs (env_at base es) i b vs h e ∙ ap (λ j. block_run c n j (env_at base es) b vs) (none_plus i)))
     (subst (λ x. Meets (if x then ops_run c n b.ops (extend (args_of n i (length b.args)) vs (env_at base es)) else undefined n) u u' o)

@@ -89,12 +89,12 @@ block_goes c holder ts i t base es es' args ws b b1 b' h e k p q m l w =
     let own : Entry = record { op = t.name; region = None; values = ws } in
     let bodies = bodies_of c t.name 0 t.regions env in
     let seen : env_at base es' ≡ extend (results_of t.name (length t.results)) ws env =
-        ap (env_at base) w ∙ env_push base es own l ∙ env_from-push nowhere (drop base es) own
-        ∙ ap (λ n. extend (results_of t.name n) ws env) (does_length c t.name t.kind t.results bodies args ws m.0) in
+    ap (env_at base) w ∙ env_push base es own l ∙ env_from-push nowhere (drop base es) own
+    ∙ ap (λ n. extend (results_of t.name n) ws env) (does_length c t.name t.kind t.results bodies args ws m.0) in
     let g = step_goes c t.name t.kind t.results bodies (map env t.operands) ws
-        (λ vs. ops_run c holder (ops_of (drop (i + 1) ts)) (extend (results_of t.name (length t.results)) vs env))
-        b b1 b' k q
-        (subst (λ vs. Meets (does c t.name t.kind t.results bodies vs) b1 b' (Ok ws)) p m) in
+    (λ vs. ops_run c holder (ops_of (drop (i + 1) ts)) (extend (results_of t.name (length t.results)) vs env))
+    b b1 b' k q
+    (subst (λ vs. Meets (does c t.name t.kind t.results bodies vs) b1 b' (Ok ws)) p m) in
     subst (λ r. Going r (ops_run c holder (ops_of (drop (i + 1) ts)) (env_at base es')) b b')
     (sym (head_is c holder ts i t env h e))
     (subst (λ x. Going (head_run c holder ts i t env) (ops_run c holder (ops_of (drop (i + 1) ts)) x) b b') (sym seen) g)

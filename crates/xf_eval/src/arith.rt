@@ -6,7 +6,9 @@ ghost use Rattle.xf_sem.specs.declared.value.Value.TheVariants.{Scalar};
 ghost use Rattle.xf_eval.specs.Plain.{one_given, two_given, choice_given};
 
 use xf_eval_values::Held;
-use xf_type::{BinKind, CmpKind, ConvKind, Width, apply_binary, apply_cmp, apply_conv, apply_select};
+use xf_type::{
+    BinKind, CmpKind, ConvKind, Width, apply_binary, apply_cmp, apply_conv, apply_select,
+};
 
 /// A binary operation of two scalars of that width.
 pub fn binary(kind: BinKind, width: Width, args: &[Held]) -> Option<Held>

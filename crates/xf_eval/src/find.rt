@@ -7,7 +7,6 @@ ghost use Rattle.xf_ir.specs.View.{ops_of};
 
 use xf_ir::{Kind, Op};
 
-
 /// Whether two lists of bytes are equal.
 #[tactic(auto, using(crate::proofs::RegionLemmas::unequal_bytes))]
 fn same_bytes(left: &[u8], right: &[u8]) -> bool

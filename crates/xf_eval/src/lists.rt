@@ -6,8 +6,8 @@ ghost use Rattle.xf_sem.specs.Structured.{arguments, first_elem};
 ghost use Rattle.xf_sem.specs.Tensors.{width_of};
 
 use std::alloc::Global;
-use xf_eval_values::{Held, HeldList};
 use xf_eval_points::read;
+use xf_eval_values::{Held, HeldList};
 use xf_type::{Elem, ListOf, NoMemory, PlaceList, Width};
 
 /// The values behind the first so many, which share their elements.

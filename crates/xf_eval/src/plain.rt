@@ -14,12 +14,7 @@ use xf_ir::{Kind, Op};
 use xf_type::{Elem, Width, greatest};
 
 /// What an operation answers that gives this value, where there is one.
-fn answer(
-    alloc: Global,
-    op: &Op,
-    value: Option<Held>,
-    budget: &mut u64,
-) -> Result<HeldList, Stop>
+fn answer(alloc: Global, op: &Op, value: Option<Held>, budget: &mut u64) -> Result<HeldList, Stop>
     ensures { Meets (given_run op.now.name op.now.results 0 value) budget.old budget.new result }
 {
     match value {
@@ -45,7 +40,12 @@ fn constant(
     if bits > greatest(width) as u128 {
         return Err(Stop::Undefined(op.name));
     }
-    answer(alloc, op, Some(Held::scalar(width, Elem::Num(bits as u64))), budget)
+    answer(
+        alloc,
+        op,
+        Some(Held::scalar(width, Elem::Num(bits as u64))),
+        budget,
+    )
 }
 
 /// What an operation answers that enters nothing, on the values of its operands.

@@ -18,18 +18,19 @@ ghost use Rattle.xf_eval.specs.Points.{at_point};
 ghost use Rattle.xf_eval.specs.Runs.{calls_at, env_at, bodies_at};
 
 use crate::bounds::bounds_of;
-use crate::branch::{region_of};
+use crate::branch::region_of;
 use crate::entering::{Entering, entered_by};
-use crate::lists::{arguments, first_elem, one, share_behind, with_first};
 use crate::find::function_named;
+use crate::lists::{arguments, first_elem, one, share_behind, with_first};
 use crate::plain::perform_plain;
 use std::alloc::Global;
 use xf_eval_points::{
-    Span, advance, agreed_extents, are_open, begin, dims_of_maps, element_of, in_maps, ins_of, out_map, out_tensor, room_for,
-    spans_onto, whole_spans,
+    Span, advance, agreed_extents, are_open, begin, dims_of_maps, element_of, in_maps, ins_of,
+    out_map, out_tensor, room_for, spans_onto, whole_spans,
 };
 use xf_eval_values::{
-    Entry, Held, HeldList, Stack, Stop, Tensor, admit_made, admit_values, charge, fit_types, fits_width, operands,
+    Entry, Held, HeldList, Stack, Stop, Tensor, admit_made, admit_values, charge, fit_types,
+    fits_width, operands,
 };
 use xf_ir::{IteratorKind, Op, OpName};
 use xf_sem::ElemList;
@@ -94,25 +95,57 @@ fn run_op(
 {
     match entered_by(&op.kind) {
         Entering::Loop(width) => {
-            match run_loop(alloc, functions, depth, op, width, args.as_slice(), stack, base, budget) {
+            match run_loop(
+                alloc,
+                functions,
+                depth,
+                op,
+                width,
+                args.as_slice(),
+                stack,
+                base,
+                budget,
+            ) {
                 Ok(values) => admit_values(op.name, op.results.as_slice(), 0, values, budget),
                 Err(stop) => Err(stop),
             }
         }
         Entering::Branch => {
-            match run_branch(alloc, functions, depth, op, args.as_slice(), stack, base, budget) {
+            match run_branch(
+                alloc,
+                functions,
+                depth,
+                op,
+                args.as_slice(),
+                stack,
+                base,
+                budget,
+            ) {
                 Ok(values) => admit_values(op.name, op.results.as_slice(), 0, values, budget),
                 Err(stop) => Err(stop),
             }
         }
         Entering::Call(callee) => {
-            match run_call(alloc, functions, depth, op.name, callee, args, stack, budget) {
+            match run_call(
+                alloc, functions, depth, op.name, callee, args, stack, budget,
+            ) {
                 Ok(values) => admit_values(op.name, op.results.as_slice(), 0, values, budget),
                 Err(stop) => Err(stop),
             }
         }
         Entering::Points(maps, iterators) => {
-            run_points(alloc, functions, depth, op, maps, iterators, args.as_slice(), stack, base, budget)
+            run_points(
+                alloc,
+                functions,
+                depth,
+                op,
+                maps,
+                iterators,
+                args.as_slice(),
+                stack,
+                base,
+                budget,
+            )
         }
         Entering::Nothing => perform_plain(alloc, op, args, budget),
     }
@@ -177,7 +210,17 @@ fn run_branch(
     if region as usize >= op.regions.len() {
         return Ok(ListOf::new(alloc));
     }
-    run_region(alloc, functions, depth, op, region, ListOf::new(alloc), stack, base, budget)
+    run_region(
+        alloc,
+        functions,
+        depth,
+        op,
+        region,
+        ListOf::new(alloc),
+        stack,
+        base,
+        budget,
+    )
 }
 
 /// Runs the block of a region on these arguments.
@@ -211,7 +254,16 @@ fn run_region(
         region: Some(region),
         values: args,
     })?;
-    let outcome = run_block(alloc, functions, depth, op.name, block.ops.as_slice(), stack, base, budget);
+    let outcome = run_block(
+        alloc,
+        functions,
+        depth,
+        op.name,
+        block.ops.as_slice(),
+        stack,
+        base,
+        budget,
+    );
     stack.truncate(height);
     outcome
 }
@@ -238,7 +290,17 @@ pub(crate) fn run_call(
         None => Err(Stop::Undefined(caller)),
         Some(function) => {
             let base = stack.height();
-            run_region(alloc, functions, depth - 1, function, 0, args, stack, base, budget)
+            run_region(
+                alloc,
+                functions,
+                depth - 1,
+                function,
+                0,
+                args,
+                stack,
+                base,
+                budget,
+            )
         }
     }
 }
@@ -295,7 +357,14 @@ fn run_points(
         shape,
         elems,
     };
-    match admit_made(alloc, op.name, op.results.as_slice(), made, extents.as_slice(), budget) {
+    match admit_made(
+        alloc,
+        op.name,
+        op.results.as_slice(),
+        made,
+        extents.as_slice(),
+        budget,
+    ) {
         Ok(value) => Ok(one(alloc, value)?),
         Err(stop) => Err(stop),
     }
@@ -387,8 +456,8 @@ fn run_outer(
     let mut more = are_open(outer);
     while more {
         let elem = match run_index(
-            alloc, functions, depth, op, maps, ins, extents, out_map, out, index, &mut spans, point, stack, base,
-            budget,
+            alloc, functions, depth, op, maps, ins, extents, out_map, out, index, &mut spans,
+            point, stack, base, budget,
         ) {
             Ok(elem) => elem,
             Err(stop) => return Err(stop),
@@ -430,7 +499,19 @@ fn run_index(
     spans_onto(extents, out_map, index, spans)?;
     let start = element_of(out.shape.as_slice(), out.elems.as_slice(), index);
     run_box(
-        alloc, functions, depth, op, maps, ins, out, spans.as_slice(), point, start, stack, base, budget,
+        alloc,
+        functions,
+        depth,
+        op,
+        maps,
+        ins,
+        out,
+        spans.as_slice(),
+        point,
+        start,
+        stack,
+        base,
+        budget,
     )
 }
 

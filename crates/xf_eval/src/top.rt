@@ -83,7 +83,9 @@ pub fn eval(
     let root = root_of(payload);
     let mut stack = Stack::new(alloc);
     let mut left = budget;
-    match run_call(alloc, functions, 32, root, name, held, &mut stack, &mut left) {
+    match run_call(
+        alloc, functions, 32, root, name, held, &mut stack, &mut left,
+    ) {
         Ok(values) => Ok(values_of(alloc, values.as_slice())?),
         Err(stop) => Err(fault_of(stop)),
     }

@@ -219,9 +219,9 @@ inside_leads out j es p b l h =
     let lt = index_below out j es n d b a refl in
     let inner : d < length es = in_range es d (get_or j n 0) lt in
     let i = inside_get (map window_of (spans_onto out j es)) p d h
-        (subst (λ m. d < m) (sym (length_onto out j es)) inner) in
+    (subst (λ m. d < m) (sym (length_onto out j es)) inner) in
     let x = in_has (span_onto d (get_or es d 0) out j) (get_or p d 0)
-        (subst (λ w. has w (get_or p d 0) ≡ true) (get_onto out j es d inner) i) in
+    (subst (λ w. has w (get_or p d 0) ≡ true) (get_onto out j es d inner) i) in
     get_or-map (λ d. get_or p d 0) out n 0 0 a
     ∙ span_pins d (get_or p d 0) (record { from = 0; to = get_or es d 0 }) out j n x a
     (subst (λ m. n < m) (sym l) a) refl)

@@ -134,14 +134,14 @@ given_made rank ms body vs t es e a =
         let M = maps_seen ms in
         let f = frame_seen rank M in
         let whole : extents rank (all_maps f) (all_shapes (front vs) (as_value t)) ≡ extents rank M (shapes vs) =
-            ap (λ maps. extents rank maps (all_shapes (front vs) (as_value t))) (maps_are rank ms)
-            ∙ ap (extents rank M) s in
+        ap (λ maps. extents rank maps (all_shapes (front vs) (as_value t))) (maps_are rank ms)
+        ∙ ap (extents rank M) s in
         let own : es ≡ extents rank M (shapes vs) = cc in
         let has : agree (extents rank (all_maps f) (all_shapes (front vs) (as_value t))) (all_maps f)
-                (all_shapes (front vs) (as_value t)) ≡ true =
-            ap (λ us. agree us (all_maps f) (all_shapes (front vs) (as_value t))) whole
-            ∙ ap (λ maps. agree (extents rank M (shapes vs)) maps (all_shapes (front vs) (as_value t))) (maps_are rank ms)
-            ∙ ap (agree (extents rank M (shapes vs)) M) s ∙ q in
+        (all_shapes (front vs) (as_value t)) ≡ true =
+        ap (λ us. agree us (all_maps f) (all_shapes (front vs) (as_value t))) whole
+        ∙ ap (λ maps. agree (extents rank M (shapes vs)) maps (all_shapes (front vs) (as_value t))) (maps_are rank ms)
+        ∙ ap (agree (extents rank M (shapes vs)) M) s ∙ q in
         ap (λ b. if b then Some (Tensor t.width t.shape
         (made body (extents rank (all_maps f) (all_shapes (front vs) (as_value t))) (front M) (front vs) (last_or [] M) t))
         else None) has
@@ -166,13 +166,13 @@ given_none rank ms body vs t e a =
         let M = maps_seen ms in
         let f = frame_seen rank M in
         let whole : extents rank (all_maps f) (all_shapes (front vs) (as_value t)) ≡ extents rank M (shapes vs) =
-            ap (λ maps. extents rank maps (all_shapes (front vs) (as_value t))) (maps_are rank ms)
-            ∙ ap (extents rank M) s in
+        ap (λ maps. extents rank maps (all_shapes (front vs) (as_value t))) (maps_are rank ms)
+        ∙ ap (extents rank M) s in
         let has : agree (extents rank (all_maps f) (all_shapes (front vs) (as_value t))) (all_maps f)
-                (all_shapes (front vs) (as_value t)) ≡ false =
-            ap (λ us. agree us (all_maps f) (all_shapes (front vs) (as_value t))) whole
-            ∙ ap (λ maps. agree (extents rank M (shapes vs)) maps (all_shapes (front vs) (as_value t))) (maps_are rank ms)
-            ∙ ap (agree (extents rank M (shapes vs)) M) s ∙ q in
+        (all_shapes (front vs) (as_value t)) ≡ false =
+        ap (λ us. agree us (all_maps f) (all_shapes (front vs) (as_value t))) whole
+        ∙ ap (λ maps. agree (extents rank M (shapes vs)) maps (all_shapes (front vs) (as_value t))) (maps_are rank ms)
+        ∙ ap (agree (extents rank M (shapes vs)) M) s ∙ q in
         ap (λ b. if b then Some (Tensor t.width t.shape
         (made body (extents rank (all_maps f) (all_shapes (front vs) (as_value t))) (front M) (front vs) (last_or [] M) t))
         else None) has
@@ -210,14 +210,14 @@ points_made rank ms vs t es e a =
         let M = maps_seen ms in
         let f = frame_seen rank M in
         let whole : extents rank (all_maps f) (all_shapes (front vs) (as_value t)) ≡ extents rank M (shapes vs) =
-            ap (λ maps. extents rank maps (all_shapes (front vs) (as_value t))) (maps_are rank ms)
-            ∙ ap (extents rank M) s in
+        ap (λ maps. extents rank maps (all_shapes (front vs) (as_value t))) (maps_are rank ms)
+        ∙ ap (extents rank M) s in
         let own : es ≡ extents rank M (shapes vs) = cc in
         let has : agree (extents rank (all_maps f) (all_shapes (front vs) (as_value t))) (all_maps f)
-                (all_shapes (front vs) (as_value t)) ≡ true =
-            ap (λ us. agree us (all_maps f) (all_shapes (front vs) (as_value t))) whole
-            ∙ ap (λ maps. agree (extents rank M (shapes vs)) maps (all_shapes (front vs) (as_value t))) (maps_are rank ms)
-            ∙ ap (agree (extents rank M (shapes vs)) M) s ∙ q in
+        (all_shapes (front vs) (as_value t)) ≡ true =
+        ap (λ us. agree us (all_maps f) (all_shapes (front vs) (as_value t))) whole
+        ∙ ap (λ maps. agree (extents rank M (shapes vs)) maps (all_shapes (front vs) (as_value t))) (maps_are rank ms)
+        ∙ ap (agree (extents rank M (shapes vs)) M) s ∙ q in
         let go = (λ (made : List Elem). results (Tensor t.width t.shape made ∷ [])) in
         ap (λ b. if b then each_index (entered (extents rank (all_maps f) (all_shapes (front vs) (as_value t))) (front M) (front vs) (last_or [] M) t)
         (points t.shape) go else is_undefined) has
@@ -241,13 +241,13 @@ points_none rank ms vs t e a =
         let M = maps_seen ms in
         let f = frame_seen rank M in
         let whole : extents rank (all_maps f) (all_shapes (front vs) (as_value t)) ≡ extents rank M (shapes vs) =
-            ap (λ maps. extents rank maps (all_shapes (front vs) (as_value t))) (maps_are rank ms)
-            ∙ ap (extents rank M) s in
+        ap (λ maps. extents rank maps (all_shapes (front vs) (as_value t))) (maps_are rank ms)
+        ∙ ap (extents rank M) s in
         let has : agree (extents rank (all_maps f) (all_shapes (front vs) (as_value t))) (all_maps f)
-                (all_shapes (front vs) (as_value t)) ≡ false =
-            ap (λ us. agree us (all_maps f) (all_shapes (front vs) (as_value t))) whole
-            ∙ ap (λ maps. agree (extents rank M (shapes vs)) maps (all_shapes (front vs) (as_value t))) (maps_are rank ms)
-            ∙ ap (agree (extents rank M (shapes vs)) M) s ∙ q in
+        (all_shapes (front vs) (as_value t)) ≡ false =
+        ap (λ us. agree us (all_maps f) (all_shapes (front vs) (as_value t))) whole
+        ∙ ap (λ maps. agree (extents rank M (shapes vs)) maps (all_shapes (front vs) (as_value t))) (maps_are rank ms)
+        ∙ ap (agree (extents rank M (shapes vs)) M) s ∙ q in
         ap (λ b. if b then each_index (entered (extents rank (all_maps f) (all_shapes (front vs) (as_value t))) (front M) (front vs) (last_or [] M) t)
         (points t.shape) (λ made. results (Tensor t.width t.shape made ∷ [])) else is_undefined) has
 
@@ -318,7 +318,7 @@ agreed_parts rank ms vs t es e a =
     by true q a =
         let own : es ≡ extents rank (maps_seen ms) (shapes vs) = cc in
         let h : agree es (maps_seen ms) (shapes vs) ≡ true =
-            ap (λ us. agree us (maps_seen ms) (shapes vs)) own ∙ q in
+        ap (λ us. agree us (maps_seen ms) (shapes vs)) own ∙ q in
         record {
           same = front_length (maps_seen ms) ∙ ap (λ n. n - 1) (agree_length es (maps_seen ms) vs h) ∙ sym (front_length vs);
           out = shaped (maps_seen ms) (some_map ms) h vs refl e;

@@ -112,20 +112,20 @@ advanced ss old p n d s e h l k o done front again lt =
     let own = get_or ss d s in
     let same : get_or p d 0 ≡ i = same_front n d p old (omega arith) front in
     let done' : later (drop (d + 1) ss) (drop (d + 1) old) ≡ [] =
-        subst (λ m. later (drop m ss) (drop m old) ≡ []) e done in
+    subst (λ m. later (drop m ss) (drop m old) ≡ []) e done in
     let again' : drop (d + 1) p ≡ first_of (drop (d + 1) ss) = subst (λ m. drop m p ≡ first_of (drop m ss)) e again in
     let here : later (drop d ss) (drop d old)
-            ≡ ((i + 1) ∷ first_of (drop (d + 1) ss)) ∷ later (drop d ss) ((i + 1) ∷ first_of (drop (d + 1) ss)) =
-        subst (λ us. later us (drop d old) ≡ ((i + 1) ∷ first_of (drop (d + 1) ss)) ∷ later us ((i + 1) ∷ first_of (drop (d + 1) ss)))
-        (sym (drop_more ss d s (omega arith)))
-        (subst (λ q. later (own ∷ drop (d + 1) ss) q ≡ ((i + 1) ∷ first_of (drop (d + 1) ss)) ∷ later (own ∷ drop (d + 1) ss) ((i + 1) ∷ first_of (drop (d + 1) ss)))
-        (sym (drop_more old d 0 (omega arith)))
-        (later_here own (drop (d + 1) ss) i (drop (d + 1) old) (each_drop (d + 1) ss o) done'
-        (subst (λ j. j + 1 < own.to) same lt))) in
+    ≡ ((i + 1) ∷ first_of (drop (d + 1) ss)) ∷ later (drop d ss) ((i + 1) ∷ first_of (drop (d + 1) ss)) =
+    subst (λ us. later us (drop d old) ≡ ((i + 1) ∷ first_of (drop (d + 1) ss)) ∷ later us ((i + 1) ∷ first_of (drop (d + 1) ss)))
+    (sym (drop_more ss d s (omega arith)))
+    (subst (λ q. later (own ∷ drop (d + 1) ss) q ≡ ((i + 1) ∷ first_of (drop (d + 1) ss)) ∷ later (own ∷ drop (d + 1) ss) ((i + 1) ∷ first_of (drop (d + 1) ss)))
+    (sym (drop_more old d 0 (omega arith)))
+    (later_here own (drop (d + 1) ss) i (drop (d + 1) old) (each_drop (d + 1) ss o) done'
+    (subst (λ j. j + 1 < own.to) same lt))) in
     let up = later_up ss old d ((i + 1) ∷ first_of (drop (d + 1) ss)) (omega arith) (omega arith) here in
     let made : set p d (get_or p d 0 + 1) ≡ take d old ++ (i + 1) ∷ first_of (drop (d + 1) ss) =
-        set_split p d (get_or p d 0 + 1) (omega arith)
-        ∙ ap (λ j. take d p ++ (j + 1) ∷ drop (suc d) p) same
-        ∙ ap (λ q. q ++ (i + 1) ∷ drop (suc d) p) (less_front n d p old (omega arith) front)
-        ∙ ap (λ q. take d old ++ (i + 1) ∷ q) (ap (λ m. drop m p) (let z : suc d ≡ d + 1 = omega arith in z) ∙ again') in
+    set_split p d (get_or p d 0 + 1) (omega arith)
+    ∙ ap (λ j. take d p ++ (j + 1) ∷ drop (suc d) p) same
+    ∙ ap (λ q. q ++ (i + 1) ∷ drop (suc d) p) (less_front n d p old (omega arith) front)
+    ∙ ap (λ q. take d old ++ (i + 1) ∷ q) (ap (λ m. drop m p) (let z : suc d ≡ d + 1 = omega arith in z) ∙ again') in
     ap (λ q. q ∷ later ss q) made ∙ sym up

@@ -37,13 +37,7 @@ fn filled(maps: &[PlaceList], ins: &[Held], point: &[u32], elem: Elem) -> Elem
 }
 
 /// The element of the out and the product of the two elements that a product reads.
-fn multiplied(
-    width: Width,
-    maps: &[PlaceList],
-    ins: &[Held],
-    point: &[u32],
-    elem: Elem,
-) -> Elem
+fn multiplied(width: Width, maps: &[PlaceList], ins: &[Held], point: &[u32], elem: Elem) -> Elem
     requires { length maps.now ≡ length ins.now }
     ensures value { result ≡ product_body width point.now (reads (operands maps.now ins.now) point.now) elem }
     ensures fits { FitsWidth width result }

@@ -3,7 +3,6 @@
 
 mod body;
 mod frame;
-
 mod named;
 mod named_maps;
 mod onto;
@@ -12,7 +11,6 @@ mod span;
 
 pub use body::body_at;
 pub use frame::{agreed_extents, dims_of_maps, in_maps, ins_of, out_map, out_tensor};
-
 pub use named::named_elems;
 pub use named_maps::{dims_of_named, rank_of_named};
 pub use onto::{spans_onto, whole_spans};

@@ -97,7 +97,9 @@ fn elems_by_index(
     begin(outer, index);
     let mut more = are_open(outer);
     while more {
-        let elem = element_at_index(kind, maps, ins, extents, out_map, out, index, &mut spans, point)?;
+        let elem = element_at_index(
+            kind, maps, ins, extents, out_map, out, index, &mut spans, point,
+        )?;
         elems.push(elem)?;
         more = advance(outer, index);
     }

@@ -40,7 +40,11 @@ fn all_dims(alloc: Global, rank: usize) -> Result<PlaceList, NoMemory>
 
 /// The dimensions that each map of an operation with a name selects, over an out of this rank. Refuses for want of
 /// memory alone.
-pub fn dims_of_named(alloc: Global, kind: NamedKind, rank: usize) -> Result<ListOf<PlaceList>, NoMemory>
+pub fn dims_of_named(
+    alloc: Global,
+    kind: NamedKind,
+    rank: usize,
+) -> Result<ListOf<PlaceList>, NoMemory>
     ensures { IfOk result (λ maps. maps ≡ maps_seen (named_maps kind rank)) }
 {
     match kind {

@@ -73,7 +73,12 @@ pub fn read(arg: &Held, map: &[u32], point: &[u32]) -> Elem
     match arg.as_scalar() {
         Some(elem) => elem,
         None => match arg.as_tensor() {
-            Some(tensor) => element_at(tensor.shape.as_slice(), tensor.elems.as_slice(), map, point),
+            Some(tensor) => element_at(
+                tensor.shape.as_slice(),
+                tensor.elems.as_slice(),
+                map,
+                point,
+            ),
             None => Elem::NoNumber,
         },
     }

@@ -2,8 +2,6 @@
 ghost use Rattle.std.specs.Prelude.{◌≡◌, ◌∷◌, IfOk};
 ghost use Rattle.xf_sem.specs.Tensors.{dim_given, extracted};
 
-
-
 use crate::index::{index_in, index_of};
 use std::alloc::Global;
 use xf_eval_points::element_of;
@@ -28,11 +26,7 @@ pub fn dim(args: &[Held]) -> Option<Held>
 }
 
 /// The element of a tensor at an index, where the index lies in it.
-fn extract_at(
-    alloc: Global,
-    source: &Held,
-    index: &[Held],
-) -> Result<Option<Held>, NoMemory>
+fn extract_at(alloc: Global, source: &Held, index: &[Held]) -> Result<Option<Held>, NoMemory>
     ensures { IfOk result (λ value. value ≡ extracted (source.now ∷ index.now)) }
 {
     let Some(source) = source.as_tensor() else {
@@ -41,7 +35,11 @@ fn extract_at(
     match index_in(alloc, source.shape.as_slice(), index)? {
         None => Ok(None),
         Some(index) => {
-            let elem = element_of(source.shape.as_slice(), source.elems.as_slice(), index.as_slice());
+            let elem = element_of(
+                source.shape.as_slice(),
+                source.elems.as_slice(),
+                index.as_slice(),
+            );
             Ok(Some(Held::scalar(source.width, elem)))
         }
     }

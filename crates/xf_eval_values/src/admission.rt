@@ -12,8 +12,8 @@ ghost use Rattle.xf_sem.specs.Meaning.{charge, elements, finish, where_fit};
 use crate::fits::{fit_types, fits_tensor};
 use crate::held::{Held, HeldList, Tensor};
 use crate::stop::{Stop, charge};
-use xf_ir::OpName;
 use std::alloc::Global;
+use xf_ir::OpName;
 use xf_type::{Elem, PayloadType, Width, greatest};
 
 /// Whether one of the sizes is 0.
@@ -202,7 +202,14 @@ pub fn admit_made(
     if !all_fit(made.width, made.elems.as_slice()) {
         return Err(Stop::Undefined(op));
     }
-    match admit_points(op, types, made.width, made.shape.as_slice(), extents, budget) {
+    match admit_points(
+        op,
+        types,
+        made.width,
+        made.shape.as_slice(),
+        extents,
+        budget,
+    ) {
         Err(stop) => Err(stop),
         Ok(_) => Ok(Held::tensor(alloc, made)?),
     }

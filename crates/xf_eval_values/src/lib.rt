@@ -8,7 +8,9 @@ mod held;
 mod stack;
 mod stop;
 
-pub use admission::{admit, admit_made, admit_points, admit_values, are_sizes, fits_width, product_within};
+pub use admission::{
+    admit, admit_made, admit_points, admit_values, are_sizes, fits_width, product_within,
+};
 pub use fits::{fit_types, fits_scalar, fits_tensor};
 pub use held::{Held, HeldList, Tensor};
 pub use stack::{Entry, Stack, operands};

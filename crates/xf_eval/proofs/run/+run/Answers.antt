@@ -68,10 +68,10 @@ run_block-loop-op-preserved t c =
     let env = env_at c.args.base c.loop-op.stack in
     let own : Entry = record { op = c.op-item.result.name; region = None; values = c.in-Ok.values } in
     let pushed : c.push.new.self ≡ c.loop-op.stack ++ own ∷ [] =
-        c.in_ok-push.ensures.ok
-        ∙ ap (λ es. es ++ record { op = c.op.inside.name; region = None; values = c.in-Ok.values } ∷ []) c.in-Ok.ensures.same
-        ∙ ap (λ (t : Tree). c.loop-op.stack ++ record { op = t.name; region = None; values = c.in-Ok.values } ∷ [])
-        c.op.view_is in
+    c.in_ok-push.ensures.ok
+    ∙ ap (λ es. es ++ record { op = c.op.inside.name; region = None; values = c.in-Ok.values } ∷ []) c.in-Ok.ensures.same
+    ∙ ap (λ (t : Tree). c.loop-op.stack ++ record { op = t.name; region = None; values = c.in-Ok.values } ∷ [])
+    c.op.view_is in
     record {
       going = going_on _ _ _ _ _ _ c.loop-op.invariant.going
           (block_goes calls c.args.holder c.args.ops.now c.loop-op.op-index c.op-item.result c.args.base c.loop-op.stack
@@ -176,9 +176,9 @@ pub run_region-returns-then-not-fit_types-clause-meets : goal.run_region-returns
 run_region-returns-then-not-fit_types-clause-meets t c =
     let b = c.index-block.result.now in
     let fits : fit_types c.args.args b.args ≡ false =
-        ap (λ vs. fit_types vs b.args) (sym c.as_slice.ensures)
-        ∙ ap (fit_types c.as_slice.result.now) (sym (c.as_slice-2.ensures ∙ ap (λ (b : Body). b.args) c.block.view_is))
-        ∙ sym c.fit_types.ensures ∙ c.if-not-fit_types.true in
+    ap (λ vs. fit_types vs b.args) (sym c.as_slice.ensures)
+    ∙ ap (fit_types c.as_slice.result.now) (sym (c.as_slice-2.ensures ∙ ap (λ (b : Body). b.args) c.block.view_is))
+    ∙ sym c.fit_types.ensures ∙ c.if-not-fit_types.true in
     rw (← c.op.view_is)
     (unfit_meets (calls_at c.args.depth c.args.functions.now) c.op.inside.name c.op.inside.regions.items
     (env_at c.args.base c.args.stack.now) c.args.region b c.args.args c.args.budget.now c.args.budget.now (omega arith)
@@ -188,9 +188,9 @@ pub run_region-returns-clause-meets : goal.run_region-returns-clause-meets
 run_region-returns-clause-meets t c =
     let b = c.index-block.result.now in
     let fits : fit_types c.args.args b.args ≡ true =
-        ap (λ vs. fit_types vs b.args) (sym c.as_slice.ensures)
-        ∙ ap (fit_types c.as_slice.result.now) (sym (c.as_slice-2.ensures ∙ ap (λ (b : Body). b.args) c.block.view_is))
-        ∙ sym c.fit_types.ensures ∙ c.if-not-fit_types.false in
+    ap (λ vs. fit_types vs b.args) (sym c.as_slice.ensures)
+    ∙ ap (fit_types c.as_slice.result.now) (sym (c.as_slice-2.ensures ∙ ap (λ (b : Body). b.args) c.block.view_is))
+    ∙ sym c.fit_types.ensures ∙ c.if-not-fit_types.false in
     rw (← c.op.view_is)
     (block_meets (calls_at c.args.depth c.args.functions.now) c.op.inside.name c.op.inside.regions.items c.args.base
     c.args.stack.now c.push.new.self c.args.region b c.args.args (ops_of c.as_slice-3.result.now) _ _ _ (omega arith)
@@ -204,7 +204,7 @@ pub run_box-loop-more-init : goal.run_box-loop-more-init
 run_box-loop-more-init t c =
     let ss = c.args.spans.now in
     let all = ap (rest_from c.are_open-more.result ss) c.begin.ensures
-        ∙ starts ss c.are_open-more.result (sym c.are_open-more.ensures) in
+    ∙ starts ss c.are_open-more.result (sym c.are_open-more.ensures) in
     record {
       going = box_start (calls_at c.args.depth c.args.functions.now) c.args.op.now.name
           (bodies_at c.args.depth c.args.functions.now c.args.op.now c.args.base c.args.stack.now)
@@ -280,7 +280,7 @@ run_index-returns-clause-passes t c =
     let j = c.args.index.now in
     let p = c.args.out.now in
     let start = c.element_of-start.ensures ∙ ap (λ s. element NoNumber s c.as_slice-2.result.now j) c.as_slice.ensures
-        ∙ ap (λ xs. element NoNumber p.shape xs j) c.as_slice-2.ensures in
+    ∙ ap (λ xs. element NoNumber p.shape xs j) c.as_slice-2.ensures in
     subst (λ ps. Passes calls c.args.op.now.name bodies (through args ps (items_of (as_value p) j)) c.args.budget.now
     c.run_box.new.budget c.run_box.result)
     (ap spread (c.as_slice-3.ensures.value ∙ c.in_ok-spans_onto.ensures)
@@ -296,9 +296,9 @@ run_outer-loop-more-init t c =
     let ss = c.args.outer.now in
     let rest = rest_from c.are_open-more.result ss c.begin.new.point in
     let all : rest ≡ points p.shape =
-        ap (rest_from c.are_open-more.result ss) c.begin.ensures
-        ∙ starts ss c.are_open-more.result (sym c.are_open-more.ensures) ∙ ap spread c.requires.outer
-        ∙ whole_spread p.shape in
+    ap (rest_from c.are_open-more.result ss) c.begin.ensures
+    ∙ starts ss c.are_open-more.result (sym c.are_open-more.ensures) ∙ ap spread c.requires.outer
+    ∙ whole_spread p.shape in
     record {
       going = index_start (calls_at c.args.depth c.args.functions.now) c.args.op.now.name
           (bodies_at c.args.depth c.args.functions.now c.args.op.now c.args.base c.args.stack.now)
@@ -318,8 +318,8 @@ pub run_outer-run_index-requires : goal.run_outer-run_index-requires
 run_outer-run_index-requires t c =
     let p = c.args.out.now in
     let here : Below c.loop-more.index p.shape =
-        (subst (λ b. point.Each (λ j. Below j p.shape) (rest_from b c.args.outer.now c.loop-more.index))
-        c.loop-more-test.true c.loop-more.invariant.below).0 in (
+    (subst (λ b. point.Each (λ j. Below j p.shape) (rest_from b c.args.outer.now c.loop-more.index))
+    c.loop-more-test.true c.loop-more.invariant.below).0 in (
       omega (arith, c.loop-more.invariant.less),
       (
         omega (arith, c.requires.visible, ap length c.loop-more.invariant.same),
@@ -370,7 +370,7 @@ run_outer-loop-more-preserved t c =
       count = let n = simp length-append at (ap length pushed) in
           let m = ap length c.advance-more.ensures in
           let k = subst (λ b. length c.loop-more.elems + length (rest_from b ss c.loop-more.index) ≡ product p.shape) more
-              c.loop-more.invariant.count in
+          c.loop-more.invariant.count in
           omega (arith, n, m, k);
       room = omega (arith, c.loop-more.invariant.room, c.run_index.auto.point);
       outer_room = omega (arith, c.loop-more.invariant.outer_room, c.advance-more.auto.point);
@@ -411,9 +411,9 @@ pub run_points-run_indices-requires : goal.run_points-run_indices-requires
 run_points-run_indices-requires t c =
     let es = c.in-Some-2.extents in
     let a = sym c.in-Some-2.is ∙ c.in_ok-agreed_extents.ensures
-        ∙ ap (λ m. agreed (length c.args.iterators.now) m c.args.args.now) (c.as_slice.ensures ∙ c.in_ok-dims.ensures) in
+    ∙ ap (λ m. agreed (length c.args.iterators.now) m c.args.args.now) (c.as_slice.ensures ∙ c.in_ok-dims.ensures) in
     let parts = agreed_parts (length c.args.iterators.now) c.args.maps.now c.args.args.now c.in-Some.out.now es
-        (sym c.in-Some.ensures.parts) a in (
+    (sym c.in-Some.ensures.parts) a in (
       omega arith,
       (
         c.requires.visible,
@@ -436,7 +436,7 @@ run_points-returns-in-Err-clause-meets t c =
     let vs = c.args.args.now in
     let p = c.in-Some.out.now in
     let a = sym c.in-Some-2.is ∙ c.in_ok-agreed_extents.ensures
-        ∙ ap (λ m. agreed (length c.args.iterators.now) m vs) (c.as_slice.ensures ∙ c.in_ok-dims.ensures) in
+    ∙ ap (λ m. agreed (length c.args.iterators.now) m vs) (c.as_slice.ensures ∙ c.in_ok-dims.ensures) in
     generic_fails calls op.name op.kind op.results bodies m c.args.iterators.now vs c.requires.kind p es
     c.args.budget.now c.run_indices.new.budget c.in-Err.stop (sym c.in-Some.ensures.parts) a
     (subst (λ (f : Point → (Elem → Action) → Action). Passes calls op.name bodies (each_index f (points p.shape))
@@ -459,7 +459,7 @@ run_points-returns-in-Ok-admit_made-clause-meets t c =
     let vs = c.args.args.now in
     let p = c.in-Some.out.now in
     let a = sym c.in-Some-2.is ∙ c.in_ok-agreed_extents.ensures
-        ∙ ap (λ m. agreed (length c.args.iterators.now) m vs) (c.as_slice.ensures ∙ c.in_ok-dims.ensures) in
+    ∙ ap (λ m. agreed (length c.args.iterators.now) m vs) (c.as_slice.ensures ∙ c.in_ok-dims.ensures) in
     subst (λ ws. Meets (does calls op.name op.kind op.results bodies vs) c.args.budget.now c.admit_made.new.budget (Ok ws))
     (sym c.in_ok-one-in-Ok-admit_made.ensures)
     (generic_gives calls op.name op.kind op.results bodies m c.args.iterators.now vs c.requires.kind p es c.in-Ok.elems
@@ -496,7 +496,7 @@ run_points-returns-clause-meets t c =
     let vs = c.args.args.now in
     let p = c.in-Some.out.now in
     let a = sym c.in-Some-2.is ∙ c.in_ok-agreed_extents.ensures
-        ∙ ap (λ m. agreed (length c.args.iterators.now) m vs) (c.as_slice.ensures ∙ c.in_ok-dims.ensures) in
+    ∙ ap (λ m. agreed (length c.args.iterators.now) m vs) (c.as_slice.ensures ∙ c.in_ok-dims.ensures) in
     generic_gives calls op.name op.kind op.results bodies m c.args.iterators.now vs c.requires.kind p es c.in-Ok.elems
     c.args.budget.now c.run_indices.new.budget c.admit_made.new.budget (Err c.in-Err-admit_made.stop)
     (sym c.in-Some.ensures.parts) a

@@ -55,7 +55,7 @@ invariant-run_block-loop-op l =
     let calls = calls_at l.depth l.functions in
     record {
       going : Going (ops_run calls l.holder (ops_of l.ops) (env_at l.base l.fn.stack))
-              (ops_run calls l.holder (ops_of (drop l.op-index l.ops)) (env_at l.base l.stack)) l.fn.budget l.budget;
+          (ops_run calls l.holder (ops_of (drop l.op-index l.ops)) (env_at l.base l.stack)) l.fn.budget l.budget;
       same : take l.height l.stack ≡ l.fn.stack;
       high : l.height ≤ length l.stack;
       low : l.base ≤ l.height;
@@ -68,8 +68,8 @@ invariant-run_loop-loop-turn l =
     let at = induction l.width l.bounds.lower l.bounds.step in
     record {
       going : Going (performed calls l.op.name bodies (turn_by_turn at 0 l.turn-end l.initial.values))
-              (performed calls l.op.name bodies (turn_by_turn at l.turn (l.turn-end - l.turn) l.values))
-              l.fn.budget l.budget;
+          (performed calls l.op.name bodies (turn_by_turn at l.turn (l.turn-end - l.turn) l.values))
+          l.fn.budget l.budget;
       same : l.stack ≡ l.fn.stack;
     }
 
@@ -80,8 +80,8 @@ abbrev pub invariant-run_box-loop-more : goal.invariant-run_box-loop-more
 invariant-run_box-loop-more l =
     record {
       going : BoxGoing (calls_at l.depth l.functions) l.op.name (bodies_at l.depth l.functions l.op l.base l.fn.stack)
-              (arguments l.maps l.ins (as_value l.out)) (spread l.spans) l.initial.elem
-              (rest_from l.more l.spans l.point) l.elem l.fn.budget l.budget;
+          (arguments l.maps l.ins (as_value l.out)) (spread l.spans) l.initial.elem
+          (rest_from l.more l.spans l.point) l.elem l.fn.budget l.budget;
       room : length l.point ≡ length l.spans;
       opens : l.more ≡ true → Each IsOpen l.spans;
       same : l.stack ≡ l.fn.stack;
@@ -96,7 +96,7 @@ invariant-run_outer-loop-more l =
     let rest = rest_from l.more l.outer l.index in
     record {
       going : IndexGoing (calls_at l.depth l.functions) l.op.name (bodies_at l.depth l.functions l.op l.base l.fn.stack)
-              (entered l.extents l.maps l.ins l.out_map l.out) (points l.out.shape) rest l.elems l.fn.budget l.budget;
+          (entered l.extents l.maps l.ins l.out_map l.out) (points l.out.shape) rest l.elems l.fn.budget l.budget;
       count : length l.elems + length rest ≡ product l.out.shape;
       room : length l.point ≡ length l.extents;
       outer_room : length l.index ≡ length l.outer;

@@ -17,13 +17,13 @@ returns-then-not-fit_types c =
     let name = c.args.name.now in
     let f = c.in-Some.function.now in
     let found = sym (ap option_copied c.in-Some.is) ∙ c.function_named.ensures
-        ∙ ap (function_of name) c.functions_of-functions.ensures in
+    ∙ ap (function_of name) c.functions_of-functions.ensures in
     let fits : fit_types c.args.args.now (first_args f.regions) ≡ false =
-        ap (λ vs. fit_types vs (first_args f.regions)) (sym (c.as_slice.ensures ∙ c.in_ok-held.ensures))
-        ∙ ap (fit_types c.as_slice.result.now)
-        (sym (c.first_args.ensures ∙ ap (λ bs. first_args (regions_of bs)) c.deref.ensures.value
-        ∙ ap (λ (t : Tree). first_args t.regions) c.function.view_is))
-        ∙ sym c.fit_types.ensures ∙ c.if-not-fit_types.true in
+    ap (λ vs. fit_types vs (first_args f.regions)) (sym (c.as_slice.ensures ∙ c.in_ok-held.ensures))
+    ∙ ap (fit_types c.as_slice.result.now)
+    (sym (c.first_args.ensures ∙ ap (λ bs. first_args (regions_of bs)) c.deref.ensures.value
+    ∙ ap (λ (t : Tree). first_args t.regions) c.function.view_is))
+    ∙ sym c.fit_types.ensures ∙ c.if-not-fit_types.true in
     bad_arguments m name f c.args.args.now c.args.budget found fits
 
 pub returns-in-Ok : goal.returns-in-Ok
@@ -32,13 +32,13 @@ returns-in-Ok c =
     let name = c.args.name.now in
     let f = c.in-Some.function.now in
     let found = sym (ap option_copied c.in-Some.is) ∙ c.function_named.ensures
-        ∙ ap (function_of name) c.functions_of-functions.ensures in
+    ∙ ap (function_of name) c.functions_of-functions.ensures in
     let fits : fit_types c.args.args.now (first_args f.regions) ≡ true =
-        ap (λ vs. fit_types vs (first_args f.regions)) (sym (c.as_slice.ensures ∙ c.in_ok-held.ensures))
-        ∙ ap (fit_types c.as_slice.result.now)
-        (sym (c.first_args.ensures ∙ ap (λ bs. first_args (regions_of bs)) c.deref.ensures.value
-        ∙ ap (λ (t : Tree). first_args t.regions) c.function.view_is))
-        ∙ sym c.fit_types.ensures ∙ c.if-not-fit_types.false in
+    ap (λ vs. fit_types vs (first_args f.regions)) (sym (c.as_slice.ensures ∙ c.in_ok-held.ensures))
+    ∙ ap (fit_types c.as_slice.result.now)
+    (sym (c.first_args.ensures ∙ ap (λ bs. first_args (regions_of bs)) c.deref.ensures.value
+    ∙ ap (λ (t : Tree). first_args t.regions) c.function.view_is))
+    ∙ sym c.fit_types.ensures ∙ c.if-not-fit_types.false in
     answered_values m name f c.args.args.now c.in-Ok.values c.in_ok-values_of-in-Ok.field-0 c.args.budget
     c.run_call.new.budget found fits (c.in_ok-values_of-in-Ok.ensures ∙ c.as_slice-in-Ok.ensures)
     (subst (λ n. Meets (calls_to 32 (functions_of m) n name c.args.args.now) c.args.budget c.run_call.new.budget (Ok c.in-Ok.values))
@@ -54,13 +54,13 @@ returns c =
     let name = c.args.name.now in
     let f = c.in-Some.function.now in
     let found = sym (ap option_copied c.in-Some.is) ∙ c.function_named.ensures
-        ∙ ap (function_of name) c.functions_of-functions.ensures in
+    ∙ ap (function_of name) c.functions_of-functions.ensures in
     let fits : fit_types c.args.args.now (first_args f.regions) ≡ true =
-        ap (λ vs. fit_types vs (first_args f.regions)) (sym (c.as_slice.ensures ∙ c.in_ok-held.ensures))
-        ∙ ap (fit_types c.as_slice.result.now)
-        (sym (c.first_args.ensures ∙ ap (λ bs. first_args (regions_of bs)) c.deref.ensures.value
-        ∙ ap (λ (t : Tree). first_args t.regions) c.function.view_is))
-        ∙ sym c.fit_types.ensures ∙ c.if-not-fit_types.false in
+    ap (λ vs. fit_types vs (first_args f.regions)) (sym (c.as_slice.ensures ∙ c.in_ok-held.ensures))
+    ∙ ap (fit_types c.as_slice.result.now)
+    (sym (c.first_args.ensures ∙ ap (λ bs. first_args (regions_of bs)) c.deref.ensures.value
+    ∙ ap (λ (t : Tree). first_args t.regions) c.function.view_is))
+    ∙ sym c.fit_types.ensures ∙ c.if-not-fit_types.false in
     subst (λ e. Answers m name c.args.args.now c.args.budget (Err e)) (sym c.fault_of.ensures)
     (answered_fault m name f c.args.args.now c.args.budget c.run_call.new.budget c.in-Err.stop found fits
     (subst (λ n. Meets (calls_to 32 (functions_of m) n name c.args.args.now) c.args.budget c.run_call.new.budget (Err c.in-Err.stop))

@@ -26,7 +26,7 @@ returns c =
     let t = c.args.out.now in
     let step = step_of (body_of c.args.kind t.width) (operands c.args.maps.now c.args.ins.now) in
     let start = c.element_of-start.ensures ∙ ap (λ s. element NoNumber s c.as_slice-2.result.now j) c.as_slice.ensures
-        ∙ ap (λ xs. element NoNumber t.shape xs j) c.as_slice-2.ensures in
+    ∙ ap (λ xs. element NoNumber t.shape xs j) c.as_slice-2.ensures in
     c.fold_box.ensures
     ∙ ap (λ ss. folded everywhere step (spread ss) c.element_of-start.result)
     (c.as_slice-3.ensures.value ∙ c.in_ok-spans_onto.ensures)

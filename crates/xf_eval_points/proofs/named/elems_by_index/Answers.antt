@@ -18,12 +18,12 @@ loop-more-init c =
     let t = c.args.out.now in
     let ss = c.args.outer.now in
     let f = structured c.args.extents.now c.args.out_map.now (body_of c.args.kind t.width)
-        (operands c.args.maps.now c.args.ins.now) (items_of (as_value t)) in
+    (operands c.args.maps.now c.args.ins.now) (items_of (as_value t)) in
     let rest = rest_from c.are_open-more.result ss c.begin.new.point in
     let all : rest ≡ points t.shape =
-        ap (rest_from c.are_open-more.result ss) c.begin.ensures
-        ∙ starts ss c.are_open-more.result (sym c.are_open-more.ensures) ∙ ap spread c.requires.outer
-        ∙ whole_spread t.shape in
+    ap (rest_from c.are_open-more.result ss) c.begin.ensures
+    ∙ starts ss c.are_open-more.result (sym c.are_open-more.ensures) ∙ ap spread c.requires.outer
+    ∙ whole_spread t.shape in
     record {
       done = ap (λ xs. xs ++ map f rest) c.new-elems.ensures.items ∙ ap (map f) all;
       room = c.requires.room;

@@ -19,7 +19,7 @@ invariant-loop-more l =
     let rest = rest_from l.more l.outer l.index in
     record {
       done : l.elems.items ++ map (structured l.extents l.out_map body (operands l.maps l.ins) (items_of (as_value l.out))) rest
-              ≡ made body l.extents l.maps l.ins l.out_map l.out;
+          ≡ made body l.extents l.maps l.ins l.out_map l.out;
       room : length l.point ≡ length l.extents;
       outer_room : length l.index ≡ length l.outer;
       below : Each (λ j. Below j l.out.shape) rest;

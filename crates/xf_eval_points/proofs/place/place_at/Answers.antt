@@ -18,11 +18,11 @@ loop-dim-preserved c =
     let sizes = c.args.sizes.now in
     let index = at c.args.map.now c.args.point.now in
     let made : c.saturating_add-place.result
-            ≡ min (min (c.loop-dim.place * get_or sizes n 0) 18446744073709551615 + get_or index n 0) 18446744073709551615 =
-        c.saturating_add-place.ensures
-        ∙ ap (λ x. min (x + c.select.result) 18446744073709551615) c.saturating_mul.ensures
-        ∙ ap (λ x. min (min (c.loop-dim.place * get_or sizes n 0) 18446744073709551615 + x) 18446744073709551615)
-        c.select.ensures in (
+    ≡ min (min (c.loop-dim.place * get_or sizes n 0) 18446744073709551615 + get_or index n 0) 18446744073709551615 =
+    c.saturating_add-place.ensures
+    ∙ ap (λ x. min (x + c.select.result) 18446744073709551615) c.saturating_mul.ensures
+    ∙ ap (λ x. min (min (c.loop-dim.place * get_or sizes n 0) 18446744073709551615 + x) 18446744073709551615)
+    c.select.ensures in (
       omega (arith, made),
       ap (λ a. min (place_from a (drop (n + 1) sizes) (drop (n + 1) index)) 18446744073709551615) made
           ∙ place_more c.loop-dim.place sizes index n 18446744073709551615 c.loop-dim-test.true

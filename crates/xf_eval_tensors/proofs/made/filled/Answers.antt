@@ -7,7 +7,7 @@ use Rattle.xf_eval_tensors.proofs.made.filled.Goals as goal
 pub tensor-requires : goal.tensor-requires
 tensor-requires c =
     let a = subst (λ s. IsAdmitted c.args.op c.args.types.now c.args.width s 0 c.args.budget.now c.admit.new.budget (Ok c.in-Ok.count))
-        c.as_slice.ensures c.in-Ok.ensures in
+    c.as_slice.ensures c.in-Ok.ensures in
     filled_value c.args.width c.args.sizes c.args.elem c.args.types.now c.in-Ok.count c.in_ok-elems-in-Ok.elems
     c.requires a.0 a.1.0 c.in_ok-elems-in-Ok.ensures
 
