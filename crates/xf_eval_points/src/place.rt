@@ -43,7 +43,7 @@ fn place_at(sizes: &[u32], map: &[u32], point: &[u32]) -> u64
 }
 
 /// The number of an index among those of a tensor of these sizes, or the greatest number where it is not less.
-fn place_of(sizes: &[u32], index: &[u32]) -> u64
+pub fn place_of(sizes: &[u32], index: &[u32]) -> u64
     ensures { result ≡ min (place sizes.now index.now) (2 ^ 64 - 1) }
 {
     let mut place: u64 = 0;

@@ -2,3 +2,4 @@ pub mod IndexLemmas
 pub mod ElementLemmas
 pub mod CastLemmas
 pub mod MadeLemmas
+pub mod SetLemmas
