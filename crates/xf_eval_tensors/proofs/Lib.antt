@@ -2,4 +2,3 @@ pub mod IndexLemmas
 pub mod ElementLemmas
 pub mod CastLemmas
 pub mod MadeLemmas
-pub mod SetLemmas
