@@ -23,7 +23,7 @@ literal_says : (all : List Token) (l : Literal) (b : Body)
 literal_says all l b = ap (λ ls. let t : SaidBody = record { literals = ls; extents = b.extents } in t)
     (map-append (literal_said all) b.literals (l ∷ []))
 
-acted : (all : List Token) (k : Action) (hs : List (ℕ × Terminal)) (b : Body) → All (IsHeld all) hs
+pub acted : (all : List Token) (k : Action) (hs : List (ℕ × Terminal)) (b : Body) → All (IsHeld all) hs
     → said all (body_by k hs b) ≡ said_by k (map (λ x. x.1) hs) (said all b)
 acted all (integer_is negative) [] b s = refl
 acted all (integer_is negative) (x ∷ xs) b s =
@@ -45,7 +45,7 @@ as_many : (all : List Token) (h : Reading) (t : Saying) → Says all h t
 as_many all h t s = ap (λ n. nat_lt n most_entries)
     (sym (length-map h.body.literals (literal_said all)) ∙ ap (λ u. length u.literals) s.body)
 
-roomy : (all : List Token) (k : Action) (h : Reading) (t : Saying) → Says all h t → room k h ≡ space k t
+pub roomy : (all : List Token) (k : Action) (h : Reading) (t : Saying) → Says all h t → room k h ≡ space k t
 roomy all (integer_is negative) h t s = as_many all h t s
 roomy all (truth_is b) h t s = as_many all h t s
 roomy all (shape_is extents) h t s = refl

@@ -50,6 +50,9 @@ pub record SaidBody : Type 0 where
   pub literals : List LiteralToken
   pub extents : Option (List ℕ)
 
+abbrev pub no_body_said : SaidBody
+no_body_said = record { literals = []; extents = None }
+
 abbrev pub says_literal : LiteralToken → SaidBody → SaidBody
 says_literal l b = record b { literals = b.literals ++ l ∷ [] }
 
@@ -61,7 +64,7 @@ abbrev pub free_said : SaidBody → Saying
 free_said b = record { held = []; said = b }
 
 abbrev pub nothing_said : Saying
-nothing_said = free_said (record { literals = []; extents = None })
+nothing_said = free_said no_body_said
 
 abbrev pub said_by : Action → List Terminal → SaidBody → SaidBody
 said_by (integer_is negative) hs b = of_first hs b (λ x. says_literal (integer negative (digits_of x)) b)

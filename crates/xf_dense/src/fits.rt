@@ -1,7 +1,7 @@
 //! Which bodies stand for the elements of a tensor type.
-ghost use Rattle.std.specs.Prelude.{◌≡◌};
+ghost use Rattle.std.specs.Prelude.{◌≡◌, map};
 ghost use Rattle.std.specs.List.{list_any, list_all};
-ghost use Rattle.xf_dense.specs.Fits.{extent_fits, extents_fit, is_empty, may_be_empty, form_fits, literal_fits};
+ghost use Rattle.xf_dense.specs.Fits.{extent_fits, extents_fit, is_empty, may_be_empty, form_fits, is_truth, may_be};
 ghost use Rattle.xf_dense.specs.Fits.{fits_shape};
 
 use crate::body::{Body, Literal};
@@ -84,7 +84,7 @@ fn may_have_empty(dims: &[Dim]) -> bool
 
 /// Whether a literal writes a number of this width: `true` and `false` write those of `i1` alone.
 fn literal_fits(width: Width, literal: Literal) -> bool
-    ensures { result ≡ literal_fits width literal }
+    ensures { result ≡ may_be width (is_truth literal) }
 {
     match (width, literal) {
         (Width::I1, _) => true,
@@ -95,7 +95,7 @@ fn literal_fits(width: Width, literal: Literal) -> bool
 
 /// Whether each literal writes a number of this width.
 fn literals_fit(width: Width, literals: &[Literal]) -> bool
-    ensures { result ≡ list_all (literal_fits width) literals.now }
+    ensures { result ≡ list_all (may_be width) (map is_truth literals.now) }
 {
     for literal in literals {
         if !literal_fits(width, *literal) {
@@ -121,6 +121,7 @@ fn form_fits(body: &Body, dims: &[Dim]) -> bool
 /// `?` is any; one literal stands for all elements where no dimension is 0; and nothing stands where one
 /// is 0 or `?`. Only a tensor of `i1` has `true` and `false` for elements. It takes time in the number of
 /// literals and dimensions.
+#[tactic(auto, using(crate::proofs::Forms::same_form))]
 pub fn fits_shape(body: &Body, shape: &Shape) -> bool
     ensures { result ≡ fits_shape body.now shape.now }
 {

@@ -41,17 +41,11 @@ word_opens l the_end e = absurd cc
 word_opens l (terminal kind.Word bytes) e = refl
 word_opens l (terminal k bytes) e = absurd cc
 
-refused : (x : Test) (d e : Expected) (p : Fill) (y : Terminal) (t : Saying)
-    → fits language (peek x (refuse d) (refuse e)) p y t ≡ true → ⊥
-refused x d e (here p) y t q = false≢true (both_true _ _ q).1
-refused x d e (other p) y t q = false≢true (both_true _ _ q).1
-refused x d e p y t q = absurd cc
-
 row_opens : (l : Level) (p : Fill) (y : Terminal) (t : Saying) → fits language (row_rule l) p y t ≡ true
     → opens_operation (written language (row_rule l) p) ≡ true
 unfolding row_rule
 row_opens l (yes x p) y t e = word_opens l x (both_true _ _ e).0
-row_opens l (other p) y t e = absurd (refused (an_unread l) due.OtherReader (due_at l) p y t (both_true _ _ e).1)
+row_opens l (other p) y t e = absurd (false≢true (both_true _ _ e).1)
 row_opens l p y t e = absurd cc
 
 head_opens : (l : Level) → Opens format (head_rule l)
@@ -63,7 +57,7 @@ head_opens l p y e = absurd cc
 -- ---- what stands behind the slots leaves whether the terminator may be left out
 
 header_leaves : (r : Row) → acts_only leaves_results every (slots_rule (header r)) ≡ true
-unfolding kind_rule argument_rule type_rule block_name_rule param_rule until_rule
+unfolding kind_rule argument_rule type_rule tensor_rule block_name_rule param_rule until_rule
 header_leaves row.Generic = refl
 header_leaves r = refl
 

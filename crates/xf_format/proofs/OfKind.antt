@@ -1,36 +1,46 @@
 -- The tokens in the parts of a head are of their kinds, and names and strings are short ones: once, by the actions and
 -- the tests that they stand behind.
-use Rattle.std.proofs.Common.{◌≡◌, ℕ, Bool, true, false, List, [], ◌∷◌, ◌++◌, Option, Some, None, refl}
-use Rattle.std.specs.Prelude.{All, map}
+use Rattle.std.proofs.Common.{◌≡◌, ℕ, ◌+◌, Bool, true, false, List, [], ◌∷◌, ◌++◌, Option, Some, None, refl}
+use Rattle.std.specs.Prelude.{All}
 use Rattle.std.proofs.lemmas.List.Elements.{All-nil, All-push}
 use Rattle.xf_lex.specs.declared.token.Token.{Token}
 use Rattle.xf_lex.specs.declared.token.TokenKind.{TokenKind}
 use Rattle.xf_lex.specs.declared.token.TokenKind.TheVariants as kind
 use Rattle.xf_grammar.specs.Tokens.{Terminal, terminal_at, is_kind}
-use Rattle.xf_grammar.specs.Grammar.{read}
+use Rattle.xf_grammar.specs.Grammar.{Step, ends, fails, goes, pushed, read}
 use Rattle.xf_grammar.proofs.Basics.{both_true}
-use Rattle.xf_grammar.proofs.Guarded.{guarded, none_held, silent_step, Guards, guarded_has}
+use Rattle.xf_grammar.proofs.Guarded.{guarded, none_held, free_step, Guards, guarded_has}
 use Rattle.xf_grammar.proofs.Kept.{has_behind}
 use Rattle.xf_grammar.proofs.TreesKept.{Holds, TreeKeeps}
+use Rattle.xf_dense.specs.declared.expected.Due.{Due}
+use Rattle.xf_dense.specs.Actions.{Action as BodyAction}
+use Rattle.xf_dense.specs.Machine as body
+use Rattle.xf_dense.proofs.Quiet.{IsQuiet, quiet}
 use Rattle.xf_format.specs.declared.parts.AttrEntry.{AttrEntry}
 use Rattle.xf_format.specs.declared.parts.EntryValue.{EntryValue}
 use Rattle.xf_format.specs.declared.parts.EntryValue.TheVariants as value
 use Rattle.xf_format.specs.declared.parts.Literal.{Literal}
 use Rattle.xf_format.specs.declared.parts.Literal.TheVariants as literal
 use Rattle.xf_format.specs.declared.parts.Parts.{Parts}
+use Rattle.xf_format.specs.declared.parts.PlaceEntry.{PlaceEntry}
+use Rattle.xf_format.specs.declared.parts.PlaceEntry.TheVariants as place
 use Rattle.xf_format.specs.declared.parts.Ref.{Ref}
 use Rattle.xf_format.specs.declared.parts.Use.{Use}
 use Rattle.xf_format.specs.declared.row.FormatElement.{FormatElement}
 use Rattle.xf_format.specs.declared.row.FormatElement.TheVariants as slot
 use Rattle.xf_format.specs.declared.row.Level.{Level}
 use Rattle.xf_format.specs.declared.row.Row.{Row}
+use Rattle.xf_format.specs.declared.row.Side.{Side}
+use Rattle.xf_format.specs.declared.row.Side.TheVariants.{Offsets, Sizes}
 use Rattle.xf_format.specs.declared.row.Row.TheVariants as row
 use Rattle.xf_format.specs.Actions.{Action, begins, defines, argument_is, operand, symbol_is, private_is, predicate_is}
 use Rattle.xf_format.specs.Actions.{literal_is, truth_is, type_is, width_left_out, result_is, unit_entry, truth_entry}
-use Rattle.xf_format.specs.Actions.{text_entry, integer_entry, typed_entry, unread_rest, of_first}
+use Rattle.xf_format.specs.Actions.{text_entry, integer_entry, typed_entry, elements_follow, dense_is, place_is}
+use Rattle.xf_format.specs.Actions.{place_given, dimension_is, gives_dimension, map_is, alias_is, iterator_is, of_first}
 use Rattle.xf_format.specs.Actions.{of_one_or_two, of_two, of_three, Reading, parts_by}
 use Rattle.xf_format.specs.Format.{format}
 use Rattle.xf_format.specs.Parts.{no_parts, with_symbol, with_literal, with_entry, with_define, with_arg, with_use}
+use Rattle.xf_format.specs.Parts.{with_place}
 use Rattle.xf_format.specs.Rows.{slots, header, tail}
 use Rattle.xf_format.specs.Rules.{language, kind_rule, word_rule, symbol_rule, module_name_rule, function_name_rule}
 use Rattle.xf_format.specs.Rules.{argument_rule, use_rule, width_rule, type_rule, result_rule, predicate_rule}
@@ -38,10 +48,13 @@ use Rattle.xf_format.specs.Rules.{block_name_rule, number_rule, literal_rule, en
 use Rattle.xf_format.specs.Rules.{entry_value_rule, entry_rule, param_rule, pair_rule, until_rule, dictionary_rule}
 use Rattle.xf_format.specs.Rules.{attributes_rule, result_types_rule, call_results_rule, function_results_rule}
 use Rattle.xf_format.specs.Rules.{listed_results_rule, if_results_rule, operands_rule, iter_args_rule, loop_width_rule}
-use Rattle.xf_format.specs.Rules.{tensor_rule, result_tensor_rule, typed_rule, ins_rule, outs_rule}
+use Rattle.xf_format.specs.Rules.{tensor_rule, result_tensor_rule, typed_rule, ins_rule, some_ins_rule, outs_rule}
+use Rattle.xf_format.specs.Rules.{dense_rule, dense_type_rule, place_rule, stride_rule, iterator_rule, dimension_rule}
+use Rattle.xf_format.specs.Rules.{given_rule, map_form_rule, map_rule, maps_rule, marked_rule}
 use Rattle.xf_format.specs.Rules.{slot_rule, slots_rule, row_rule, defines_rule, head_rule}
 use Rattle.xf_format.specs.Tests.{Test, of_kind, short_symbol, short_word, short_text, integer_for, a_result, is_symbol}
-use Rattle.xf_format.specs.Tests.{is_name, is_string, State, unread_text}
+use Rattle.xf_format.specs.Tests.{is_name, is_string, State, lifted}
+use Rattle.xf_format.specs.Tests.{known as known_parts}
 use Rattle.xf_format.proofs.Lawful.{no_end}
 
 -- ---- kinds
@@ -58,6 +71,7 @@ abbrev pub LiteralOf : List Token → Option Literal → Type 0
 LiteralOf all None = Unit {0}
 LiteralOf all (Some (literal.Truth b)) = Unit {0}
 LiteralOf all (Some (literal.Integer negative at)) = IsOf kind.Integer all at
+LiteralOf all (Some literal.Elements) = Unit {0}
 
 abbrev pub ValueOf : List Token → EntryValue → Type 0
 ValueOf all value.Unit = Unit {0}
@@ -124,8 +138,20 @@ behind_tests (truth_is b) ts = true
 behind_tests type_is ts = true
 behind_tests (width_left_out w) ts = true
 behind_tests result_is ts = true
-behind_tests unread_rest ts = true
+behind_tests elements_follow ts = true
+behind_tests (place_is d negative) ts = true
+behind_tests (place_given d) ts = true
+behind_tests dimension_is ts = true
+behind_tests gives_dimension ts = true
+behind_tests map_is ts = true
+behind_tests alias_is ts = true
+behind_tests (iterator_is k) ts = true
 behind_tests k ts = false
+
+-- those of machines
+abbrev by_machine : Action → Bool
+by_machine (dense_is k) = true
+by_machine k = false
 
 -- ---- rules
 
@@ -137,7 +163,8 @@ unfolding kind_rule word_rule symbol_rule module_name_rule function_name_rule ar
     type_rule result_rule predicate_rule block_name_rule number_rule literal_rule entry_width_rule entry_number_rule
     entry_value_rule entry_rule param_rule pair_rule until_rule dictionary_rule attributes_rule result_types_rule
     call_results_rule function_results_rule listed_results_rule if_results_rule operands_rule iter_args_rule
-    loop_width_rule tensor_rule result_tensor_rule typed_rule ins_rule outs_rule
+    loop_width_rule tensor_rule result_tensor_rule typed_rule ins_rule some_ins_rule outs_rule dense_rule dense_type_rule
+    place_rule stride_rule iterator_rule dimension_rule given_rule map_form_rule map_rule maps_rule marked_rule
 slot_guarded (slot.Mark gap b) = refl
 slot_guarded s = refl
 
@@ -174,6 +201,15 @@ module _ (all : List Token) where
 
   use_added : (u : Use) (h : Parts) → UseOf all u → Inside all h → Inside all (with_use u h)
   use_added u h p w = parts_in w.symbol w.literal w.entries w.defines w.args (All-push (UseOf all) h.uses u w.uses p)
+
+  place_added : (d : Side) (e : PlaceEntry) (h : Parts) → Inside all h → Inside all (with_place d e h)
+  place_added Offsets e h i = parts_in i.symbol i.literal i.entries i.defines i.args i.uses
+  place_added Sizes e h i = parts_in i.symbol i.literal i.entries i.defines i.args i.uses
+
+  body_added : (k : Action) (hs : List (ℕ × Terminal)) (h : Parts) → by_machine k ≡ true → Inside all h
+      → Inside all (parts_by k hs h)
+  body_added (dense_is k) hs h e i = parts_in i.symbol i.literal i.entries i.defines i.args i.uses
+  body_added k hs h e i = absurd cc
 
   -- the tokens that are held have passed these tests
   abbrev Held : List (ℕ × Terminal) → List Test → Type 0
@@ -258,27 +294,43 @@ module _ (all : List Token) where
   kinds_added (width_left_out v) ts hs p o w i = parts_in i.symbol i.literal i.entries i.defines i.args i.uses
   kinds_added result_is ts hs p o w i =
       plain_added p _ (λ y. parts_in i.symbol i.literal i.entries i.defines i.args i.uses) hs i
-  kinds_added unread_rest ts hs p o w i = i
+  kinds_added elements_follow ts hs p o w i = parts_in i.symbol tt i.entries i.defines i.args i.uses
+  kinds_added (place_is d negative) ts hs p o w i = plain_added p _ (λ y. place_added d _ p i) hs i
+  kinds_added (place_given d) ts hs p o w i = place_added d place.Value p i
+  kinds_added dimension_is ts hs p o w i = parts_in i.symbol i.literal i.entries i.defines i.args i.uses
+  kinds_added gives_dimension ts hs p o w i = plain_added p _ (λ y. parts_in i.symbol i.literal i.entries i.defines i.args i.uses) hs i
+  kinds_added map_is ts hs p o w i = parts_in i.symbol i.literal i.entries i.defines i.args i.uses
+  kinds_added alias_is ts hs p o w i = plain_added p _ (λ y. parts_in i.symbol i.literal i.entries i.defines i.args i.uses) hs i
+  kinds_added (iterator_is k) ts hs p o w i = parts_in i.symbol i.literal i.entries i.defines i.args i.uses
   kinds_added k ts hs p o w i = absurd cc
 
   -- the tokens that are held have passed these tests, and those of the parts are of their kinds
   abbrev OfKinds : List Test → ℕ → Reading → Type 0
   OfKinds ts n h = Held h.held ts × Inside all h.parts
 
-  guards : Guards language all behind_tests every OfKinds
+  guards : Guards language all behind_tests by_machine every OfKinds
   guards = record {
-    ended = λ x h. no_end x (map (λ y. y.1) h.held);
-    silent = λ m x e. silent m x;
+    ended = λ x h. no_end x (known_parts h);
+    free = λ m x e. free_lifted (body.step m x) (quiet m x);
     on = λ ts at h lt w. w;
     held = λ ts t at h lt e w. (
       held_push h.held ts at (terminal_at all at) t (known t (terminal_at all at) h e) w.0,
       w.1,
     );
     added = λ ts at k h o e w. (tt, kinds_added k ts h.held h.parts o w.0 w.1);
+    ran = λ keep at k h lt e o w. machine_added keep at k h e w;
   }
     where
-      silent : (m : State) (x : Terminal) → silent_step every (language.step m x) ≡ true
-      silent unread_text x = refl
+      free_lifted : (s : Step BodyAction Due State) → IsQuiet s → free_step by_machine every (lifted s) ≡ true
+      free_lifted ends e = refl
+      free_lifted (fails d) e = refl
+      free_lifted (goes gap keep m None) e = e
+      free_lifted (goes gap keep m (Some k)) e = refl
+
+      machine_added : (keep : Bool) (at : ℕ) (k : Action) (h : Reading) → by_machine k ≡ true → OfKinds [] at h
+          → OfKinds [] (at + 1) (language.add k (pushed language keep at (terminal_at all at) h))
+      machine_added true at k h e w = (tt, body_added k _ h.parts e w.1)
+      machine_added false at k h e w = (tt, body_added k _ h.parts e w.1)
 
   -- where no token is held
   abbrev pub HasKinds : ℕ → Reading → Type 0
@@ -288,7 +340,7 @@ module _ (all : List Token) where
   slots_hold [] n h at w = w
   slots_hold (s ∷ ss) n h at w =
       has_behind HasKinds HasKinds (read language n (slot_rule s) all h at) _
-      (guarded_has language all behind_tests every OfKinds guards n (slot_rule s) h at (slot_guarded s) w)
+      (guarded_has language all behind_tests by_machine every OfKinds guards n (slot_rule s) h at (slot_guarded s) w)
       (λ x v. slots_hold ss n x.0 x.1 v)
 
   pub no_kinds : (r : Row) → Inside all (no_parts r)
@@ -298,9 +350,9 @@ module _ (all : List Token) where
   -- the operations of each tree are of their kinds
   pub trees_of_kinds : TreeKeeps format all HasKinds (Inside all)
   trees_of_kinds = record {
-    ended = λ x h. no_end x (map (λ y. y.1) h.held);
+    ended = λ x h. no_end x (known_parts h);
     on = λ at h lt w. w;
-    head = λ l n h at w. guarded_has language all behind_tests every OfKinds guards n (head_rule l) h at
+    head = λ l n h at w. guarded_has language all behind_tests by_machine every OfKinds guards n (head_rule l) h at
         (head_guarded l) w;
     slots = λ r. slots_hold (slots r);
     header = λ r. slots_hold (header r);

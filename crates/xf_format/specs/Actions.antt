@@ -8,17 +8,28 @@ use Rattle.xf_type.specs.declared.payload_type.Width.{Width}
 use Rattle.xf_type.specs.declared.payload_type.Width.TheVariants as width
 use Rattle.xf_type.specs.Limits.{most_entries}
 use Rattle.xf_grammar.specs.Tokens.{Terminal, terminal_at}
+use Rattle.xf_dense.specs.Actions as dense
+use Rattle.xf_dense.specs.Actions.{Action as BodyAction}
+use Rattle.xf_ir.specs.declared.kind.IteratorKind.{IteratorKind}
 use Rattle.xf_format.specs.declared.expected.Expected.{Expected}
 use Rattle.xf_format.specs.declared.expected.Expected.TheVariants as due
 use Rattle.xf_format.specs.declared.parts.EntryValue.TheVariants as value
 use Rattle.xf_format.specs.declared.parts.Literal.TheVariants as literal
+use Rattle.xf_format.specs.declared.parts.MapEntry.TheVariants as map_entry
 use Rattle.xf_format.specs.declared.parts.Parts.{Parts}
+use Rattle.xf_format.specs.declared.parts.PlaceEntry.{PlaceEntry}
+use Rattle.xf_format.specs.declared.parts.PlaceEntry.TheVariants as place
+use Rattle.xf_format.specs.declared.row.Side.{Side}
+use Rattle.xf_format.specs.declared.row.Side.TheVariants.{Offsets, Sizes}
 use Rattle.xf_format.specs.Parts.{ref, use_of, count_of, with_row, with_symbol, as_private, with_predicate}
 use Rattle.xf_format.specs.Parts.{with_literal, with_entry, with_define, with_arg, with_use, with_type, with_result}
 use Rattle.xf_format.specs.Parts.{text_of, truth, number, no_value, truth_value, number_value, text_value, Said, said}
 use Rattle.xf_format.specs.Parts.{says_row, says_symbol, says_private, says_predicate, says_literal, says_entry}
 use Rattle.xf_format.specs.Parts.{says_define, says_arg, says_use, says_type, says_result}
-use Rattle.xf_format.specs.Words.{width_meant, type_meant, predicate_meant, row_begun, the_row}
+use Rattle.xf_format.specs.Parts.{with_body, with_place, widened, giving, with_map, with_maps, with_iterator}
+use Rattle.xf_format.specs.Parts.{elements, PlaceSaid, place_number, place_value, written_map, alias_of, says_body}
+use Rattle.xf_format.specs.Parts.{says_place, says_map, says_maps, says_iterator}
+use Rattle.xf_format.specs.Words.{width_meant, type_meant, predicate_meant, dimension_meant, row_begun, the_row}
 
 pub data Action : Type 0 where
   -- the word of an operation begins it
@@ -44,8 +55,18 @@ pub data Action : Type 0 where
   text_entry : Action
   integer_entry : (negative : Bool) (w : Width) → Action
   typed_entry : (negative : Bool) → Action
-  -- what a later reader reads: the rest of an operation
-  unread_rest : Action
+  -- the body of a tensor begins, and what its machine does
+  elements_follow : Action
+  dense_is : (k : BodyAction) → Action
+  -- an offset or a size: an integer, behind a sign or not, or the next operand
+  place_is : (s : Side) (negative : Bool) → Action
+  place_given : (s : Side) → Action
+  -- a dimension of the map, the one that it gives next, and its end; and an alias of one
+  dimension_is : Action
+  gives_dimension : Action
+  map_is : Action
+  alias_is : Action
+  iterator_is : (k : IteratorKind) → Action
 
 -- ---- what is held
 
@@ -110,7 +131,15 @@ parts_by text_entry hs p = of_two hs p (λ x y. with_entry x.0 (value.Text y.0) 
 parts_by (integer_entry negative w) hs p = of_two hs p (λ x y. with_entry x.0 (value.Integer negative y.0 w) p)
 parts_by (typed_entry negative) hs p =
     of_three hs p (λ x y z. with_entry x.0 (value.Integer negative y.0 (width_meant z.1)) p)
-parts_by unread_rest hs p = p
+parts_by elements_follow hs p = with_body dense.no_body (with_literal literal.Elements p)
+parts_by (dense_is k) hs p = with_body (dense.body_by k hs p.dense) p
+parts_by (place_is s negative) hs p = of_first hs p (λ x. with_place s (place.Number negative x.0) p)
+parts_by (place_given s) hs p = with_place s place.Value p
+parts_by dimension_is hs p = with_map (widened p.map) p
+parts_by gives_dimension hs p = of_first hs p (λ x. with_map (giving (dimension_meant x.1) p.map) p)
+parts_by map_is hs p = with_maps (map_entry.Written p.map) p
+parts_by alias_is hs p = of_first hs p (λ x. with_maps (map_entry.Alias x.0) p)
+parts_by (iterator_is k) hs p = with_iterator k p
 
 abbrev pub add : Action → Reading → Reading
 add k h = free (parts_by k h.held h.parts)
@@ -144,12 +173,35 @@ said_by (integer_entry negative w) hs t =
     of_two hs t (λ x y. says_entry (text_of x) (number_value negative (text_of y) w) t)
 said_by (typed_entry negative) hs t =
     of_three hs t (λ x y z. says_entry (text_of x) (number_value negative (text_of y) (width_meant z)) t)
-said_by unread_rest hs t = t
+said_by elements_follow hs t = says_body dense.no_body_said (says_literal elements t)
+said_by (dense_is k) hs t = says_body (dense.said_by k hs t.dense) t
+said_by (place_is s negative) hs t = of_first hs t (λ x. says_place s (place_number negative (text_of x)) t)
+said_by (place_given s) hs t = says_place s place_value t
+said_by dimension_is hs t = says_map (widened t.map) t
+said_by gives_dimension hs t = of_first hs t (λ x. says_map (giving (dimension_meant x) t.map) t)
+said_by map_is hs t = says_maps (written_map t.map) t
+said_by alias_is hs t = of_first hs t (λ x. says_maps (alias_of (text_of x)) t)
+said_by (iterator_is k) hs t = says_iterator k t
 
 abbrev pub tell : Action → Saying → Saying
 tell k t = free_said (said_by k t.held t.said)
 
 -- ---- room: no list of an operation has 2 ^ 32 entries
+
+abbrev pub places_of : Side → Parts → List PlaceEntry
+places_of Offsets p = p.offsets
+places_of Sizes p = p.sizes
+
+abbrev pub places_said : Side → Said → List PlaceSaid
+places_said Offsets t = t.offsets
+places_said Sizes t = t.sizes
+
+-- the body that is read, with what is held, and what that says
+abbrev pub body_read : Reading → dense.Reading
+body_read h = record { held = h.held; body = h.parts.dense }
+
+abbrev pub body_told : Saying → dense.Saying
+body_told t = record { held = t.held; said = t.said.dense }
 
 abbrev pub room : Action → Reading → Bool
 room argument_is h = nat_lt (length h.parts.args) most_entries
@@ -163,7 +215,14 @@ room (truth_entry b) h = nat_lt (length h.parts.entries) most_entries
 room text_entry h = nat_lt (length h.parts.entries) most_entries
 room (integer_entry negative w) h = nat_lt (length h.parts.entries) most_entries
 room (typed_entry negative) h = nat_lt (length h.parts.entries) most_entries
-room unread_rest h = false
+room (dense_is k) h = dense.room k (body_read h)
+room (place_is s negative) h = nat_lt (length (places_of s h.parts)) most_entries
+room (place_given s) h = nat_lt (length (places_of s h.parts)) most_entries
+room dimension_is h = nat_lt h.parts.map.dims most_entries
+room gives_dimension h = nat_lt (length h.parts.map.results) most_entries
+room map_is h = nat_lt (length h.parts.maps) most_entries
+room alias_is h = nat_lt (length h.parts.maps) most_entries
+room (iterator_is k) h = nat_lt (length h.parts.iterators) most_entries
 room k h = true
 
 abbrev pub space : Action → Saying → Bool
@@ -178,12 +237,18 @@ space (truth_entry b) t = nat_lt (length t.said.entries) most_entries
 space text_entry t = nat_lt (length t.said.entries) most_entries
 space (integer_entry negative w) t = nat_lt (length t.said.entries) most_entries
 space (typed_entry negative) t = nat_lt (length t.said.entries) most_entries
-space unread_rest t = false
+space (dense_is k) t = dense.space k (body_told t)
+space (place_is s negative) t = nat_lt (length (places_said s t.said)) most_entries
+space (place_given s) t = nat_lt (length (places_said s t.said)) most_entries
+space dimension_is t = nat_lt t.said.map.dims most_entries
+space gives_dimension t = nat_lt (length t.said.map.results) most_entries
+space map_is t = nat_lt (length t.said.maps) most_entries
+space alias_is t = nat_lt (length t.said.maps) most_entries
+space (iterator_is k) t = nat_lt (length t.said.iterators) most_entries
 space k t = true
 
 -- what is due where there is no room
 abbrev pub full : Action → Expected
-full unread_rest = due.OtherReader
 full k = due.ListEnd
 
 -- ---- from numbers to bytes

@@ -44,4 +44,4 @@ select_slots = Use 0 ∷ Mark false 44 ∷ Use 1 ∷ Mark false 44 ∷ Use 2 ∷
 
 -- arith.extsi %0 {..} : i8 to i32
 abbrev pub convert_slots : List FormatElement
-convert_slots = Use 0 ∷ Dictionary ∷ Mark true 58 ∷ Width 0 ∷ Word key.To ∷ Width 1 ∷ []
+convert_slots = Use 0 ∷ Dictionary ∷ Mark true 58 ∷ Width 0 ∷ Word true key.To ∷ Width 1 ∷ []

@@ -1,7 +1,7 @@
 -- How the values of an operation follow from what its row states: the types of operands, of results and of block
 -- arguments, and how many operands there are.
 use Rattle.std.specs.Prelude.{ℕ, ◌+◌, ◌-◌, ◌==◌, List, [], ◌∷◌, ◌++◌, length, Option, Some, None, Bool, true}
-use Rattle.std.specs.Prelude.{if◌then◌else◌, option_map, nat_lt, slice_get}
+use Rattle.std.specs.Prelude.{if◌then◌else◌, option_map, nat_le, nat_lt, slice_get, drop}
 use Rattle.xf_type.specs.declared.payload_type.PayloadType.{PayloadType}
 use Rattle.xf_type.specs.declared.payload_type.PayloadType.TheVariants.{Scalar, Tensor}
 use Rattle.xf_type.specs.declared.payload_type.Width.TheVariants as width
@@ -42,11 +42,15 @@ result_types row.Extract = results.Element
 result_types row.Insert = results.Stated 0
 result_types row.Cast = results.Listed
 result_types (row.Named k) = results.Listed
+result_types row.ExtractSlice = results.Listed
+result_types row.InsertSlice = results.Stated 1
+result_types row.Generic = results.Listed
 result_types r = results.Nothing
 
 abbrev pub argument_types : Row → ArgumentTypes
 argument_types row.Function = arguments.Stated
 argument_types row.For = arguments.Loop
+argument_types row.Generic = arguments.Behind
 argument_types r = arguments.Nothing
 
 abbrev pub operand_count : Row → OperandCount
@@ -55,6 +59,7 @@ operand_count row.Call = count.Types
 operand_count row.For = count.Loop
 operand_count row.Yield = count.Types
 operand_count (row.Named k) = count.Types
+operand_count row.Generic = count.AtMost
 operand_count r = count.Any
 
 -- ---- what they say, by the types that are stated and those behind the arrow
@@ -81,14 +86,17 @@ types_given (results.Stated k) types given = one_type (slice_get types k)
 types_given (results.Scalar w) types given = Scalar w ∷ []
 types_given results.Element types given = one_type (option_map element_of (slice_get types 0))
 
--- those of a loop are its induction value and its iteration values
-abbrev pub types_taken : ArgumentTypes → List PayloadType → List PayloadType → List PayloadType
-types_taken arguments.Nothing types given = []
-types_taken arguments.Stated types given = types
-types_taken arguments.Loop types given = types ++ given
+-- those of a loop are its induction value and its iteration values; behind the types of so many operands stand those of
+-- a block
+abbrev pub types_taken : ArgumentTypes → ℕ → List PayloadType → List PayloadType → List PayloadType
+types_taken arguments.Nothing n types given = []
+types_taken arguments.Stated n types given = types
+types_taken arguments.Loop n types given = types ++ given
+types_taken arguments.Behind n types given = drop n types
 
 -- whether there may be so many operands
 abbrev pub is_counted : OperandCount → List PayloadType → List PayloadType → ℕ → Bool
 is_counted count.Any types given n = true
 is_counted count.Types types given n = n == length types
 is_counted count.Loop types given n = n == 3 + length given
+is_counted count.AtMost types given n = nat_le n (length types)

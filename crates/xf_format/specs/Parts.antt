@@ -1,23 +1,38 @@
 -- What is read of a head, by the numbers of tokens, and what it says, by their bytes.
-use Rattle.std.specs.Prelude.{ℕ, ◌-◌, ◌^◌, min, List, [], ◌∷◌, ◌++◌, map, Option, Some, None, Bool, true, false}
+use Rattle.std.specs.Prelude.{ℕ, ◌+◌, ◌-◌, ◌^◌, min, List, [], ◌∷◌, ◌++◌, map, Option, Some, None, Bool, true, false}
 use Rattle.std.specs.Prelude.{option_map}
 use Rattle.xf_lex.specs.declared.token.Token.{Token}
+use Rattle.xf_type.specs.declared.attribute.AffineMap.{AffineMap}
 use Rattle.xf_type.specs.declared.kind.CmpKind.{CmpKind}
 use Rattle.xf_type.specs.declared.payload_type.PayloadType.{PayloadType}
 use Rattle.xf_type.specs.declared.payload_type.Width.{Width}
 use Rattle.xf_grammar.specs.Tokens.{Terminal, the_end, terminal, terminal_at, digits_of, number_of}
+use Rattle.xf_dense.specs.Actions.{SaidBody, no_body, no_body_said}
+use Rattle.xf_dense.specs.Actions as dense
+use Rattle.xf_dense.specs.declared.body.Body.{Body}
+use Rattle.xf_ir.specs.declared.kind.IteratorKind.{IteratorKind}
 use Rattle.xf_format.specs.declared.parts.AttrEntry.{AttrEntry}
 use Rattle.xf_format.specs.declared.parts.EntryValue.{EntryValue}
 use Rattle.xf_format.specs.declared.parts.EntryValue.TheVariants as value
 use Rattle.xf_format.specs.declared.parts.Literal.{Literal}
 use Rattle.xf_format.specs.declared.parts.Literal.TheVariants as literal
+use Rattle.xf_format.specs.declared.parts.MapEntry.{MapEntry}
+use Rattle.xf_format.specs.declared.parts.MapEntry.TheVariants as map_entry
 use Rattle.xf_format.specs.declared.parts.Parts.{Parts}
+use Rattle.xf_format.specs.declared.parts.PlaceEntry.{PlaceEntry}
+use Rattle.xf_format.specs.declared.parts.PlaceEntry.TheVariants as place
 use Rattle.xf_format.specs.declared.parts.Ref.{Ref}
 use Rattle.xf_format.specs.declared.parts.Use.{Use}
 use Rattle.xf_format.specs.declared.row.Row.{Row}
 use Rattle.xf_format.specs.declared.row.Row.TheVariants as row
+use Rattle.xf_format.specs.declared.row.Side.{Side}
+use Rattle.xf_format.specs.declared.row.Side.TheVariants.{Offsets, Sizes}
 
 -- ---- by numbers
+
+-- a map without dimensions
+abbrev pub no_map : AffineMap
+no_map = record { dims = 0; results = [] }
 
 abbrev pub no_parts : Row → Parts
 no_parts r = record {
@@ -26,6 +41,12 @@ no_parts r = record {
   private = false;
   predicate = None;
   literal = None;
+  dense = no_body;
+  offsets = [];
+  sizes = [];
+  map = no_map;
+  maps = [];
+  iterators = [];
   entries = [];
   defines = [];
   args = [];
@@ -80,6 +101,30 @@ with_type t h = record h { types = h.types ++ t ∷ [] }
 abbrev pub with_result : PayloadType → Parts → Parts
 with_result t h = record h { results = h.results ++ t ∷ [] }
 
+abbrev pub with_body : Body → Parts → Parts
+with_body b h = record h { dense = b }
+
+abbrev pub with_place : Side → PlaceEntry → Parts → Parts
+with_place Offsets e h = record h { offsets = h.offsets ++ e ∷ [] }
+with_place Sizes e h = record h { sizes = h.sizes ++ e ∷ [] }
+
+-- one dimension more
+abbrev pub widened : AffineMap → AffineMap
+widened m = record m { dims = m.dims + 1 }
+
+abbrev pub giving : ℕ → AffineMap → AffineMap
+giving k m = record m { results = m.results ++ k ∷ [] }
+
+abbrev pub with_map : AffineMap → Parts → Parts
+with_map m h = record h { map = m }
+
+-- the map is whole, and another begins
+abbrev pub with_maps : MapEntry → Parts → Parts
+with_maps e h = record h { maps = h.maps ++ e ∷ []; map = no_map }
+
+abbrev pub with_iterator : IteratorKind → Parts → Parts
+with_iterator k h = record h { iterators = h.iterators ++ k ∷ [] }
+
 -- ---- by bytes
 
 abbrev pub text_of : Terminal → List ℕ
@@ -102,6 +147,17 @@ pub record DefineSaid : Type 0 where
 pub data LiteralSaid : Type 0 where
   truth : (b : Bool) → LiteralSaid
   number : (negative : Bool) (digits : List ℕ) → LiteralSaid
+  -- the numbers of a tensor, which its body has
+  elements : LiteralSaid
+
+pub data PlaceSaid : Type 0 where
+  place_number : (negative : Bool) (digits : List ℕ) → PlaceSaid
+  -- the next operand
+  place_value : PlaceSaid
+
+pub data MapSaid : Type 0 where
+  written_map : (m : AffineMap) → MapSaid
+  alias_of : (name : List ℕ) → MapSaid
 
 pub data ValueSaid : Type 0 where
   no_value : ValueSaid
@@ -119,6 +175,12 @@ pub record Said : Type 0 where
   pub private : Bool
   pub predicate : Option CmpKind
   pub literal : Option LiteralSaid
+  pub dense : SaidBody
+  pub offsets : List PlaceSaid
+  pub sizes : List PlaceSaid
+  pub map : AffineMap
+  pub maps : List MapSaid
+  pub iterators : List IteratorKind
   pub entries : List EntrySaid
   pub defines : List DefineSaid
   pub args : List (List ℕ)
@@ -138,6 +200,15 @@ arg_said all r = text_at all r.token
 abbrev pub literal_said : List Token → Literal → LiteralSaid
 literal_said all (literal.Truth b) = truth b
 literal_said all (literal.Integer negative at) = number negative (text_at all at)
+literal_said all literal.Elements = elements
+
+abbrev pub place_said : List Token → PlaceEntry → PlaceSaid
+place_said all (place.Number negative at) = place_number negative (text_at all at)
+place_said all place.Value = place_value
+
+abbrev pub map_said : List Token → MapEntry → MapSaid
+map_said all (map_entry.Written m) = written_map m
+map_said all (map_entry.Alias at) = alias_of (text_at all at)
 
 abbrev pub value_said : List Token → EntryValue → ValueSaid
 value_said all value.Unit = no_value
@@ -156,6 +227,12 @@ said all h = record {
   private = h.private;
   predicate = h.predicate;
   literal = option_map (literal_said all) h.literal;
+  dense = dense.said all h.dense;
+  offsets = map (place_said all) h.offsets;
+  sizes = map (place_said all) h.sizes;
+  map = h.map;
+  maps = map (map_said all) h.maps;
+  iterators = h.iterators;
   entries = map (entry_said all) h.entries;
   defines = map (define_said all) h.defines;
   args = map (arg_said all) h.args;
@@ -197,6 +274,22 @@ says_type u t = record t { types = t.types ++ u ∷ [] }
 abbrev pub says_result : PayloadType → Said → Said
 says_result u t = record t { results = t.results ++ u ∷ [] }
 
+abbrev pub says_body : SaidBody → Said → Said
+says_body b t = record t { dense = b }
+
+abbrev pub says_place : Side → PlaceSaid → Said → Said
+says_place Offsets e t = record t { offsets = t.offsets ++ e ∷ [] }
+says_place Sizes e t = record t { sizes = t.sizes ++ e ∷ [] }
+
+abbrev pub says_map : AffineMap → Said → Said
+says_map m t = record t { map = m }
+
+abbrev pub says_maps : MapSaid → Said → Said
+says_maps e t = record t { maps = t.maps ++ e ∷ []; map = no_map }
+
+abbrev pub says_iterator : IteratorKind → Said → Said
+says_iterator k t = record t { iterators = t.iterators ++ k ∷ [] }
+
 abbrev pub nothing_said : Said
 nothing_said = record {
   row = row.Module;
@@ -204,6 +297,12 @@ nothing_said = record {
   private = false;
   predicate = None;
   literal = None;
+  dense = no_body_said;
+  offsets = [];
+  sizes = [];
+  map = no_map;
+  maps = [];
+  iterators = [];
   entries = [];
   defines = [];
   args = [];

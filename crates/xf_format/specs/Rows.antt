@@ -39,9 +39,10 @@ slots row.Extract = tensor.extract_slots
 slots row.Insert = tensor.insert_slots
 slots row.Cast = tensor.cast_slots
 slots (row.Named k) = linalg.named_slots
+slots row.ExtractSlice = tensor.extract_slice_slots
+slots row.InsertSlice = tensor.insert_slice_slots
+slots row.Generic = linalg.generic_slots
 slots row.LinalgYield = linalg.yield_slots
-slots row.Other = linalg.unread_slots
-slots row.Generic = linalg.unread_slots
 
 -- no body, one, or one and optionally else and another
 abbrev pub bodies : Row → Body
@@ -67,12 +68,6 @@ tail r = []
 abbrev pub is_function : Row → Bool
 is_function row.Function = true
 is_function r = false
-
--- an operation that a later reader reads
-abbrev pub is_unread : Row → Bool
-is_unread row.Other = true
-is_unread row.Generic = true
-is_unread r = false
 
 abbrev pub stands : Level → Row → Bool
 stands level.Any r = true

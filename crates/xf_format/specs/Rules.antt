@@ -4,9 +4,13 @@ use Rattle.xf_lex.specs.declared.token.Token.{Token}
 use Rattle.xf_lex.specs.declared.token.TokenKind.{TokenKind}
 use Rattle.xf_lex.specs.declared.token.TokenKind.TheVariants as kind
 use Rattle.xf_type.specs.declared.payload_type.Width.TheVariants as width
-use Rattle.xf_grammar.specs.Tokens.{terminal_at, open_paren, close_paren, minus, colon, equals, open_brace, close_brace}
+use Rattle.xf_grammar.specs.Tokens.{terminal_at, open_paren, close_paren, minus, colon, equals, less, open_brace}
+use Rattle.xf_grammar.specs.Tokens.{close_brace}
 use Rattle.xf_grammar.specs.Reading.{Out}
 use Rattle.xf_grammar.specs.Grammar.{Grammar, skip, refuse, take, peek, need, act, both, listed, scan, Language, read}
+use Rattle.xf_dense.specs.Machine.{start}
+use Rattle.xf_dense.specs.Nests.{close_bracket, close_angle}
+use Rattle.xf_ir.specs.declared.kind.IteratorKind.TheVariants.{Parallel, Reduction}
 use Rattle.xf_format.specs.declared.expected.Expected.{Expected}
 use Rattle.xf_format.specs.declared.expected.Expected.TheVariants as due
 use Rattle.xf_format.specs.declared.list.Item.{Item}
@@ -16,13 +20,16 @@ use Rattle.xf_format.specs.declared.row.FormatElement.{FormatElement}
 use Rattle.xf_format.specs.declared.row.FormatElement.TheVariants as slot
 use Rattle.xf_format.specs.declared.row.Level.{Level}
 use Rattle.xf_format.specs.declared.row.Level.TheVariants as level
+use Rattle.xf_format.specs.declared.row.Side.{Side}
 use Rattle.xf_format.specs.Actions.{Action, begins, defines, argument_is, operand, symbol_is, private_is, predicate_is}
 use Rattle.xf_format.specs.Actions.{literal_is, truth_is, type_is, width_left_out, result_is, unit_entry, truth_entry}
-use Rattle.xf_format.specs.Actions.{text_entry, integer_entry, typed_entry, unread_rest, Reading, free}
+use Rattle.xf_format.specs.Actions.{text_entry, integer_entry, typed_entry, elements_follow, place_is, place_given}
+use Rattle.xf_format.specs.Actions.{dimension_is, gives_dimension, map_is, alias_is, iterator_is, Reading, free}
 use Rattle.xf_format.specs.Actions.{Saying, add, tell, room, space, full}
 use Rattle.xf_format.specs.Tests.{Test, of_kind, of_word, short_symbol, short_word, short_text, an_index, a_width}
-use Rattle.xf_format.specs.Tests.{a_shape, a_predicate, integer_for, width_for, an_operation, an_unread, a_result}
-use Rattle.xf_format.specs.Tests.{passes, allows, State, unread_text, step, close}
+use Rattle.xf_format.specs.Tests.{a_shape, a_predicate, integer_for, width_for, an_operation, a_result, a_one, of_text}
+use Rattle.xf_format.specs.Tests.{next_dimension, a_dimension, a_selected, a_dense_shape, passes, allows, State, step}
+use Rattle.xf_format.specs.Tests.{close}
 use Rattle.xf_format.specs.Words.{spelling}
 
 abbrev pub Rule : Type 0
@@ -62,8 +69,8 @@ silent gap x d = take gap false x skip (refuse d)
 unfoldable pub kind_rule : Bool → Expected → TokenKind → Rule
 kind_rule gap d k = silent gap (of_kind k) d
 
-unfoldable pub word_rule : List ℕ → Rule
-word_rule w = silent true (of_word w) due.Other
+unfoldable pub word_rule : Bool → List ℕ → Rule
+word_rule gap w = silent gap (of_word w) due.Other
 
 -- where one of this kind is due, one that is too long is refused; another token goes on so
 abbrev pub unless_long : TokenKind → Rule → Rule
@@ -146,12 +153,29 @@ number_rule gap negative d =
 abbrev pub truth_or : Bool → List ℕ → Rule → Rule
 truth_or b w off = peek (of_word w) (need (truth_is b) (take true false (of_word w) (act (truth_is b)) skip)) off
 
+-- the type for whose elements a body stands
+unfoldable pub dense_type_rule : Rule
+dense_type_rule =
+    peek (of_word (codes "tensor"))
+    (need type_is (take true false (of_word (codes "tensor"))
+    (take false true a_dense_shape (act type_is)
+    (peek a_shape (refuse due.Other) (peek (of_kind kind.Shape) (refuse due.Shape) (refuse due.Other)))) skip))
+    (refuse due.Type)
+
+-- < body > : type
+unfoldable pub dense_rule : Rule
+dense_rule =
+    both (act elements_follow)
+    (both (kind_rule false due.Other less)
+    (both (scan start)
+    (both (kind_rule false due.Other close_angle) (both (kind_rule true due.Other colon) dense_type_rule))))
+
 -- the value of a constant
 unfoldable pub literal_rule : Rule
 literal_rule =
     truth_or true (codes "true")
     (truth_or false (codes "false")
-    (peek (of_word (codes "dense")) (need unread_rest (scan unread_text))
+    (take true false (of_word (codes "dense")) dense_rule
     (take true false (of_kind minus) (number_rule false true due.Other) (number_rule true false due.ConstantValue))))
 
 -- ---- discardable attributes
@@ -203,6 +227,42 @@ pair_rule =
     (need operand (both (argument_rule false) (both (kind_rule true due.Other equals) (use_rule true))))
     (refuse due.Other)
 
+-- an integer, behind a sign or not, or %n
+unfoldable pub place_rule : Side → Rule
+place_rule s =
+    peek (of_kind kind.Value) (need (place_given s) (both (act (place_given s)) (use_rule false)))
+    (peek (of_kind minus)
+    (need (place_is s true)
+    (take false false (of_kind minus)
+    (take false true (of_kind kind.Integer) (act (place_is s true)) (refuse due.Other)) skip))
+    (peek (of_kind kind.Integer)
+    (need (place_is s false) (take false true (of_kind kind.Integer) (act (place_is s false)) skip))
+    (refuse due.Other)))
+
+-- 1
+unfoldable pub stride_rule : Rule
+stride_rule = silent false a_one due.Stride
+
+-- "parallel" or "reduction"
+unfoldable pub iterator_rule : Rule
+iterator_rule =
+    peek (of_text (codes "parallel"))
+    (need (iterator_is Parallel) (take false false (of_text (codes "parallel")) (act (iterator_is Parallel)) skip))
+    (peek (of_text (codes "reduction"))
+    (need (iterator_is Reduction) (take false false (of_text (codes "reduction")) (act (iterator_is Reduction)) skip))
+    (refuse due.Other))
+
+-- d0 in a map without dimensions, d1 in one with one, and so on
+unfoldable pub dimension_rule : Rule
+dimension_rule =
+    peek next_dimension (need dimension_is (take false false next_dimension (act dimension_is) skip)) (refuse due.Other)
+
+-- a dimension of the map that it does not give yet
+unfoldable pub given_rule : Rule
+given_rule =
+    peek a_selected (need gives_dimension (take false true a_selected (act gives_dimension) skip))
+    (peek a_dimension (refuse due.DimensionTwice) (refuse due.MapResult))
+
 -- the items of a list; behind the first one a blank stands before each
 abbrev pub item_rule : Item → Rule
 item_rule (item.Use gap) = use_rule gap
@@ -211,6 +271,11 @@ item_rule item.Result = result_rule false
 item_rule item.Param = param_rule
 item_rule item.Pair = pair_rule
 item_rule item.Entry = entry_rule
+item_rule (item.Place s) = place_rule s
+item_rule item.Stride = stride_rule
+item_rule item.Iterator = iterator_rule
+item_rule item.Dimension = dimension_rule
+item_rule item.Given = given_rule
 
 -- items, possibly none, and the token that ends them, where this is due behind an item
 unfoldable pub until_rule : TokenKind → Expected → Item → Rule
@@ -219,6 +284,29 @@ until_rule close d i = take false false (of_kind close) skip (both (listed (item
 -- the same up to a parenthesis
 abbrev pub enclosed_rule : Item → Expected → Rule
 enclosed_rule i d = until_rule close_paren d i
+
+-- < ( dimensions ) -> ( results ) >
+unfoldable pub map_form_rule : Rule
+map_form_rule =
+    both (kind_rule false due.Other less)
+    (both (kind_rule false due.Other open_paren)
+    (both (until_rule close_paren due.Other item.Dimension)
+    (both (kind_rule true due.AfterDimensions kind.Arrow)
+    (both (kind_rule true due.Other open_paren)
+    (both (until_rule close_paren due.AfterMapResult item.Given) (kind_rule false due.Other close_angle))))))
+
+-- affine_map with its form, or an alias
+unfoldable pub map_rule : Rule
+map_rule =
+    peek (of_word (codes "affine_map"))
+    (need map_is (take false false (of_word (codes "affine_map")) (both map_form_rule (act map_is)) skip))
+    (peek (of_kind kind.Hash) (need alias_is (take false true (of_kind kind.Hash) (act alias_is) skip))
+    (refuse due.Other))
+
+-- maps, possibly none, and the bracket behind them
+unfoldable pub maps_rule : Rule
+maps_rule =
+    take false false (of_kind close_bracket) skip (both (listed map_rule) (kind_rule false due.Other close_bracket))
 
 -- optional { entries }
 unfoldable pub dictionary_rule : Rule
@@ -229,6 +317,13 @@ unfoldable pub attributes_rule : Rule
 attributes_rule =
     take true false (of_word (codes "attributes"))
     (both (kind_rule true due.Other open_brace) (until_rule close_brace due.Other item.Entry)) skip
+
+-- optional attrs = { entries }
+unfoldable pub marked_rule : Rule
+marked_rule =
+    take true false (of_word (codes "attrs"))
+    (both (kind_rule true due.Other equals)
+    (both (kind_rule true due.Other open_brace) (until_rule close_brace due.Other item.Entry))) skip
 
 -- ---- types and operands
 
@@ -269,7 +364,11 @@ typed_rule =
 
 -- ins ( operands : types )
 unfoldable pub ins_rule : Rule
-ins_rule = both (word_rule (codes "ins")) (both (kind_rule false due.Other open_paren) typed_rule)
+ins_rule = both (word_rule true (codes "ins")) (both (kind_rule false due.Other open_paren) typed_rule)
+
+-- optional ins ( operands : types )
+unfoldable pub some_ins_rule : Rule
+some_ins_rule = take true false (of_word (codes "ins")) (both (kind_rule false due.Other open_paren) typed_rule) skip
 
 -- outs ( operand : type )
 unfoldable pub outs_rule : Rule
@@ -298,7 +397,7 @@ loop_width_rule =
 
 abbrev pub slot_rule : FormatElement → Rule
 slot_rule (slot.Mark gap b) = kind_rule gap due.Other (kind.Mark b)
-slot_rule (slot.Word k) = word_rule (spelling k)
+slot_rule (slot.Word gap k) = word_rule gap (spelling k)
 slot_rule slot.ModuleName = module_name_rule
 slot_rule slot.FunctionName = function_name_rule
 slot_rule slot.Symbol = symbol_rule
@@ -317,9 +416,11 @@ slot_rule slot.ResultType = result_rule true
 slot_rule slot.ResultTensor = result_tensor_rule true
 slot_rule slot.Arrow = kind_rule true due.Other kind.Arrow
 slot_rule slot.Ins = ins_rule
+slot_rule slot.SomeIns = some_ins_rule
 slot_rule slot.Outs = outs_rule
 slot_rule slot.Types = enclosed_rule (item.Type false) due.Other
 slot_rule slot.Params = enclosed_rule item.Param due.AfterArgument
+slot_rule slot.BlockParams = enclosed_rule item.Param due.Other
 slot_rule slot.Operands = operands_rule
 slot_rule slot.CallResults = call_results_rule
 slot_rule slot.FunctionResults = function_results_rule
@@ -327,7 +428,11 @@ slot_rule slot.IfResults = if_results_rule
 slot_rule slot.IterArgs = iter_args_rule
 slot_rule slot.LoopWidth = loop_width_rule
 slot_rule slot.BlockName = block_name_rule
-slot_rule slot.Unread = need unread_rest (scan unread_text)
+slot_rule (slot.Places s) = until_rule close_bracket due.Other (item.Place s)
+slot_rule slot.Strides = until_rule close_bracket due.Other item.Stride
+slot_rule slot.Maps = maps_rule
+slot_rule slot.Iterators = until_rule close_bracket due.Other item.Iterator
+slot_rule slot.MarkedAttributes = marked_rule
 
 abbrev pub slots_rule : List FormatElement → Rule
 slots_rule [] = skip
@@ -345,8 +450,7 @@ due_at level.Any = due.Operation
 -- the word of an operation
 unfoldable pub row_rule : Level → Rule
 row_rule l =
-    take true true (an_operation l) (act begins)
-    (peek (an_unread l) (refuse due.OtherReader) (refuse (due_at l)))
+    take true true (an_operation l) (act begins) (refuse (due_at l))
 
 -- behind the name of results: = , or :k = for k results
 unfoldable pub defines_rule : Rule

@@ -12,7 +12,7 @@ words = (codes "scf.for", row.For) ∷ (codes "scf.if", row.If) ∷ (codes "scf.
 
 -- scf.for %arg0 = %0 to %1 step %2 iter_args(%arg1 = %3) -> (i32) : i64
 abbrev pub for_slots : List FormatElement
-for_slots = Argument ∷ Mark true 61 ∷ Use 0 ∷ Word key.To ∷ Use 1 ∷ Word key.Step ∷ Use 2 ∷ IterArgs ∷ LoopWidth ∷ []
+for_slots = Argument ∷ Mark true 61 ∷ Use 0 ∷ Word true key.To ∷ Use 1 ∷ Word true key.Step ∷ Use 2 ∷ IterArgs ∷ LoopWidth ∷ []
 
 -- scf.if %0 -> (i32)
 abbrev pub if_slots : List FormatElement

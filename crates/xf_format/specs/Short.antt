@@ -9,3 +9,8 @@ pub record HasShortParts (p : Parts) : Type 0 where
   pub uses : length p.uses < 2 ^ 32
   pub types : length p.types < 2 ^ 32
   pub results : length p.results < 2 ^ 32
+  pub literals : length p.dense.literals < 2 ^ 32
+  pub offsets : length p.offsets < 2 ^ 32
+  pub sizes : length p.sizes < 2 ^ 32
+  pub maps : length p.maps < 2 ^ 32
+  pub iterators : length p.iterators < 2 ^ 32

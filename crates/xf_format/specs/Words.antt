@@ -1,5 +1,8 @@
 -- What tokens mean by their bytes: the words of operations, types and predicates, and shapes.
-use Rattle.std.specs.Prelude.{ℕ, List, [], Option, Some, None, Bool, false, ◌&&◌, not, codes, is_some}
+use Rattle.std.specs.Prelude.{ℕ, List, [], ◌∷◌, Option, Some, None, Bool, true, false, ◌&&◌, not, ◌==◌, codes}
+use Rattle.std.specs.Prelude.{is_some, if◌then◌else◌}
+use Rattle.std.specs.List.{list_all}
+use Rattle.xf_type.specs.Bytes.{is_digit}
 use Rattle.xf_type.specs.declared.kind.CmpKind.{CmpKind}
 use Rattle.xf_type.specs.declared.kind.CmpKind.TheVariants as cmp
 use Rattle.xf_type.specs.declared.payload_type.PayloadType.{PayloadType}
@@ -11,13 +14,13 @@ use Rattle.xf_type.specs.Spelling.{all_predicates, predicate_spelling}
 use Rattle.xf_lex.specs.declared.token.TokenKind.TheVariants as token
 pub use Rattle.xf_shape.specs.Widths.{Table, lookup, spelt, widths}
 use Rattle.xf_shape.specs.Shapes.{shape_of}
-use Rattle.xf_grammar.specs.Tokens.{Terminal, terminal, word_of}
+use Rattle.xf_grammar.specs.Tokens.{Terminal, terminal, word_of, number_of}
 use Rattle.xf_format.specs.declared.row.Keyword.{Keyword}
 use Rattle.xf_format.specs.declared.row.Keyword.TheVariants as key
 use Rattle.xf_format.specs.declared.row.Level.{Level}
 use Rattle.xf_format.specs.declared.row.Row.{Row}
 use Rattle.xf_format.specs.declared.row.Row.TheVariants as row
-use Rattle.xf_format.specs.Rows.{words, stands, is_unread, has_operations}
+use Rattle.xf_format.specs.Rows.{words, stands}
 
 abbrev pub predicates : Table CmpKind
 predicates = spelt predicate_spelling all_predicates
@@ -26,6 +29,8 @@ abbrev pub spelling : Keyword → List ℕ
 spelling key.To = codes "to"
 spelling key.Step = codes "step"
 spelling key.Into = codes "into"
+spelling key.IndexingMaps = codes "indexing_maps"
+spelling key.IteratorTypes = codes "iterator_types"
 
 -- ---- the width, the type and the predicate that a token means
 
@@ -68,6 +73,27 @@ the_predicate None = cmp.Eq
 abbrev pub predicate_meant : Terminal → CmpKind
 predicate_meant x = the_predicate (lookup predicates (word_of x))
 
+-- ---- the dimension that a word means: d, and its number in decimals without a 0 before them
+
+abbrev pub leads : List ℕ → Bool
+leads [] = false
+leads (b ∷ []) = true
+leads (b ∷ bs) = not (b == 48)
+
+abbrev pub dimension_by : List ℕ → Option ℕ
+dimension_by digits = if list_all is_digit digits && leads digits then Some (number_of digits) else None
+
+abbrev pub dimension_of : List ℕ → Option ℕ
+dimension_of [] = None
+dimension_of (b ∷ digits) = if b == 100 then dimension_by digits else None
+
+abbrev pub dimension_or : Option ℕ → ℕ
+dimension_or None = 0
+dimension_or (Some k) = k
+
+abbrev pub dimension_meant : Terminal → ℕ
+dimension_meant x = dimension_or (dimension_of (word_of x))
+
 -- ---- the row that a token begins
 
 abbrev pub row_begun : Terminal → Option Row
@@ -77,11 +103,7 @@ abbrev pub the_row : Option Row → Row
 the_row (Some r) = r
 the_row None = row.Module
 
--- whether a row is read at a level; or stands there, and a later reader reads it
+-- whether a row stands at a level
 abbrev pub opens : Level → Option Row → Bool
-opens l (Some r) = stands l r && not (is_unread r)
+opens l (Some r) = stands l r
 opens l None = false
-
-abbrev pub opens_unread : Level → Option Row → Bool
-opens_unread l (Some r) = has_operations l && is_unread r
-opens_unread l None = false

@@ -49,7 +49,7 @@ pub const CONVERT: [FormatElement; 6] = [
     FormatElement::Dictionary,
     FormatElement::Mark(true, b':'),
     FormatElement::Width(0),
-    FormatElement::Word(Keyword::To),
+    FormatElement::Word(true, Keyword::To),
     FormatElement::Width(1),
 ];
 

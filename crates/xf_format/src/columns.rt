@@ -1,6 +1,6 @@
 //! How the values of an operation follow from what its row states: the types of operands, of results and of block
 //! arguments, and how many operands there are.
-ghost use Rattle.std.specs.Prelude.{◌≡◌, IfOk, length};
+ghost use Rattle.std.specs.Prelude.{◌≡◌, IfOk, drop, length};
 ghost use Rattle.std.specs.Option.{option_copied};
 ghost use Rattle.xf_format.specs.Columns.{operand_types, result_types, argument_types, operand_count};
 ghost use Rattle.xf_format.specs.Columns.{operand_type, one_type, element_of, types_given, types_taken, is_counted};
@@ -45,6 +45,8 @@ pub enum ArgumentTypes {
     Stated,
     /// The one that is stated, and those of the results.
     Loop,
+    /// Those that are stated behind the types of the operands.
+    Behind,
 }
 
 /// How many operands there are to be.
@@ -56,6 +58,8 @@ pub enum OperandCount {
     Types,
     /// Three, and as many as results.
     Loop,
+    /// No more than types that are stated.
+    AtMost,
 }
 
 /// Which types belong to the operands of a row.
@@ -76,10 +80,11 @@ fn result_types(row: Row) -> ResultTypes
     ensures { result ≡ result_types row }
 {
     match row {
-        Row::Call | Row::For | Row::If | Row::Empty | Row::Cast | Row::Named(_) =>
-            ResultTypes::Listed,
+        Row::Call | Row::For | Row::If => ResultTypes::Listed,
+        Row::Empty | Row::Cast | Row::ExtractSlice => ResultTypes::Listed,
+        Row::Named(_) | Row::Generic => ResultTypes::Listed,
         Row::Constant | Row::Binary(_) | Row::Select | Row::Insert => ResultTypes::Stated(0),
-        Row::Convert(_) => ResultTypes::Stated(1),
+        Row::Convert(_) | Row::InsertSlice => ResultTypes::Stated(1),
         Row::Compare => ResultTypes::Scalar(Width::I1),
         Row::Dim => ResultTypes::Scalar(Width::Index),
         Row::Extract => ResultTypes::Element,
@@ -94,6 +99,7 @@ fn argument_types(row: Row) -> ArgumentTypes
     match row {
         Row::Function => ArgumentTypes::Stated,
         Row::For => ArgumentTypes::Loop,
+        Row::Generic => ArgumentTypes::Behind,
         _ => ArgumentTypes::Nothing,
     }
 }
@@ -105,6 +111,7 @@ fn operand_count(row: Row) -> OperandCount
     match row {
         Row::Return | Row::Call | Row::Yield | Row::Named(_) => OperandCount::Types,
         Row::For => OperandCount::Loop,
+        Row::Generic => OperandCount::AtMost,
         _ => OperandCount::Any,
     }
 }
@@ -162,10 +169,21 @@ pub fn types_given(alloc: Global, parts: &Parts) -> Result<TypeList, NoMemory>
     }
 }
 
+/// The types behind so many. It refuses for want of memory alone.
+fn types_behind(alloc: Global, types: &TypeList, count: usize) -> Result<TypeList, NoMemory>
+    ensures { IfOk result (λ behind. behind ≡ drop count types.now) }
+{
+    let mut behind = TypeList::new(alloc);
+    for ty in types.as_slice().iter().skip(count) {
+        behind.push(ty.duplicate(alloc)?)?;
+    }
+    Ok(behind)
+}
+
 /// The types of the block arguments. It refuses for want of memory alone.
 pub fn types_taken(alloc: Global, parts: &Parts) -> Result<TypeList, NoMemory>
     ensures { IfOk result (λ types. types
-        ≡ types_taken (argument_types parts.now.row) parts.now.types parts.now.results) }
+        ≡ types_taken (argument_types parts.now.row) (length parts.now.uses) parts.now.types parts.now.results) }
 {
     match argument_types(parts.row) {
         ArgumentTypes::Nothing => Ok(TypeList::new(alloc)),
@@ -175,6 +193,7 @@ pub fn types_taken(alloc: Global, parts: &Parts) -> Result<TypeList, NoMemory>
             types.append(parts.results.duplicate(alloc)?)?;
             Ok(types)
         }
+        ArgumentTypes::Behind => types_behind(alloc, &parts.types, parts.uses.len()),
     }
 }
 
@@ -188,5 +207,6 @@ pub fn is_counted(parts: &Parts) -> bool
         OperandCount::Any => true,
         OperandCount::Types => uses == parts.types.len(),
         OperandCount::Loop => uses >= 3 && uses - 3 == parts.results.len(),
+        OperandCount::AtMost => uses <= parts.types.len(),
     }
 }

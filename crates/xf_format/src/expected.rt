@@ -14,9 +14,6 @@ pub enum Expected {
     Function,
     /// An operation of a body: where none begins in one, or behind the names of results.
     Operation,
-    /// What is read here, and what a later reader reads stands there: at the word of an operation on
-    /// slices, of `linalg.generic`, or at a `dense` literal.
-    OtherReader,
     /// A type: where neither a width nor a tensor type stands.
     Type,
     /// A shape that writes a tensor type: at a shape token that writes none. Where no shape stands behind `tensor`,
@@ -33,10 +30,22 @@ pub enum Expected {
     /// The symbol of a function, or `private` before it: behind `func.func`. Behind `private` a missing
     /// symbol is `Other`.
     FunctionName,
-    /// `,` or `)`: behind the type of an argument of a function or of a block.
+    /// `,` or `)`: behind the type of an argument of a function.
     AfterArgument,
     /// `,` or `)`: behind one of several result types of a function.
     AfterResult,
+    /// An item of the body of a `dense` constant: a literal or a list.
+    DenseItem,
+    /// A stride of a slice, which is 1.
+    Stride,
+    /// `->`: behind the dimensions of a map.
+    AfterDimensions,
+    /// A dimension of the map, where one that it does not have or another token stands.
+    MapResult,
+    /// Another dimension of the map, where one stands that it gives already.
+    DimensionTwice,
+    /// `,` or `)`: behind a dimension that a map gives.
+    AfterMapResult,
     /// `outs`: behind the word or the `ins` of an operation of `linalg`.
     Outs,
     /// The operand of `outs`: behind its `(`.

@@ -7,7 +7,7 @@ ghost use Rattle.xf_format.specs.Rules.{by, by_held, due_at, defines_rule, row_r
 
 use crate::expected::{Expected, Stopped};
 use crate::parts::{Parts, Ref};
-use crate::row::{Level, Row, has_operations, is_unread, row_slots, stands};
+use crate::row::{Level, Row, has_operations, row_slots, stands};
 use crate::single::{count_at, expects};
 use crate::slot::slots_at;
 use crate::word::row_of;
@@ -63,12 +63,9 @@ fn row_at(tokens: &[Token], level: Level, parts: &mut Parts, at: usize) -> Resul
     ensures within { IfOk result (λ n. (at < n) × (n ≤ length tokens.now)) }
 {
     match row_of(word_at(tokens, at)) {
-        Some(row) if stands(level, row) && !is_unread(row) => {
+        Some(row) if stands(level, row) => {
             parts.row = row;
             Ok(at + 1)
-        }
-        Some(row) if has_operations(level) && is_unread(row) => {
-            Err(Stopped::At(at, Expected::OtherReader))
         }
         _ => Err(Stopped::At(at, due_at(level))),
     }

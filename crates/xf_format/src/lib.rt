@@ -6,14 +6,19 @@ mod arith;
 mod builtin;
 mod columns;
 mod dictionary;
+mod dimension;
+mod elements;
 mod expected;
 mod func;
 mod heads;
+mod iterator;
 mod law;
 mod linalg;
 mod list;
+mod maps;
 mod names;
 mod parts;
+mod place;
 mod quoted;
 mod row;
 mod scf;
@@ -31,10 +36,13 @@ pub use expected::{Expected, Stopped};
 pub use heads::{due_at, due_before, head_at, may_end_open};
 pub use law::{heads_are_bounded, heads_are_read_as_written, no_head_goes_on};
 pub use list::Item;
-pub use parts::{AttrEntry, EntryList, EntryValue, Literal, Parts, Ref, RefList, Use, UseList};
+pub use parts::{
+    AttrEntry, EntryList, EntryValue, Literal, MapEntry, MapEntryList, Parts, PlaceEntry,
+    PlaceEntryList, Ref, RefList, Use, UseList,
+};
 pub use quoted::{behind_first, decoded, decoded_len};
 pub use row::{
-    Body, FormatElement, Keyword, Level, Row, behind, has_operations, inside, is_unread, is_yield,
+    Body, FormatElement, Keyword, Level, Row, Side, behind, has_operations, inside, is_yield,
     row_bodies, row_header, row_slots, row_tail, stands,
 };
 pub use slot::slots_at;

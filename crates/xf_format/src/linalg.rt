@@ -3,7 +3,7 @@ ghost use Rattle.std.specs.Prelude.{◌≡◌};
 ghost use Rattle.xf_format.specs.Words.{lookup};
 ghost use Rattle.xf_format.specs.Linalg.{words};
 
-use crate::row::{FormatElement, Row};
+use crate::row::{FormatElement, Keyword, Row};
 use xf_ir::NamedKind;
 
 /// `linalg.matmul {..} ins(%0, %1 : type, type) outs(%2 : type) -> type`
@@ -23,19 +23,34 @@ pub const YIELD: [FormatElement; 4] = [
     FormatElement::WidthOf(0),
 ];
 
-/// What stands behind the word of an operation that is not read yet, up to the brace of its body.
-pub const UNREAD: [FormatElement; 1] = [FormatElement::Unread];
+/// `linalg.generic {indexing_maps = [..], iterator_types = [..]} ins(%0 : type) outs(%1 : type) attrs = {..}`
+pub const GENERIC: [FormatElement; 14] = [
+    FormatElement::Mark(true, b'{'),
+    FormatElement::Word(false, Keyword::IndexingMaps),
+    FormatElement::Mark(true, b'='),
+    FormatElement::Mark(true, b'['),
+    FormatElement::Maps,
+    FormatElement::Mark(false, b','),
+    FormatElement::Word(true, Keyword::IteratorTypes),
+    FormatElement::Mark(true, b'='),
+    FormatElement::Mark(true, b'['),
+    FormatElement::Iterators,
+    FormatElement::Mark(false, b'}'),
+    FormatElement::SomeIns,
+    FormatElement::Outs,
+    FormatElement::MarkedAttributes,
+];
 
 /// `^bb0(%arg0: i32):`
 pub const HEADER: [FormatElement; 4] = [
     FormatElement::BlockName,
     FormatElement::Mark(false, b'('),
-    FormatElement::Params,
+    FormatElement::BlockParams,
     FormatElement::Mark(false, b':'),
 ];
 
 /// `-> type`
-pub const TAIL: [FormatElement; 1] = [FormatElement::CallResults];
+pub const TAIL: [FormatElement; 2] = [FormatElement::Arrow, FormatElement::ResultType];
 
 /// The row of the dialect that a word begins.
 pub fn row_of(word: &[u8]) -> Option<Row>

@@ -6,8 +6,12 @@ ghost use Rattle.xf_format.specs.Reading.{Gives};
 ghost use Rattle.xf_format.specs.Rules.{by, item_rule, pair_rule, param_rule, until_rule};
 
 use crate::dictionary::entry_at;
+use crate::dimension::{dimension_at, given_at};
 use crate::expected::{Expected, Stopped};
+use crate::iterator::iterator_at;
 use crate::parts::{MOST_ENTRIES, Parts};
+use crate::place::{place_at, stride_at};
+use crate::row::Side;
 use crate::single::{argument_at, expects, result_at, type_at, use_at};
 use std::alloc::Global;
 use xf_grammar::looks;
@@ -28,6 +32,16 @@ pub enum Item {
     Pair,
     /// A discardable attribute.
     Entry,
+    /// An offset or a size of a window.
+    Place(Side),
+    /// A stride, which is 1.
+    Stride,
+    /// An iterator type.
+    Iterator,
+    /// The next dimension of a map.
+    Dimension,
+    /// A dimension that a map gives.
+    Given,
 }
 
 /// A block argument with its type.
@@ -76,6 +90,11 @@ fn item_at(
         Item::Param => param_at(alloc, tokens, parts, at),
         Item::Pair => pair_at(tokens, parts, at),
         Item::Entry => entry_at(tokens, parts, at),
+        Item::Place(side) => place_at(tokens, side, parts, at),
+        Item::Stride => stride_at(tokens, parts, at),
+        Item::Iterator => iterator_at(tokens, parts, at),
+        Item::Dimension => dimension_at(tokens, parts, at),
+        Item::Given => given_at(tokens, parts, at),
     }
 }
 

@@ -4,7 +4,9 @@ ghost use Rattle.xf_format.specs.Parts.{no_parts};
 
 use crate::row::Row;
 use std::alloc::Global;
-use xf_type::{CmpKind, ListOf, TypeList, Width};
+use xf_dense::Body;
+use xf_ir::IteratorList;
+use xf_type::{AffineMap, CmpKind, ListOf, PlaceList, TypeList, Width};
 
 /// How many entries a list of an operation may have, and bytes a name or a string.
 pub const MOST_ENTRIES: usize = 0xffff_ffff;
@@ -31,14 +33,40 @@ pub struct Use {
 /// Names of operands, in order.
 pub type UseList = ListOf<Use>;
 
-/// The value of a scalar constant.
+/// The value of a constant.
 #[derive(Clone, Copy, Debug, PartialEq, Eq)]
 pub enum Literal {
     /// `true` or `false`, as a number of the width 1.
     Truth(bool),
     /// The number that the token with this number writes, with a `-` before it or not.
     Integer { negative: bool, token: usize },
+    /// The numbers of a tensor, which the body has.
+    Elements,
 }
+
+/// An offset or a size of a window.
+#[derive(Clone, Copy, Debug, PartialEq, Eq)]
+pub enum PlaceEntry {
+    /// The number that the token with this number writes, with a `-` before it or not.
+    Number { negative: bool, token: usize },
+    /// The next operand.
+    Value,
+}
+
+/// The offsets or the sizes of a window, in order.
+pub type PlaceEntryList = ListOf<PlaceEntry>;
+
+/// A map of a `linalg.generic`.
+#[derive(Debug, Drop)]
+pub enum MapEntry {
+    /// One that is written.
+    Written(AffineMap),
+    /// The one that the alias means which the token with this number names.
+    Alias(usize),
+}
+
+/// Maps, in the order of the text.
+pub type MapEntryList = ListOf<MapEntry>;
 
 /// The value of a discardable attribute.
 #[derive(Clone, Copy, Debug, PartialEq, Eq)]
@@ -82,8 +110,20 @@ pub struct Parts {
     pub private: bool,
     /// The predicate of a comparison, and none of other operations.
     pub predicate: Option<CmpKind>,
-    /// The value of a scalar constant, and none of other operations.
+    /// The value of a constant, and none of other operations.
     pub literal: Option<Literal>,
+    /// The body of a constant that is a tensor, and an empty one of other operations.
+    pub dense: Body,
+    /// The offsets of the window of a slice. The operands among them stand among the others too, in order.
+    pub offsets: PlaceEntryList,
+    /// The sizes of the window, likewise.
+    pub sizes: PlaceEntryList,
+    /// What is read of a map that is not whole yet; else one without dimensions.
+    pub map: AffineMap,
+    /// The maps of a `linalg.generic`.
+    pub maps: MapEntryList,
+    /// Its iterator types.
+    pub iterators: IteratorList,
     /// Discardable attributes, a name twice where the text has it twice.
     pub entries: EntryList,
     /// The names of the results, `%n` and `%n:k`: one at most.
@@ -112,6 +152,15 @@ impl Parts {
             private: false,
             predicate: None,
             literal: None,
+            dense: Body::new(alloc),
+            offsets: ListOf::new(alloc),
+            sizes: ListOf::new(alloc),
+            map: AffineMap {
+                dims: 0,
+                results: PlaceList::new(alloc),
+            },
+            maps: ListOf::new(alloc),
+            iterators: ListOf::new(alloc),
             entries: ListOf::new(alloc),
             defines: ListOf::new(alloc),
             args: ListOf::new(alloc),

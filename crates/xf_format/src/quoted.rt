@@ -1,5 +1,6 @@
 //! What a string stands for.
 ghost use Rattle.std.specs.Prelude.{◌≡◌, ◌≤◌, drop, length, IfOk};
+ghost use Rattle.std.specs.Str.{bytes_eq};
 ghost use Rattle.xf_format.specs.Strings.{escaped_byte, step_of, decoded};
 
 use std::alloc::Global;
@@ -100,4 +101,27 @@ pub fn decoded_len(quoted: &[u8]) -> usize
         }
     }
     count
+}
+
+/// Whether a string with its quotes stands for these bytes.
+pub fn stands_for(quoted: &[u8], bytes: &[u8]) -> bool
+    ensures { result ≡ bytes_eq (decoded quoted.now) bytes.now }
+{
+    let mut rest = bytes;
+    let mut escape = Escape::Nothing;
+    let inner = behind_first(quoted);
+    for b in inner {
+        match step_of(escape, *b) {
+            StringStep::End => return rest.is_empty(),
+            StringStep::Wait(next) => escape = next,
+            StringStep::Byte(byte) => match rest {
+                [first, others @ ..] if byte == *first => {
+                    rest = others;
+                    escape = Escape::Nothing;
+                }
+                _ => return false,
+            },
+        }
+    }
+    rest.is_empty()
 }

@@ -1,6 +1,6 @@
 //! The table of the operations: the slots, the bodies and the tail of each row, as data.
 ghost use Rattle.std.specs.Prelude.{◌≡◌};
-ghost use Rattle.xf_format.specs.Rows.{slots, bodies, header, tail, stands, is_unread, has_operations, inside};
+ghost use Rattle.xf_format.specs.Rows.{slots, bodies, header, tail, stands, has_operations, inside};
 ghost use Rattle.xf_format.specs.Rows.{behind, is_yield};
 ghost use Rattle.xf_format.specs.Words.{spelling};
 
@@ -47,12 +47,14 @@ pub enum Row {
     Cast,
     /// An operation of `linalg` with a name.
     Named(NamedKind),
+    /// `tensor.extract_slice`
+    ExtractSlice,
+    /// `tensor.insert_slice`
+    InsertSlice,
+    /// `linalg.generic`
+    Generic,
     /// `linalg.yield`
     LinalgYield,
-    /// An operation on slices of tensors, which is not read yet.
-    Other,
-    /// `linalg.generic`, which is not read yet.
-    Generic,
 }
 
 /// A word that a row writes.
@@ -61,6 +63,8 @@ pub enum Keyword {
     To,
     Step,
     Into,
+    IndexingMaps,
+    IteratorTypes,
 }
 
 impl Keyword {
@@ -72,19 +76,30 @@ impl Keyword {
             Keyword::To => b"to",
             Keyword::Step => b"step",
             Keyword::Into => b"into",
+            Keyword::IndexingMaps => b"indexing_maps",
+            Keyword::IteratorTypes => b"iterator_types",
         }
     }
 }
 
+/// The one or the other list of a window, which is what a slice has of a tensor.
+#[derive(Clone, Copy, Debug, PartialEq, Eq)]
+pub enum Side {
+    /// Where it begins in each dimension.
+    Offsets,
+    /// How many elements it has in each dimension.
+    Sizes,
+}
+
 /// A slot of a row: what its operations write at one place, and where they have what it reads among
-/// their parts. In print a blank stands before a slot, but for a mark with `false` and for what goes on
-/// in parentheses. Where a slot may be left out, the next token alone tells whether it is.
+/// their parts. In print a blank stands before a slot, but for a mark or word with `false` and for what goes on
+/// in parentheses or brackets. Where a slot may be left out, the next token alone tells whether it is.
 #[derive(Clone, Copy)]
 pub enum FormatElement {
     /// A mark of one byte, with a blank before it in print or none. It is no part.
     Mark(bool, u8),
-    /// A word. It is no part.
-    Word(Keyword),
+    /// A word, with a blank before it in print or none. It is no part.
+    Word(bool, Keyword),
     /// The symbol of a module, which may be left out.
     ModuleName,
     /// The symbol of a function, with `private` before it or not.
@@ -123,12 +138,16 @@ pub enum FormatElement {
     Arrow,
     /// `ins` with the operands but for the last and their types in parentheses.
     Ins,
+    /// The same, which is left out where there are none.
+    SomeIns,
     /// `outs` with the last operand and its type in parentheses.
     Outs,
     /// Types of operands, possibly none, and the `)` behind them.
     Types,
-    /// Arguments with their types, `%n: type`, possibly none, and the `)` behind them.
+    /// Arguments of a function with their types, `%n: type`, possibly none, and the `)` behind them.
     Params,
+    /// The same of a block.
+    BlockParams,
     /// One or several operands, `:` and as many types as are written, which may be left out together.
     Operands,
     /// `->` and one result type, or result types in parentheses.
@@ -144,8 +163,16 @@ pub enum FormatElement {
     LoopWidth,
     /// The name of a block. It is no part.
     BlockName,
-    /// What is not read yet: no token fits, and a later reader is due.
-    Unread,
+    /// The offsets or the sizes of a window, integers or operands, possibly none, and the `]` behind them.
+    Places(Side),
+    /// Strides, each of which is 1, possibly none, and the `]` behind them. They are no part.
+    Strides,
+    /// Maps, `affine_map<(d0, d1) -> (d1)>` or an alias of one, possibly none, and the `]` behind them.
+    Maps,
+    /// `"parallel"` and `"reduction"`, possibly none, and the `]` behind them.
+    Iterators,
+    /// `attrs =` and discardable attributes in braces, which may be left out.
+    MarkedAttributes,
 }
 
 /// The bodies of an operation.
@@ -181,8 +208,10 @@ pub fn row_slots(row: Row) -> &'static [FormatElement]
         Row::Insert => &tensor::INSERT,
         Row::Cast => &tensor::CAST,
         Row::Named(_) => &linalg::NAMED,
+        Row::ExtractSlice => &tensor::EXTRACT_SLICE,
+        Row::InsertSlice => &tensor::INSERT_SLICE,
+        Row::Generic => &linalg::GENERIC,
         Row::LinalgYield => &linalg::YIELD,
-        Row::Other | Row::Generic => &linalg::UNREAD,
     }
 }
 
@@ -244,13 +273,6 @@ pub fn stands(level: Level, row: Row) -> bool
         (Level::Body, Row::Module | Row::Function) => false,
         (Level::Body, _) => true,
     }
-}
-
-/// Whether a row is not read yet.
-pub fn is_unread(row: Row) -> bool
-    ensures { result ≡ is_unread row }
-{
-    matches!(row, Row::Other | Row::Generic)
 }
 
 /// Whether operations other than modules and functions stand at a level.

@@ -42,7 +42,8 @@ pub fn expects(
 /// A word.
 #[tactic(auto, unfolding(crate::specs::Rules::word_rule))]
 pub fn word_is(tokens: &[Token], word: &[u8], parts: &Parts, at: usize) -> Result<usize, Stopped>
-    ensures gives { Gives (λ n. (free parts.now, n)) result (by (word_rule word.now) tokens.now parts.now at) }
+    ensures gives { (gap : Bool) → Gives (λ n. (free parts.now, n))
+        result (by (word_rule gap word.now) tokens.now parts.now at) }
     ensures within { IfOk result (λ n. (at ≤ n) × (n ≤ length tokens.now)) }
 {
     if says(tokens, at, word) {
@@ -187,7 +188,7 @@ pub fn width_at(
 }
 
 /// The tensor type that a shape token writes, where one is due.
-fn shape_at(alloc: Global, tokens: &[Token], at: usize) -> Result<Shape, Stopped>
+pub fn shape_at(alloc: Global, tokens: &[Token], at: usize) -> Result<Shape, Stopped>
     ensures told { ShapeTold (terminal_at tokens.now at) at result }
     ensures within { IfOk result (λ s. at < length tokens.now) }
 {

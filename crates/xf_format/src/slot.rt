@@ -9,10 +9,15 @@ ghost use Rattle.xf_format.specs.Reading.{Gives};
 ghost use Rattle.xf_format.specs.Rules.{by, attributes_rule, call_results_rule, dictionary_rule, enclosed_rule};
 ghost use Rattle.xf_format.specs.Rules.{function_results_rule, if_results_rule, iter_args_rule, listed_results_rule};
 ghost use Rattle.xf_format.specs.Rules.{literal_rule, loop_width_rule, number_rule, operands_rule, result_types_rule};
-ghost use Rattle.xf_format.specs.Rules.{slot_rule, slots_rule, typed_rule, ins_rule, outs_rule};
+ghost use Rattle.xf_format.specs.Rules.{slot_rule, slots_rule, typed_rule, ins_rule, some_ins_rule, outs_rule};
+ghost use Rattle.xf_format.specs.Rules.{until_rule, marked_rule};
+ghost use Rattle.xf_format.specs.declared.expected.Expected.TheVariants as due;
+ghost use Rattle.xf_dense.specs.Nests.{close_bracket};
 
+use crate::elements::dense_at;
 use crate::expected::{Expected, Stopped};
 use crate::list::{Item, list_at, list_until};
+use crate::maps::maps_at;
 use crate::parts::{Literal, MOST_ENTRIES, Parts};
 use crate::row::FormatElement;
 use crate::single::{
@@ -63,9 +68,14 @@ fn add_truth(parts: &mut Parts, truth: bool) -> Result<(), NoMemory>
     Ok(())
 }
 
-/// The value of a scalar constant.
+/// The value of a constant.
 #[tactic(auto, unfolding(crate::specs::Rules::literal_rule))]
-fn literal_at(tokens: &[Token], parts: &mut Parts, at: usize) -> Result<usize, Stopped>
+fn literal_at(
+    alloc: Global,
+    tokens: &[Token],
+    parts: &mut Parts,
+    at: usize,
+) -> Result<usize, Stopped>
     ensures gives { Gives (λ n. (free parts.new, n)) result (by literal_rule tokens.now parts.old at) }
     ensures within { IfOk result (λ n. (at ≤ n) × (n ≤ length tokens.now)) }
 {
@@ -84,7 +94,7 @@ fn literal_at(tokens: &[Token], parts: &mut Parts, at: usize) -> Result<usize, S
         return Ok(at + 1);
     }
     if says(tokens, at, b"dense") {
-        return Err(Stopped::At(at, Expected::OtherReader));
+        return dense_at(alloc, tokens, parts, at + 1);
     }
     if looks(tokens, at, TokenKind::Mark(b'-')) {
         return number_is(tokens, true, Expected::Other, parts, at + 1);
@@ -152,6 +162,36 @@ fn attributes_at(
     )
 }
 
+/// `attrs =` and discardable attributes, which may be left out.
+#[tactic(auto, unfolding(crate::specs::Rules::marked_rule))]
+fn marked_at(
+    alloc: Global,
+    tokens: &[Token],
+    parts: &mut Parts,
+    at: usize,
+) -> Result<usize, Stopped>
+    requires { at ≤ length tokens.now }
+    ensures gives { Gives (λ n. (free parts.new, n)) result (by marked_rule tokens.now parts.old at) }
+    ensures within { IfOk result (λ n. (at ≤ n) × (n ≤ length tokens.now)) }
+{
+    if !says(tokens, at, b"attrs") {
+        return Ok(at);
+    }
+    let (equals, open) = (TokenKind::Mark(b'='), TokenKind::Mark(b'{'));
+    let at = expects(tokens, equals, Expected::Other, parts, at + 1)?;
+    let at = expects(tokens, open, Expected::Other, parts, at)?;
+    let close = TokenKind::Mark(b'}');
+    list_until(
+        alloc,
+        tokens,
+        Item::Entry,
+        close,
+        Expected::Other,
+        parts,
+        at,
+    )
+}
+
 /// Items up to a `)`. `due` is due behind an item.
 fn enclosed(
     alloc: Global,
@@ -165,6 +205,22 @@ fn enclosed(
     ensures within { IfOk result (λ n. (at ≤ n) × (n ≤ length tokens.now)) }
 {
     list_until(alloc, tokens, item, TokenKind::Mark(b')'), due, parts, at)
+}
+
+/// Items up to a `]`.
+fn bracketed(
+    alloc: Global,
+    tokens: &[Token],
+    item: Item,
+    parts: &mut Parts,
+    at: usize,
+) -> Result<usize, Stopped>
+    ensures gives { Gives (λ n. (free parts.new, n))
+        result (by (until_rule close_bracket due.Other item) tokens.now parts.old at) }
+    ensures within { IfOk result (λ n. (at ≤ n) × (n ≤ length tokens.now)) }
+{
+    let close = TokenKind::Mark(b']');
+    list_until(alloc, tokens, item, close, Expected::Other, parts, at)
 }
 
 /// One result type, or result types in parentheses. `due` is due behind one of those.
@@ -324,6 +380,26 @@ fn ins_at(alloc: Global, tokens: &[Token], parts: &mut Parts, at: usize) -> Resu
     typed_at(alloc, tokens, parts, at)
 }
 
+/// The same, which may be left out.
+#[tactic(auto, unfolding(crate::specs::Rules::some_ins_rule))]
+fn some_ins_at(
+    alloc: Global,
+    tokens: &[Token],
+    parts: &mut Parts,
+    at: usize,
+) -> Result<usize, Stopped>
+    requires { at ≤ length tokens.now }
+    ensures gives { Gives (λ n. (free parts.new, n)) result (by some_ins_rule tokens.now parts.old at) }
+    ensures within { IfOk result (λ n. (at ≤ n) × (n ≤ length tokens.now)) }
+{
+    if !says(tokens, at, b"ins") {
+        return Ok(at);
+    }
+    let open = TokenKind::Mark(b'(');
+    let at = expects(tokens, open, Expected::Other, parts, at + 1)?;
+    typed_at(alloc, tokens, parts, at)
+}
+
 /// `outs` with an operand and its type in parentheses.
 #[tactic(auto, unfolding(crate::specs::Rules::outs_rule))]
 fn outs_at(alloc: Global, tokens: &[Token], parts: &mut Parts, at: usize) -> Result<usize, Stopped>
@@ -386,13 +462,13 @@ fn slot_at(
             parts,
             at,
         ),
-        FormatElement::Word(keyword) => word_is(tokens, keyword.spelling(), parts, at),
+        FormatElement::Word(_, keyword) => word_is(tokens, keyword.spelling(), parts, at),
         FormatElement::ModuleName => module_name_at(tokens, parts, at),
         FormatElement::FunctionName => function_name_at(tokens, parts, at),
         FormatElement::Symbol => symbol_at(tokens, parts, at),
         FormatElement::Attributes => attributes_at(alloc, tokens, parts, at),
         FormatElement::Dictionary => dictionary_at(alloc, tokens, parts, at),
-        FormatElement::Literal => literal_at(tokens, parts, at),
+        FormatElement::Literal => literal_at(alloc, tokens, parts, at),
         FormatElement::Predicate => predicate_at(tokens, parts, at),
         FormatElement::Argument => argument_at(tokens, parts, at),
         FormatElement::Use(_) => use_at(tokens, parts, at),
@@ -413,6 +489,7 @@ fn slot_at(
         FormatElement::ResultTensor => result_tensor_at(alloc, tokens, parts, at),
         FormatElement::Arrow => expects(tokens, TokenKind::Arrow, Expected::Other, parts, at),
         FormatElement::Ins => ins_at(alloc, tokens, parts, at),
+        FormatElement::SomeIns => some_ins_at(alloc, tokens, parts, at),
         FormatElement::Outs => outs_at(alloc, tokens, parts, at),
         FormatElement::Types => enclosed(
             alloc,
@@ -430,6 +507,14 @@ fn slot_at(
             parts,
             at,
         ),
+        FormatElement::BlockParams => enclosed(
+            alloc,
+            tokens,
+            Item::Param,
+            Expected::Other,
+            parts,
+            at,
+        ),
         FormatElement::Operands => operands_at(alloc, tokens, parts, at),
         FormatElement::CallResults => call_results_at(alloc, tokens, parts, at),
         FormatElement::FunctionResults => function_results_at(alloc, tokens, parts, at),
@@ -437,7 +522,11 @@ fn slot_at(
         FormatElement::IterArgs => iter_args_at(alloc, tokens, parts, at),
         FormatElement::LoopWidth => loop_width_at(tokens, parts, at),
         FormatElement::BlockName => block_name_at(tokens, parts, at),
-        FormatElement::Unread => Err(Stopped::At(at, Expected::OtherReader)),
+        FormatElement::Places(side) => bracketed(alloc, tokens, Item::Place(side), parts, at),
+        FormatElement::Strides => bracketed(alloc, tokens, Item::Stride, parts, at),
+        FormatElement::Maps => maps_at(alloc, tokens, parts, at),
+        FormatElement::Iterators => bracketed(alloc, tokens, Item::Iterator, parts, at),
+        FormatElement::MarkedAttributes => marked_at(alloc, tokens, parts, at),
     }
 }
 
