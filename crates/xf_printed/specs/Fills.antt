@@ -9,7 +9,9 @@ use Rattle.xf_type.specs.Integers.{signed_value}
 use Rattle.xf_type.specs.Spelling.{predicate_spelling}
 use Rattle.xf_lex.specs.declared.token.TokenKind.TheVariants as token
 use Rattle.xf_grammar.specs.Tokens.{terminal, close_paren, minus, colon, equals}
-use Rattle.xf_grammar.specs.Grammar.{Fill, nothing, yes, here, other, two, run}
+use Rattle.xf_grammar.specs.Grammar.{Fill, nothing, yes, here, other, two}
+use Rattle.xf_dense.specs.Nests.{close_bracket}
+use Rattle.xf_format.specs.declared.row.Side.TheVariants.{Offsets, Sizes}
 use Rattle.xf_format.specs.declared.row.FormatElement.{FormatElement}
 use Rattle.xf_format.specs.declared.row.FormatElement.TheVariants as slot
 use Rattle.xf_format.specs.Words.{spelling}
@@ -30,7 +32,8 @@ pub use Rattle.xf_printed.specs.Items.{operands_fill, iter_args_fill, tensor_fil
 pub use Rattle.xf_printed.specs.Items.{typed_uses_fill, ins_fill, outs_fill}
 pub use Rattle.xf_printed.specs.Numbers.{has_minus, digits_of, is_set, truth_word}
 use Rattle.xf_printed.specs.Names.{Names, first_args, type_of}
-use Rattle.xf_printed.specs.Unread.{rest_text, dense_text}
+use Rattle.xf_printed.specs.Structured.{place_fill, offsets_of, offsets_printed, sizes_printed, stride_fill, maps_of}
+use Rattle.xf_printed.specs.Structured.{map_fill, iterators_of, iterator_fill, some_ins_fill, marked_fill, dense_fill}
 
 -- ---- symbols
 
@@ -81,13 +84,11 @@ abbrev pub scalar_fill : Width → ℕ → Fill
 scalar_fill I1 bits = truth_fill (is_set bits)
 scalar_fill w bits = signed_fill (has_minus (signed_value w bits)) (digits_of (signed_value w bits)) w
 
--- what is not a row of slots yet, as one token
-abbrev pub raw_fill : List ℕ → Fill
-raw_fill bytes = run (terminal token.Word bytes ∷ [])
-
 abbrev pub literal_fill : Kind → Fill
 literal_fill (kind.Constant w bits) = scalar_fill w bits
-literal_fill k = other (other (here (raw_fill (dense_text k))))
+literal_fill (kind.Dense shape numbers) =
+    other (other (yes (terminal token.Word (codes "dense")) (dense_fill shape numbers)))
+literal_fill _ = nothing
 
 -- ---- what kinds state
 
@@ -123,7 +124,7 @@ operand_type names t i = option_and_then (type_of names) (slice_get t.operands i
 -- an operation, of whose block arguments `first` is the first number
 abbrev pub slot_fill : Names → ℕ → Tree → FormatElement → Fill
 slot_fill names first t (slot.Mark gap b) = mark_fill (token.Mark b)
-slot_fill names first t (slot.Word k) = word_fill (spelling k)
+slot_fill names first t (slot.Word gap k) = word_fill (spelling k)
 slot_fill names first t slot.ModuleName = module_name_fill (symbol_printed t.kind)
 slot_fill names first t slot.FunctionName = function_name_fill (is_private t.kind) (symbol_or_none t.kind)
 slot_fill names first t slot.Symbol = symbol_fill (symbol_or_none t.kind)
@@ -142,9 +143,11 @@ slot_fill names first t slot.ResultType = type_or_none (slice_get t.results 0)
 slot_fill names first t slot.ResultTensor = tensor_or_none (slice_get t.results 0)
 slot_fill names first t slot.Arrow = mark_fill token.Arrow
 slot_fill names first t slot.Ins = ins_fill names (take (length t.operands - 1) t.operands)
+slot_fill names first t slot.SomeIns = some_ins_fill names (take (length t.operands - 1) t.operands)
 slot_fill names first t slot.Outs = outs_fill names (slice_get t.operands (length t.operands - 1))
 slot_fill names first t slot.Types = until_fill close_paren (value_type_fill names) t.operands
 slot_fill names first t slot.Params = until_fill close_paren param_fill (params first (first_args t.regions))
+slot_fill names first t slot.BlockParams = until_fill close_paren param_fill (params first (first_args t.regions))
 slot_fill names first t slot.Operands = operands_fill names t.operands
 slot_fill names first t slot.CallResults = call_results_fill t.results
 slot_fill names first t slot.FunctionResults = function_results_fill (returned_types t.kind)
@@ -152,7 +155,14 @@ slot_fill names first t slot.IfResults = if_results_fill t.results
 slot_fill names first t slot.IterArgs = iter_args_fill names first t.operands t.results
 slot_fill names first t slot.LoopWidth = loop_width_fill (slice_get (widths_of t.kind) 0)
 slot_fill names first t slot.BlockName = token_fill token.BlockName (codes "^bb0")
-slot_fill names first t slot.Unread = raw_fill (rest_text names t.kind t.attrs t.operands t.results)
+slot_fill names first t (slot.Places Offsets) =
+    until_fill close_bracket (place_fill names) (offsets_printed t.kind t.operands)
+slot_fill names first t (slot.Places Sizes) =
+    until_fill close_bracket (place_fill names) (sizes_printed t.kind t.operands)
+slot_fill names first t slot.Strides = until_fill close_bracket stride_fill (offsets_of t.kind)
+slot_fill names first t slot.Maps = until_fill close_bracket map_fill (maps_of t.kind)
+slot_fill names first t slot.Iterators = until_fill close_bracket iterator_fill (iterators_of t.kind)
+slot_fill names first t slot.MarkedAttributes = marked_fill t.attrs
 
 abbrev pub slots_fill : Names → ℕ → Tree → List FormatElement → Fill
 slots_fill names first t [] = nothing

@@ -1,9 +1,8 @@
 pub mod Attributes
-pub mod Dense
-pub mod Items
 pub mod Fills
+pub mod Items
 pub mod Names
 pub mod Numbers
 pub mod PrintedForm
-pub mod Unread
+pub mod Structured
 pub mod Words
