@@ -112,14 +112,10 @@ too_large : refused (word (codes "arith.constant") ∷ mark 123 ∷ word (codes 
 unfolding head_rule row_rule dictionary_rule until_rule entry_rule entry_value_rule entry_number_rule entry_width_rule
 too_large = refl
 
--- func.func stands in no body, and tensor.extract_slice is not read yet
+-- func.func stands in no body
 no_function : refused (word (codes "func.func") ∷ []) 0 due.Operation
 unfolding head_rule row_rule
 no_function = refl
-
-not_yet : refused (word (codes "tensor.extract_slice") ∷ []) 0 due.OtherReader
-unfolding head_rule row_rule
-not_yet = refl
 
 -- a text that ends too early is refused at its end
 too_early : refused (word (codes "scf.if") ∷ []) 1 due.Other

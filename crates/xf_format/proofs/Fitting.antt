@@ -23,8 +23,7 @@ use Rattle.xf_format.specs.Parts.{said}
 use Rattle.xf_format.specs.Rows.{slots, bodies, header, tail, has_operations}
 use Rattle.xf_format.specs.Rules.{language, due_at, row_rule, head_rule, slots_rule, kind_rule, argument_rule}
 use Rattle.xf_format.specs.Rules.{type_rule, block_name_rule, entry_width_rule, entry_number_rule, entry_value_rule}
-use Rattle.xf_format.specs.Rules.{entry_rule, param_rule, until_rule, dictionary_rule}
-use Rattle.xf_format.specs.Tests.{Test, an_unread}
+use Rattle.xf_format.specs.Rules.{entry_rule, param_rule, until_rule, dictionary_rule, tensor_rule, result_rule}
 use Rattle.xf_format.specs.Words.{opens, row_begun}
 use Rattle.xf_format.proofs.Lawful.{lawful}
 use Rattle.xf_format.proofs.Leaving.{leaves_results, every, slots_say_row, slots_say_open}

@@ -1,3 +1,4 @@
+pub mod Bodies
 pub mod Examples
 pub mod Fitting
 pub mod HeadLaws

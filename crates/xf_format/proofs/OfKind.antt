@@ -324,7 +324,7 @@ module _ (all : List Token) where
       free_lifted : (s : Step BodyAction Due State) → IsQuiet s → free_step by_machine every (lifted s) ≡ true
       free_lifted ends e = refl
       free_lifted (fails d) e = refl
-      free_lifted (goes gap keep m None) e = e
+      free_lifted (goes gap keep m None) e = e.so
       free_lifted (goes gap keep m (Some k)) e = refl
 
       machine_added : (keep : Bool) (at : ℕ) (k : Action) (h : Reading) → by_machine k ≡ true → OfKinds [] at h

@@ -170,11 +170,13 @@ pub fn types_given(alloc: Global, parts: &Parts) -> Result<TypeList, NoMemory>
 }
 
 /// The types behind so many. It refuses for want of memory alone.
+#[tactic(auto, using(std::proofs::lemmas::List::drop_min, std::proofs::lemmas::Grind::common_steps))]
 fn types_behind(alloc: Global, types: &TypeList, count: usize) -> Result<TypeList, NoMemory>
     ensures { IfOk result (λ behind. behind ≡ drop count types.now) }
 {
     let mut behind = TypeList::new(alloc);
-    for ty in types.as_slice().iter().skip(count) {
+    let (_, rest) = types.as_slice().split_at(count.min(types.len()));
+    for ty in rest {
         behind.push(ty.duplicate(alloc)?)?;
     }
     Ok(behind)
