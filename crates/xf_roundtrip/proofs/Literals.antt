@@ -17,14 +17,14 @@ use Rattle.xf_print_laws.specs.SaidPrinted.{signed_said, literal_printed, intege
 use Rattle.xf_print_laws.proofs.Signed.{IsShort, roomy}
 use Rattle.xf_print_laws.proofs.Single.{number_is}
 
-truth_again : (bits : ℕ) → bits < 2 → truth_bits (is_set bits) ≡ bits
+pub truth_again : (bits : ℕ) → bits < 2 → truth_bits (is_set bits) ≡ bits
 truth_again bits h = grind (arith, nat_tests)
 
-below : (w : Width) (n : ℕ) → fits_bits w n ≡ true → n < 2 ^ bits_of w
+pub below : (w : Width) (n : ℕ) → fits_bits w n ≡ true → n < 2 ^ bits_of w
 below w n e = ltb-true n (2 ^ bits_of w) e
 
 -- the sign and the digits of an integer are those of the integer
-signed_again : (z : ℤ) → IsShort z → signed (has_minus z) (number_of (digits_of z)) ≡ z
+pub signed_again : (z : ℤ) → IsShort z → signed (has_minus z) (number_of (digits_of z)) ≡ z
 signed_again (pos n) h = ap pos (number_is n h)
 signed_again (negsuc n) h = ap (λ d. neg_ℤ (pos d)) (number_is (suc n) h)
 
@@ -34,7 +34,7 @@ wrapped_again w n f =
     ap (wrapped w) (signed_again (signed_value w n) (roomy w n f).short) ∙ wrapped-signed_value w n (below w n f)
 
 -- for which there is room
-bits_again : (w : Width) (n : ℕ) → fits_bits w n ≡ true → bits_said w (Some (signed_said number (signed_value w n))) ≡ n
+pub bits_again : (w : Width) (n : ℕ) → fits_bits w n ≡ true → bits_said w (Some (signed_said number (signed_value w n))) ≡ n
 bits_again w n f =
     let z : ℤ = signed_value w n in
     let d : ℕ = number_of (digits_of z) in

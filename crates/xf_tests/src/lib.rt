@@ -1,6 +1,5 @@
-//! Tests of what no call of the program shows: edits, copies and large trees, operations that no text spells yet, lines
-//! of codes that no command gives yet, and files and streams of the system. There is nothing here but tests, so that no
-//! other crate is proved again for them.
+//! Tests of what no call of the program shows: edits, copies and large trees, lines of codes that no command gives yet,
+//! and files and streams of the system. There is nothing here but tests, so that no other crate is proved again for them.
 #![tactic(auto)]
 
 #[cfg(test)]
@@ -21,7 +20,5 @@ mod large_trees;
 mod lines;
 #[cfg(test)]
 mod outline;
-#[cfg(test)]
-mod structured;
 #[cfg(test)]
 mod trees;
