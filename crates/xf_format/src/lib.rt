@@ -36,6 +36,7 @@ pub use expected::{Expected, Stopped};
 pub use heads::{due_at, due_before, head_at, may_end_open};
 pub use law::{heads_are_bounded, heads_are_read_as_written, no_head_goes_on};
 pub use list::Item;
+pub use maps::map_at;
 pub use parts::{
     AttrEntry, EntryList, EntryValue, Literal, MapEntry, MapEntryList, Parts, PlaceEntry,
     PlaceEntryList, Ref, RefList, Use, UseList,
@@ -45,6 +46,7 @@ pub use row::{
     Body, FormatElement, Keyword, Level, Row, Side, behind, has_operations, inside, is_yield,
     row_bodies, row_header, row_slots, row_tail, stands,
 };
+pub use single::expects;
 pub use slot::slots_at;
 pub use word::{predicate_of, row_of};
 pub use xf_shape::width_of;
