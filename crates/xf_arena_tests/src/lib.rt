@@ -7,4 +7,6 @@ mod names;
 #[cfg(test)]
 mod ring;
 #[cfg(test)]
+mod slots;
+#[cfg(test)]
 mod uses;
