@@ -1,20 +1,19 @@
 -- Trees that are built from the operations that one holds.
-use Rattle.std.proofs.Common.{◌≡◌, ℕ, zero, suc, ◌+◌, ◌<◌, ◌≤◌, List, [], ◌∷◌, ◌++◌, sym, ◌∙◌, ap, arith, refl}
-use Rattle.std.proofs.Common.{Bool, true, false, eqb, ◌||◌, ◌⊎◌, inl, inr}
-use Rattle.std.specs.Prelude.{Option, Some, None}
+use Rattle.std.proofs.Common.{◌≡◌, ℕ, zero, suc, ◌<◌, ◌≤◌, List, [], ◌∷◌, sym, ◌∙◌, ap, arith, refl}
+use Rattle.std.proofs.Common.{Bool, true, false, eqb, inl, inr}
+use Rattle.std.specs.Prelude.{Option, Some}
 use Rattle.std.proofs.lemmas.Bool.{cases_Bool, eq-eqb, eqb-true}
 use Rattle.xf_type.specs.declared.payload_type.PayloadType.{PayloadType}
 use Rattle.xf_ir.specs.declared.name.OpName.{OpName}
-use Rattle.xf_ir.specs.Lists.{Each}
 use Rattle.xf_ir.specs.RuleBlocks.{block_args}
 use Rattle.xf_ir.specs.Replaced.{append}
 use Rattle.xf_ir.specs.Tree.{Ops, no_ops, op, Regions, no_regions, region, Tree, cons}
 use Rattle.xf_ir.specs.View.{tree_size, ops_size, regions_size}
-use Rattle.xf_ir.specs.Walk.{ops_find, regions_find, tree_find, first_of}
+use Rattle.xf_ir.specs.Walk.{ops_find, regions_find, tree_find}
 use Rattle.xf_ir.proofs.Found.{first_cases}
 use Rattle.xf_arena_tree.specs.Names.{ops_has, regions_has, OpsDistinct, RegionsDistinct}
 use Rattle.xf_arena_tree.specs.Puts.{bare}
-use Rattle.xf_arena_tree.specs.Kids.{Inner, block_inner, inner_of}
+use Rattle.xf_arena_tree.specs.Kids.{block_inner, inner_of}
 use Rattle.xf_arena_tree.specs.Rebuilds.{Child, block_children, children, inner_names, regions_push, push_all}
 use Rattle.xf_arena_tree.proofs.SplitLemmas.{find_has, find_has_regions, ops_unfound, regions_unfound}
 use Rattle.xf_arena_tree.proofs.BridgeLemmas.{found_is}
