@@ -4,6 +4,7 @@ use Rattle.std.proofs.Common.{ap, arith, refl, inl, inr, length-append}
 use Rattle.std.proofs.lemmas.List.{get_or_append_left}
 use Rattle.std.proofs.Math.Seq.{get_or-append_seam}
 use Rattle.std.proofs.lemmas.Bool.{cases_lt}
+use Rattle.xf_rings.specs.Mirror.{Mirror}
 use Rattle.xf_rings.specs.Ring.{Path}
 use Rattle.xf_rings.specs.Groups.{AllOf, IsRow, AreGroups, upto}
 
@@ -102,3 +103,39 @@ pub grow_done : (next owner n2 o o2 : List ℕ) (k : ℕ) → AreGroups next own
 grow_done next owner n2 o o2 k g en eo e2 ek =
     let q : length next ≡ k = g.size ∙ sym ek in
     rw (en, e2, eo, q) (grow_groups next owner k g ek)
+
+mirror_more : (n p : List ℕ) (k : ℕ) → Mirror n p → k ≡ length n → Mirror (n ++ k ∷ []) (p ++ k ∷ [])
+mirror_more n p k m e =
+    let a = more n k in
+    let b = more p k in
+    let sz = m.size in
+    record {
+      size = omega (arith, a.size, b.size, sz);
+      next_in = λ i hi. elim (cases_lt i (length n)) [
+        | inl l ↦ let w = a.else_ i l in let f = m.next_in i l in omega (arith, w, f, a.size)
+        | inr l ↦ let w = a.here i (omega (arith, a.size)) in omega (arith, w, a.size, e)
+      ];
+      prev_in = λ i hi. elim (cases_lt i (length n)) [
+        | inl l ↦ let w = b.else_ i (omega (arith, sz)) in let f = m.prev_in i l in omega (arith, w, f, a.size)
+        | inr l ↦ let w = b.here i (omega (arith, a.size, sz)) in omega (arith, w, a.size, e)
+      ];
+      back = λ i hi. elim (cases_lt i (length n)) [
+        | inl l ↦ rw (a.else_ i l) (b.else_ (slice_index n i) (omega (arith, m.next_in i l, sz)) ∙ m.back i l)
+        | inr l ↦
+            let q : i ≡ k = omega (arith, a.size, e) in
+            rw (a.here i (omega (arith, a.size))) (b.here k (omega (arith, sz, e)) ∙ sym q)
+      ];
+      forth = λ i hi. elim (cases_lt i (length n)) [
+        | inl l ↦ rw (b.else_ i (omega (arith, sz))) (a.else_ (slice_index p i) (m.prev_in i l) ∙ m.forth i l)
+        | inr l ↦
+            let q : i ≡ k = omega (arith, a.size, e) in
+            rw (b.here i (omega (arith, a.size, sz))) (a.here k e ∙ sym q)
+      ];
+    }
+
+pub mirror_twice : (n p n1 p1 n2 p2 n3 p3 : List ℕ) (k : ℕ) → Mirror n p → n1 ≡ n → p1 ≡ p → k ≡ length n1
+    → n2 ≡ n1 ++ k ∷ [] → p2 ≡ p1 ++ k ∷ [] → n3 ≡ n2 ++ (k + 1) ∷ [] → p3 ≡ p2 ++ (k + 1) ∷ [] → Mirror n3 p3
+mirror_twice n p n1 p1 n2 p2 n3 p3 k m a b e c d f g =
+    let l : k ≡ length n = e ∙ ap length a in
+    let l2 : k + 1 ≡ length (n ++ k ∷ []) = omega (arith, l, length-append n (k ∷ [])) in
+    rw (f, g, c, d, a, b) (mirror_more (n ++ k ∷ []) (p ++ k ∷ []) (k + 1) (mirror_more n p k m l) l2)

@@ -29,7 +29,7 @@ impl<'a> Model for Members<'a> {
 
 impl<'a> Members<'a> {
     /// The numbers of a ring after one, up to it.
-    pub(crate) fn of(rings: &'a Rings, head: u32) -> Members<'a>
+    pub fn of(rings: &'a Rings, head: u32) -> Members<'a>
         requires { IsLeft rings.now head head (chain rings.now (length rings.now) head head) }
         ensures { result ≡ chain rings.now (length rings.now) head head }
     {

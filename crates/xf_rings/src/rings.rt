@@ -49,6 +49,22 @@ impl Rings {
         Ok(())
     }
 
+    /// Two numbers more, each a ring of its own. Refuses for want of memory alone, and is then what it was.
+    pub fn grow_twice(&mut self) -> Result<(), NoMemory>
+        requires { length self.old + 1 < 2 ^ 32 }
+        ensures ok { OnOk result (self.new ≡ self.old ++ length self.old ∷ [] ++ (length self.old + 1) ∷ []) }
+        ensures err { OnErr result (self.new ≡ self.old) }
+    {
+        self.next.reserve(2)?;
+        self.prev.reserve(2)?;
+        let at = self.next.len() as u32;
+        self.next.push_reserved(at);
+        self.prev.push_reserved(at);
+        self.next.push_reserved(at + 1);
+        self.prev.push_reserved(at + 1);
+        Ok(())
+    }
+
     /// How many numbers there are.
     pub fn size(&self) -> usize
         ensures { result ≡ length self.now }

@@ -1,0 +1,12 @@
+pub mod WithoutLemmas
+pub mod GrowLemmas
+pub mod PutTreeLemmas
+pub mod InnerLemmas
+pub mod SplitLemmas
+pub mod ListedLemmas
+pub mod OnceLemmas
+pub mod WhereLemmas
+pub mod FillLemmas
+pub mod BridgeLemmas
+pub mod KidsLemmas
+pub mod RebuildLemmas
