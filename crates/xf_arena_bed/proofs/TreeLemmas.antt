@@ -1,13 +1,13 @@
 -- Trees built from what the links have.
 use Rattle.std.proofs.Common.{◌≡◌, ℕ, zero, suc, ◌+◌, ◌<◌, ◌≤◌, List, [], ◌∷◌, ◌++◌, length, take}
 use Rattle.std.proofs.Common.{sym, ◌∙◌, ap, arith, refl, add-one}
-use Rattle.std.specs.Prelude.{Option, Some, None, slice_get, slice_set, slice_index_or, option_map}
+use Rattle.std.specs.Prelude.{Option, Some, slice_get, slice_set, slice_index_or, option_map}
 use Rattle.std.specs.Prelude.{Result, Ok, Err, IfOk}
 use Rattle.xf_type.specs.declared.payload_type.PayloadType.{PayloadType}
 use Rattle.xf_ir.specs.declared.name.OpName.{OpName}
 use Rattle.xf_ir.specs.RuleBlocks.{block_args}
 use Rattle.xf_ir.specs.Replaced.{append}
-use Rattle.xf_ir.specs.Tree.{Ops, no_ops, op, Regions, no_regions, region, Tree, Body, cons}
+use Rattle.xf_ir.specs.Tree.{Ops, no_ops, op, Regions, region, Tree, Body, cons}
 use Rattle.xf_ir.specs.View.{ops_of, regions_of, tree_size}
 use Rattle.xf_ir.specs.Walk.{tree_find}
 use Rattle.xf_arena_tree.specs.Names.{OpsDistinct}

@@ -10,6 +10,7 @@
 mod args;
 mod bed;
 mod edit;
+mod fields;
 mod kid;
 mod kids;
 mod node;

@@ -1,9 +1,6 @@
-use Rattle.std.proofs.Common.{◌≡◌, ◌<◌, List, ◌∷◌, sym, ◌∙◌, ap, arith, rules}
-use Rattle.std.specs.Prelude.{Some}
+use Rattle.std.proofs.Common.{◌≡◌, ◌∷◌, ap, arith, rules}
 use Rattle.xf_ir.specs.Lists.{Each}
-use Rattle.xf_ir.specs.Tree.{Tree}
-use Rattle.xf_ir.specs.View.{regions_of, tree_size}
-use Rattle.xf_ir.specs.Walk.{tree_find}
+use Rattle.xf_ir.specs.View.{regions_of}
 use Rattle.xf_arena_tree.specs.Rebuilds.{found_size}
 use Rattle.xf_arena_bed.specs.declared.kid.Kid.{Kid}
 use Rattle.xf_arena_bed.specs.Live.{name_of, IsLive}

@@ -1,4 +1,4 @@
-use Rattle.std.proofs.Common.{◌≡◌, List}
+use Rattle.std.proofs.Common.{◌≡◌}
 use Rattle.std.specs.Prelude.{Some}
 use Rattle.xf_ir.specs.Lists.{Each}
 use Rattle.xf_ir.specs.Tree.{Tree}
