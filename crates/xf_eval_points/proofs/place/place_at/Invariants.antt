@@ -1,0 +1,11 @@
+use Rattle.std.proofs.Common.{◌≡◌, ◌≤◌, ◌^◌, ◌-◌, drop}
+use Rattle.std.specs.Prelude.{min}
+use Rattle.xf_points.specs.Points.{at, place}
+use Rattle.xf_eval_points.specs.Places.{place_from}
+use Rattle.xf_eval_points.proofs.place.place_at.Given as goal
+
+abbrev pub invariant-loop-dim : goal.invariant-loop-dim
+invariant-loop-dim l =
+    (l.place ≤ 2 ^ 64 - 1)
+    × (min (place_from l.place (drop l.dim l.sizes) (drop l.dim (at l.map l.point))) (2 ^ 64 - 1)
+    ≡ min (place l.sizes (at l.map l.point)) (2 ^ 64 - 1))

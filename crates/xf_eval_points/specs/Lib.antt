@@ -1,0 +1,5 @@
+pub mod Spans
+pub mod Places
+pub mod Frames
+pub mod Onto
+pub mod Bodies

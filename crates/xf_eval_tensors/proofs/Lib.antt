@@ -1,0 +1,5 @@
+pub mod IndexLemmas
+pub mod ElementLemmas
+pub mod CastLemmas
+pub mod MadeLemmas
+pub mod SetLemmas

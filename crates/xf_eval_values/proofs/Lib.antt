@@ -1,0 +1,4 @@
+pub mod StackLemmas
+pub mod Values
+pub mod SizeLemmas
+pub mod GivenLemmas
