@@ -1,5 +1,0 @@
-pub mod IndexLemmas
-pub mod ElementLemmas
-pub mod CastLemmas
-pub mod MadeLemmas
-pub mod SetLemmas
