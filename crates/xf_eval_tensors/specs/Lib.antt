@@ -1,0 +1,4 @@
+pub mod Indices
+pub mod Sizes
+pub mod Dense
+pub mod Named
