@@ -5,3 +5,5 @@ pub mod MadeLemmas
 pub mod SetLemmas
 pub mod DenseLemmas
 pub mod NamedLemmas
+pub mod WindowLemmas
+pub mod PutLemmas

@@ -96,7 +96,10 @@ fn spans_in(
 ) -> Result<Option<SpanList>, NoMemory>
     ensures { IfOk result (λ spans. spans ≡ spans_in offsets.now sizes.now extents.now) }
 {
-    if offsets.len() != extents.len() || sizes.len() != extents.len() {
+    if offsets.len() != extents.len() {
+        return Ok(None);
+    }
+    if sizes.len() != extents.len() {
         return Ok(None);
     }
     let mut spans = ListOf::new(alloc);
