@@ -6,4 +6,5 @@ pub mod SetLemmas
 pub mod DenseLemmas
 pub mod NamedLemmas
 pub mod WindowLemmas
+pub mod SliceLemmas
 pub mod PutLemmas

@@ -203,7 +203,10 @@ fn insert_into(
         None => return Err(Stop::Undefined(op)),
         Some(spans) => spans,
     };
-    if !same_width(part.width, whole.width) || !has_sizes(part.shape.as_slice(), spans.as_slice()) {
+    if !same_width(part.width, whole.width) {
+        return Err(Stop::Undefined(op));
+    }
+    if !has_sizes(part.shape.as_slice(), spans.as_slice()) {
         return Err(Stop::Undefined(op));
     }
     put_over(alloc, op, types, part, whole, spans.as_slice(), budget)
