@@ -44,9 +44,9 @@ before_if : (b : Bool) (n : ℕ) (o : Option (List ℕ))
 before_if true n o = refl
 before_if false n o = refl
 
-none_either : (b : Bool) → None {A = List ℕ} ≡ (if b then None else None)
-none_either true = refl
-none_either false = refl
+none_either : (b : Bool) (o : Option (List ℕ)) → o ≡ None → o ≡ (if b then o else None)
+none_either true o h = refl
+none_either false o h = h
 
 pub settled_is : (xs : List SliceIndex) (ns : List ℕ) → settled_in xs ns ≡ settled xs ns
 settled_is [] [] = refl
@@ -54,7 +54,7 @@ settled_is [] (n ∷ ns) = refl
 settled_is (index.Fixed (pos k) ∷ xs) ns =
     ap (before_all k) (settled_is xs ns) ∙ before_if (every is_at_least_zero xs) k _
 settled_is (index.Fixed (negsuc k) ∷ xs) ns = refl
-settled_is (index.Dynamic ∷ xs) [] = none_either (every is_at_least_zero xs)
+settled_is (index.Dynamic ∷ xs) [] = none_either (every is_at_least_zero xs) None refl
 settled_is (index.Dynamic ∷ xs) (n ∷ ns) =
     ap (before_all n) (settled_is xs ns) ∙ before_if (every is_at_least_zero xs) n _
 
@@ -166,13 +166,13 @@ cut_is offsets lengths v t vs h =
     (λ ss. ap (λ xs. Some (Tensor t.width (sizes (windows_of ss)) xs)) (box_elems ss f)
     ∙ ap (λ ns. Some (Tensor t.width ns (map f (spread ss)))) (box_sizes ss))
 
-none_given : {A B : Type 0} (o : Option A) → on_some o (λ x. None {A = B}) ≡ None
-none_given None = refl
-none_given (Some x) = refl
+none_given : {A B : Type 0} (o : Option A) (n : Option B) → n ≡ None → on_some o (λ x. n) ≡ None
+none_given None n h = refl
+none_given (Some x) n h = h
 
 pub no_source : (offsets lengths : List SliceIndex) (v : Value) (vs : List Value) → None ≡ tensor_of v
     → slice_given offsets lengths (v ∷ vs) ≡ None
-no_source offsets lengths (Scalar w a) vs h = none_given (slice_windows offsets lengths vs)
+no_source offsets lengths (Scalar w a) vs h = none_given (slice_windows offsets lengths vs) None refl
 no_source offsets lengths (Tensor w sh es) vs h = cc
 
 -- ---- what a slice answers
