@@ -136,7 +136,7 @@ by_box offsets lengths vs es g = by (indices_of vs)
         (settled lengths (drop (open_count offsets) ns)) (settled_in lengths (drop (open_count offsets) ns))
         (settled_is offsets (take (open_count offsets) ns)) (settled_is lengths (drop (open_count offsets) ns))
 
-on_same : {A B : Type 0} (o : Option A) (g h : A → Option B) → ((x : A) → g x ≡ h x) → on_some o g ≡ on_some o h
+pub on_same : {A B : Type 0} (o : Option A) (g h : A → Option B) → ((x : A) → g x ≡ h x) → on_some o g ≡ on_some o h
 on_same None g h e = refl
 on_same (Some x) g h e = e x
 
@@ -166,7 +166,7 @@ cut_is offsets lengths v t vs h =
     (λ ss. ap (λ xs. Some (Tensor t.width (sizes (windows_of ss)) xs)) (box_elems ss f)
     ∙ ap (λ ns. Some (Tensor t.width ns (map f (spread ss)))) (box_sizes ss))
 
-none_given : {A B : Type 0} (o : Option A) (n : Option B) → n ≡ None → on_some o (λ x. n) ≡ None
+pub none_given : {A B : Type 0} (o : Option A) (n : Option B) → n ≡ None → on_some o (λ x. n) ≡ None
 none_given None n h = refl
 none_given (Some x) n h = h
 
