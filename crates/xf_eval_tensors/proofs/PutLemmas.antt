@@ -110,6 +110,14 @@ no_whole offsets lengths (Scalar w a) (Scalar w' b) vs h = none_given (slice_win
 no_whole offsets lengths (Tensor w sh es) (Scalar w' b) vs h = none_given (slice_windows offsets lengths vs) None refl
 no_whole offsets lengths u (Tensor w sh es) vs h = cc
 
+pub outside : (offsets lengths : List SliceIndex) (u v : Value) (s t : Parts) (vs : List Value) → Some s ≡ tensor_of u
+    → Some t ≡ tensor_of v → None ≡ slice_spans offsets lengths vs t.shape
+    → slice_put offsets lengths (u ∷ (v ∷ vs)) ≡ None
+outside offsets lengths u v s t vs h k b =
+    put_is offsets lengths u v s t vs h k
+    ∙ ap (λ o. on_some o (λ ss. only_if (same_width s.width t.width && same_point s.shape (span_sizes ss)) (put_over s t ss)))
+    (sym b)
+
 only_none : {B : Type 0} (a b : Bool) (x : B) → (a ≡ false) → only_if (a && b) x ≡ None
 only_none true b x h = cc
 only_none false b x h = refl
