@@ -1,7 +1,7 @@
 -- Tensors with a box overwritten.
 use Rattle.std.proofs.Common.{◌≡◌, ◌≢◌, ℕ, zero, suc, ◌+◌, ◌-◌, ◌<◌, List, [], ◌∷◌, ◌++◌, length, get_or, Bool, true, false}
-use Rattle.std.proofs.Common.{Option, Some, None, Ok, Err, refl, sym, ap, ◌∙◌, arith, subst, take}
-use Rattle.std.specs.Prelude.{◌&&◌, ◌==◌, if◌then◌else◌, map, set}
+use Rattle.std.proofs.Common.{Some, None, Ok, Err, refl, sym, ap, ◌∙◌, arith, subst, take}
+use Rattle.std.specs.Prelude.{◌&&◌, ◌==◌, if◌then◌else◌, set}
 use Rattle.std.proofs.lemmas.Bool.{and_right}
 use Rattle.std.proofs.lemmas.List.{length-map, take_more_set}
 use Rattle.xf_type.specs.declared.payload_type.PayloadType.{PayloadType}

@@ -1,12 +1,11 @@
 -- Slices by boxes are those by windows.
 use Rattle.std.proofs.Common.{◌≡◌, ℕ, ◌+◌, ◌-◌, List, [], ◌∷◌, length, Bool, true, false, Option, Some, None, Ok, Err}
 use Rattle.std.proofs.Common.{refl, sym, ap, ◌∙◌, arith, subst, pos, negsuc, take, drop}
-use Rattle.std.specs.Prelude.{map, nat_le, ◌&&◌, if◌then◌else◌, ℤ}
+use Rattle.std.specs.Prelude.{map, nat_le, ◌&&◌, if◌then◌else◌}
 use Rattle.xf_type.specs.declared.payload_type.PayloadType.{PayloadType}
 use Rattle.xf_type.specs.declared.payload_type.Width.{Width}
 use Rattle.xf_type.specs.declared.payload_type.Elem.{Elem}
 use Rattle.xf_type.specs.declared.payload_type.Elem.TheVariants.{NoNumber}
-use Rattle.xf_type.specs.Equal.{same_width}
 use Rattle.xf_type.specs.Integers.{FitsWidth}
 use Rattle.xf_ir.specs.declared.kind.SliceIndex.{SliceIndex}
 use Rattle.xf_ir.specs.declared.kind.SliceIndex.TheVariants as index
@@ -14,13 +13,12 @@ use Rattle.xf_ir.specs.declared.name.OpName.{OpName}
 use Rattle.xf_ir.specs.Lists.{Each, every}
 use Rattle.xf_ir.specs.RuleSlices.{is_at_least_zero}
 use Rattle.xf_ir.specs.RuleTypes.{open_count}
-use Rattle.xf_points.specs.Points.{Point, points, product, listed, element, place, same_point}
-use Rattle.xf_points.specs.Windows.{Window, sizes, placed, cut, inside, taken_from, pasted}
+use Rattle.xf_points.specs.Points.{Point, points, product, listed, element, place}
+use Rattle.xf_points.specs.Windows.{Window, sizes, placed, cut}
 use Rattle.xf_points.proofs.Tensors.{length_listed}
 use Rattle.xf_sem.specs.declared.value.Value.{Value}
 use Rattle.xf_sem.specs.declared.value.Value.TheVariants.{Scalar, Tensor}
 use Rattle.xf_sem.specs.Tensors.{on_some, only_if, before_all, indices_of, settled, paired, within, slice_windows, slice_given}
-use Rattle.xf_sem.specs.Tensors.{slice_put, tensor}
 use Rattle.xf_sem.specs.Values.{IsValue}
 use Rattle.xf_sem.proofs.Products.{get_fits}
 use Rattle.xf_eval_values.specs.declared.held.Tensor.{Tensor as Parts}
@@ -32,8 +30,8 @@ use Rattle.xf_eval_values.proofs.GivenLemmas.{refused_meets, admitted_meets}
 use Rattle.xf_eval_points.specs.declared.span.Span.{Span}
 use Rattle.xf_eval_points.specs.Spans.{window_of, spread}
 use Rattle.xf_eval_points.proofs.OntoLemmas.{spread_is}
-use Rattle.xf_eval_tensors.specs.Slices.{natural_in, settled_in, span_in, spans_in, slice_spans, windows_of, span_sizes}
-use Rattle.xf_eval_tensors.specs.Slices.{cut_out, put_over}
+use Rattle.xf_eval_tensors.specs.Slices.{settled_in, spans_in, slice_spans, windows_of, span_sizes}
+use Rattle.xf_eval_tensors.specs.Slices.{cut_out}
 use Rattle.xf_eval_tensors.proofs.ElementLemmas.{tensor_value}
 use Rattle.xf_eval_tensors.proofs.MadeLemmas.{small_sizes}
 

@@ -1,4 +1,4 @@
-use Rattle.std.proofs.Common.{◌∙◌, subst, Ok, Err}
+use Rattle.std.proofs.Common.{subst, Ok, Err}
 use Rattle.xf_eval_values.specs.Given.{IsAdmitted}
 use Rattle.xf_eval_tensors.proofs.SliceLemmas.{cut_value, cut_refused, cut_gives}
 use Rattle.xf_eval_tensors.proofs.slice.cut_out.Goals as goal

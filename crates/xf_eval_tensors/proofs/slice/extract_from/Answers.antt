@@ -1,4 +1,4 @@
-use Rattle.std.proofs.Common.{◌≡◌, ◌∷◌, ◌∙◌, Some, sym, ap, subst}
+use Rattle.std.proofs.Common.{◌∷◌, ◌∙◌, Some, sym, ap, subst}
 use Rattle.xf_sem.specs.Tensors.{on_some, slice_given}
 use Rattle.xf_eval_values.specs.Given.{given_run, listed_one}
 use Rattle.xf_eval_values.specs.Meets.{Meets}

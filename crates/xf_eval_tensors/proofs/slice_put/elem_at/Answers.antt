@@ -1,4 +1,4 @@
-use Rattle.std.proofs.Common.{◌≡◌, ◌∙◌, sym}
+use Rattle.std.proofs.Common.{◌∙◌, sym}
 use Rattle.xf_eval_tensors.proofs.PutLemmas.{box_length}
 use Rattle.xf_eval_tensors.proofs.slice_put.elem_at.Goals as goal
 

@@ -1,12 +1,11 @@
 use Rattle.std.proofs.Common.{◌≡◌, ◌∷◌, ◌∙◌, Some, true, false, sym, ap, subst}
-use Rattle.xf_type.specs.Equal.{same_width}
 use Rattle.xf_points.specs.Points.{same_point}
-use Rattle.xf_sem.specs.Tensors.{on_some, only_if, slice_put}
+use Rattle.xf_sem.specs.Tensors.{slice_put}
 use Rattle.xf_eval_values.specs.Given.{given_run, listed_one}
 use Rattle.xf_eval_values.specs.Meets.{Meets}
 use Rattle.xf_eval_values.proofs.GivenLemmas.{undefined_meets}
 use Rattle.xf_eval_tensors.specs.Slices.{slice_spans, span_sizes, put_over}
-use Rattle.xf_eval_tensors.proofs.PutLemmas.{outside, box_differs, put_given}
+use Rattle.xf_eval_tensors.proofs.PutLemmas.{outside, widths_differ, box_differs, put_given}
 use Rattle.xf_eval_tensors.proofs.slice_put.insert_into.Goals as goal
 
 pub returns-in-None : goal.returns-in-None
@@ -18,6 +17,18 @@ returns-in-None c =
     c.in-Some-as_tensor.whole.now c.args.args.now c.in-Some.ensures.parts c.in-Some-as_tensor.ensures.parts
     (sym c.in-None.is ∙ c.in_ok-slice_spans.ensures
     ∙ ap (slice_spans c.args.offsets.now c.args.lengths.now c.args.args.now) c.as_slice.ensures))
+
+pub returns-then-not-same_width : goal.returns-then-not-same_width
+returns-then-not-same_width c =
+    undefined_meets c.args.op c.args.types.now 0
+    (slice_put c.args.offsets.now c.args.lengths.now (c.args.source.now ∷ (c.args.target.now ∷ c.args.args.now)))
+    c.args.budget.now
+    (widths_differ c.args.offsets.now c.args.lengths.now c.args.source.now c.args.target.now c.in-Some.part.now
+    c.in-Some-as_tensor.whole.now c.args.args.now c.in-Some-2.spans c.in-Some.ensures.parts
+    c.in-Some-as_tensor.ensures.parts
+    (sym c.in-Some-2.is ∙ c.in_ok-slice_spans.ensures
+    ∙ ap (slice_spans c.args.offsets.now c.args.lengths.now c.args.args.now) c.as_slice.ensures)
+    (sym c.same_width.ensures ∙ c.if-not-same_width.true))
 
 pub returns-then-not-has_sizes : goal.returns-then-not-has_sizes
 returns-then-not-has_sizes c =

@@ -1,4 +1,4 @@
-use Rattle.std.proofs.Common.{◌≡◌, ◌∙◌, arith, length}
+use Rattle.std.proofs.Common.{◌∙◌, arith}
 use Rattle.std.proofs.lemmas.List.{length-set}
 use Rattle.xf_eval_tensors.proofs.PutLemmas.{taken_more}
 use Rattle.xf_eval_tensors.proofs.slice_put.take_from.Goals as goal
