@@ -1,6 +1,7 @@
 -- Tensors with a box overwritten.
-use Rattle.std.proofs.Common.{◌≡◌, ◌≢◌, ℕ, zero, suc, ◌+◌, ◌-◌, ◌<◌, List, [], ◌∷◌, ◌++◌, length, get_or, Bool, true, false}
-use Rattle.std.proofs.Common.{Some, None, Ok, Err, refl, sym, ap, ◌∙◌, arith, subst, take}
+use Rattle.std.proofs.Common.{◌≡◌, ◌≢◌, ℕ, zero, suc, ◌+◌, ◌-◌, ◌<◌, List, [], ◌∷◌, ◌++◌, length, get_or}
+use Rattle.std.proofs.Common.{Bool, true, false}
+use Rattle.std.proofs.Common.{Option, Some, None, Ok, Err, refl, sym, ap, ◌∙◌, arith, subst, take}
 use Rattle.std.specs.Prelude.{◌&&◌, ◌==◌, if◌then◌else◌, set}
 use Rattle.std.proofs.lemmas.Bool.{and_right}
 use Rattle.std.proofs.lemmas.List.{length-map, take_more_set}
@@ -29,7 +30,7 @@ use Rattle.xf_eval_values.specs.Meets.{Meets}
 use Rattle.xf_eval_values.proofs.GivenLemmas.{refused_meets, admitted_meets}
 use Rattle.xf_eval_points.specs.declared.span.Span.{Span}
 use Rattle.xf_eval_points.specs.Spans.{window_of}
-use Rattle.xf_eval_tensors.specs.Slices.{slice_spans, windows_of, span_sizes, put_over}
+use Rattle.xf_eval_tensors.specs.Slices.{slice_spans, windows_of, span_sizes, item_over, put_over}
 use Rattle.xf_eval_tensors.proofs.ElementLemmas.{tensor_value}
 use Rattle.xf_eval_tensors.proofs.SliceLemmas.{by_box, on_same, none_given, box_sizes, each_mapped, elem_fits}
 
@@ -42,7 +43,8 @@ unequal_box (s ∷ ss) [] h = refl
 unequal_box (s ∷ ss) (i ∷ p) h =
     sym (and_right (has (window_of s) i) (inside (windows_of ss) p) (sym (unequal_box ss p (λ e. h (ap suc e)))))
 
-pub unequal_sizes : (sizes : List ℕ) (ss : List Span) → length sizes ≢ length ss → false ≡ same_point sizes (span_sizes ss)
+pub unequal_sizes : (sizes : List ℕ) (ss : List Span) → length sizes ≢ length ss
+    → false ≡ same_point sizes (span_sizes ss)
 unequal_sizes [] [] h = absurd (h refl)
 unequal_sizes [] (s ∷ ss) h = refl
 unequal_sizes (n ∷ sizes) [] h = refl
@@ -78,11 +80,15 @@ apart : {B : Type 0} (a b : Bool) (x : B) → only_if (a && b) x ≡ (if a then 
 apart true b x = refl
 apart false b x = refl
 
+-- where the widths and sizes are the same
+abbrev pub if_same : Parts → Parts → List Span → Option Value
+if_same s t ss = only_if (same_width s.width t.width && same_point s.shape (span_sizes ss)) (put_over s t ss)
+
 pub put_is : (offsets lengths : List SliceIndex) (u v : Value) (s t : Parts) (vs : List Value) → Some s ≡ tensor_of u
     → Some t ≡ tensor_of v
     → slice_put offsets lengths (u ∷ (v ∷ vs))
     ≡ on_some (slice_spans offsets lengths vs t.shape)
-    (λ ss. only_if (same_width s.width t.width && same_point s.shape (span_sizes ss)) (put_over s t ss))
+    (if_same s t)
 put_is offsets lengths u v s t vs h k =
     let y = element NoNumber s.shape s.elems in
     let x = element NoNumber t.shape t.elems in
@@ -95,7 +101,7 @@ put_is offsets lengths u v s t vs h k =
     (λ ws. apart (within ws t.shape) (fits ws) (made ws))
     ∙ by_box offsets lengths vs t.shape (λ ws. only_if (fits ws) (made ws))
     ∙ on_same (slice_spans offsets lengths vs t.shape) (λ ss. only_if (fits (windows_of ss)) (made (windows_of ss)))
-    (λ ss. only_if (same_width s.width t.width && same_point s.shape (span_sizes ss)) (put_over s t ss))
+    (if_same s t)
     (λ ss. ap (λ ns. only_if (same_width s.width t.width && same_point s.shape ns) (put_over s t ss)) (box_sizes ss))
 
 pub no_part : (offsets lengths : List SliceIndex) (u v : Value) (vs : List Value) → None ≡ tensor_of u
@@ -115,8 +121,7 @@ pub outside : (offsets lengths : List SliceIndex) (u v : Value) (s t : Parts) (v
     → slice_put offsets lengths (u ∷ (v ∷ vs)) ≡ None
 outside offsets lengths u v s t vs h k b =
     put_is offsets lengths u v s t vs h k
-    ∙ ap (λ o. on_some o (λ ss. only_if (same_width s.width t.width && same_point s.shape (span_sizes ss)) (put_over s t ss)))
-    (sym b)
+    ∙ ap (λ o. on_some o (if_same s t)) (sym b)
 
 only_none : {B : Type 0} (a b : Bool) (x : B) → (a ≡ false) → only_if (a && b) x ≡ None
 only_none true b x h = cc
@@ -127,8 +132,7 @@ pub widths_differ : (offsets lengths : List SliceIndex) (u v : Value) (s t : Par
     → same_width s.width t.width ≡ false → slice_put offsets lengths (u ∷ (v ∷ vs)) ≡ None
 widths_differ offsets lengths u v s t vs ss h k b w =
     put_is offsets lengths u v s t vs h k
-    ∙ ap (λ o. on_some o (λ ss. only_if (same_width s.width t.width && same_point s.shape (span_sizes ss)) (put_over s t ss)))
-    (sym b)
+    ∙ ap (λ o. on_some o (if_same s t)) (sym b)
     ∙ only_none (same_width s.width t.width) (same_point s.shape (span_sizes ss)) (put_over s t ss) w
 
 pub box_differs : (offsets lengths : List SliceIndex) (u v : Value) (s t : Parts) (vs : List Value) (ss : List Span)
@@ -137,8 +141,7 @@ pub box_differs : (offsets lengths : List SliceIndex) (u v : Value) (s t : Parts
     → slice_put offsets lengths (u ∷ (v ∷ vs)) ≡ None
 box_differs offsets lengths u v s t vs ss h k b w z =
     put_is offsets lengths u v s t vs h k
-    ∙ ap (λ o. on_some o (λ ss. only_if (same_width s.width t.width && same_point s.shape (span_sizes ss)) (put_over s t ss)))
-    (sym b)
+    ∙ ap (λ o. on_some o (if_same s t)) (sym b)
     ∙ ap (λ c. only_if (c && same_point s.shape (span_sizes ss)) (put_over s t ss)) w
     ∙ ap (λ c. only_if c (put_over s t ss)) z
 
@@ -148,8 +151,7 @@ pub put_given : (offsets lengths : List SliceIndex) (u v : Value) (s t : Parts) 
     → slice_put offsets lengths (u ∷ (v ∷ vs)) ≡ Some (put_over s t ss)
 put_given offsets lengths u v s t vs ss h k b w z =
     put_is offsets lengths u v s t vs h k
-    ∙ ap (λ o. on_some o (λ ss. only_if (same_width s.width t.width && same_point s.shape (span_sizes ss)) (put_over s t ss)))
-    (sym b)
+    ∙ ap (λ o. on_some o (if_same s t)) (sym b)
     ∙ ap (λ c. only_if (c && same_point s.shape (span_sizes ss)) (put_over s t ss)) w
     ∙ ap (λ c. only_if c (put_over s t ss)) z
 
@@ -161,22 +163,21 @@ either_fits w false x y h k = k
 
 put_fits : (s t : Parts) (ss : List Span) → IsValue (as_value s) → IsValue (as_value t) → s.width ≡ t.width
     → Each (FitsWidth t.width)
-    (listed t.shape (pasted (windows_of ss) (element NoNumber s.shape s.elems) (element NoNumber t.shape t.elems)))
+    (listed t.shape (item_over s t ss))
 put_fits s t ss h k e =
-    each_mapped t.width
-    (pasted (windows_of ss) (element NoNumber s.shape s.elems) (element NoNumber t.shape t.elems)) (points t.shape)
-    (λ p. either_fits t.width (inside (windows_of ss) p) (element NoNumber s.shape s.elems (taken_from (windows_of ss) p))
-    (element NoNumber t.shape t.elems p)
+    each_mapped t.width (item_over s t ss) (points t.shape)
+    (λ p. either_fits t.width (inside (windows_of ss) p)
+    (element NoNumber s.shape s.elems (taken_from (windows_of ss) p)) (element NoNumber t.shape t.elems p)
     (subst (λ w. FitsWidth w (element NoNumber s.shape s.elems (taken_from (windows_of ss) p))) e
     (elem_fits s (taken_from (windows_of ss) p) h))
     (elem_fits t p k))
 
 pub put_value : (s t : Parts) (ss : List Span) (shape : List ℕ) (es : List Elem) → IsValue (as_value s)
     → IsValue (as_value t) → s.width ≡ t.width → shape ≡ t.shape
-    → es ≡ listed t.shape (pasted (windows_of ss) (element NoNumber s.shape s.elems) (element NoNumber t.shape t.elems))
+    → es ≡ listed t.shape (item_over s t ss)
     → IsValue (Tensor t.width shape es)
 put_value s t ss shape es h k e m q =
-    let f = pasted (windows_of ss) (element NoNumber s.shape s.elems) (element NoNumber t.shape t.elems) in
+    let f = item_over s t ss in
     subst (λ ns. IsValue (Tensor t.width ns es)) (sym m)
     (subst (λ xs. IsValue (Tensor t.width t.shape xs)) (sym q)
     (k.0, (length_listed t.shape f, put_fits s t ss h k e)))
@@ -186,18 +187,18 @@ pub put_refused : (n : OpName) (ts : List PayloadType) (s t : Parts) (ss : List 
     → IsAdmitted n ts t.width t.shape 0 b b' (Err stop)
     → Meets (given_run n ts 0 (Some (put_over s t ss))) b b' (Err stop)
 put_refused n ts s t ss b b' stop h k e a =
-    let f = pasted (windows_of ss) (element NoNumber s.shape s.elems) (element NoNumber t.shape t.elems) in
+    let f = item_over s t ss in
     refused_meets n ts t.width t.shape (listed t.shape f) 0 b b' (Some (put_over s t ss)) stop (length_listed t.shape f)
     (put_fits s t ss h k e) refl a
 
 pub put_gives : (n : OpName) (ts : List PayloadType) (s t : Parts) (ss : List Span) (shape : List ℕ) (es : List Elem)
     (b b' count : ℕ) (v : Value)
     → IsValue (as_value s) → IsValue (as_value t) → s.width ≡ t.width → shape ≡ t.shape
-    → es ≡ listed t.shape (pasted (windows_of ss) (element NoNumber s.shape s.elems) (element NoNumber t.shape t.elems))
+    → es ≡ listed t.shape (item_over s t ss)
     → IsAdmitted n ts t.width t.shape 0 b b' (Ok count) → v ≡ Tensor t.width shape es
     → Meets (given_run n ts 0 (Some (put_over s t ss))) b b' (Ok (v ∷ []))
 put_gives n ts s t ss shape es b b' count v h k e m q a r =
-    let f = pasted (windows_of ss) (element NoNumber s.shape s.elems) (element NoNumber t.shape t.elems) in
+    let f = item_over s t ss in
     admitted_meets n ts t.width t.shape (listed t.shape f) 0 b b' count (Some (put_over s t ss)) v
     (length_listed t.shape f) (put_fits s t ss h k e) refl a
     (r ∙ ap (λ ns. Tensor t.width ns es) m ∙ ap (Tensor t.width t.shape) q)

@@ -18,7 +18,8 @@ use Rattle.xf_points.specs.Windows.{Window, sizes, placed, cut}
 use Rattle.xf_points.proofs.Tensors.{length_listed}
 use Rattle.xf_sem.specs.declared.value.Value.{Value}
 use Rattle.xf_sem.specs.declared.value.Value.TheVariants.{Scalar, Tensor}
-use Rattle.xf_sem.specs.Tensors.{on_some, only_if, before_all, indices_of, settled, paired, within, slice_windows, slice_given}
+use Rattle.xf_sem.specs.Tensors.{on_some, only_if, before_all, indices_of, settled, paired, within, slice_windows}
+use Rattle.xf_sem.specs.Tensors.{slice_given}
 use Rattle.xf_sem.specs.Values.{IsValue}
 use Rattle.xf_sem.proofs.Products.{get_fits}
 use Rattle.xf_eval_values.specs.declared.held.Tensor.{Tensor as Parts}
@@ -30,7 +31,7 @@ use Rattle.xf_eval_values.proofs.GivenLemmas.{refused_meets, admitted_meets}
 use Rattle.xf_eval_points.specs.declared.span.Span.{Span}
 use Rattle.xf_eval_points.specs.Spans.{window_of, spread}
 use Rattle.xf_eval_points.proofs.OntoLemmas.{spread_is}
-use Rattle.xf_eval_tensors.specs.Slices.{settled_in, spans_in, slice_spans, windows_of, span_sizes}
+use Rattle.xf_eval_tensors.specs.Slices.{settled_in, spans_in, slice_spans, windows_of, span_sizes, elems_in}
 use Rattle.xf_eval_tensors.specs.Slices.{cut_out}
 use Rattle.xf_eval_tensors.proofs.ElementLemmas.{tensor_value}
 use Rattle.xf_eval_tensors.proofs.MadeLemmas.{small_sizes}
@@ -65,14 +66,15 @@ window_back : (o z : ℕ) → record { offset = o; size = z } ≡ window_of (rec
 window_back o z = ap (λ n. record { offset = o; size = n }) (plus_less o z)
 
 before_first : {B : Type 0} (w : Window) (o : Option (List Window)) (b : Bool) (es : List ℕ)
-    (g : List Window → Option B) (test : List Window → Bool) → ((ws : List Window) → test (w ∷ ws) ≡ (b && within ws es))
+    (g : List Window → Option B) (test : List Window → Bool)
+    → ((ws : List Window) → test (w ∷ ws) ≡ (b && within ws es))
     → on_some (before_all w o) (λ ws. if test ws then g ws else None)
     ≡ on_some o (λ ws. if b && within ws es then g (w ∷ ws) else None)
 before_first w None b es g test h = refl
 before_first w (Some ws) b es g test h = ap (λ x. if x then g (w ∷ ws) else None) (h ws)
 
-one_more : {B : Type 0} (b : Bool) (w : Window) (s : Span) (o : Option (List Window)) (q : Option (List Span)) (es : List ℕ)
-    (g : List Window → Option B) → w ≡ window_of s
+one_more : {B : Type 0} (b : Bool) (w : Window) (s : Span) (o : Option (List Window)) (q : Option (List Span))
+    (es : List ℕ) (g : List Window → Option B) → w ≡ window_of s
     → on_some o (λ ws. if within ws es then g (w ∷ ws) else None) ≡ on_some q (λ ss. g (w ∷ windows_of ss))
     → on_some o (λ ws. if b && within ws es then g (w ∷ ws) else None)
     ≡ on_some (on_some (only_if b s) (λ s. before_all s q)) (λ ss. g (windows_of ss))
@@ -100,7 +102,8 @@ in_box (o ∷ os) (z ∷ zs) (n ∷ es) g =
     ∙ one_more (nat_le (o + z) n) w (record { from = o; to = o + z }) (paired os zs) (spans_in os zs es) es g
     (window_back o z) (in_box os zs es (λ ws. g (w ∷ ws)))
 
-pub by_box : {B : Type 0} (offsets lengths : List SliceIndex) (vs : List Value) (es : List ℕ) (g : List Window → Option B)
+pub by_box : {B : Type 0} (offsets lengths : List SliceIndex) (vs : List Value) (es : List ℕ)
+    (g : List Window → Option B)
     → on_some (slice_windows offsets lengths vs) (λ ws. if within ws es then g ws else None)
     ≡ on_some (slice_spans offsets lengths vs es) (λ ss. g (windows_of ss))
 by_box offsets lengths vs es g = by (indices_of vs)
@@ -127,7 +130,8 @@ by_box offsets lengths vs es g = by (indices_of vs)
         on_some (settled lengths (drop (open_count offsets) ns)) (λ zs. paired os zs))))
         (λ ws. if within ws es then g ws else None)
         ≡ on_some (on_some o (λ ns. on_some (settled_in offsets (take (open_count offsets) ns)) (λ os.
-        on_some (settled_in lengths (drop (open_count offsets) ns)) (λ zs. spans_in os zs es)))) (λ ss. g (windows_of ss))
+        on_some (settled_in lengths (drop (open_count offsets) ns)) (λ zs. spans_in os zs es))))
+        (λ ss. g (windows_of ss))
     by None = refl
     by (Some ns) =
         placed_by (settled offsets (take (open_count offsets) ns)) (settled_in offsets (take (open_count offsets) ns))
@@ -148,12 +152,14 @@ pub box_sizes : (ss : List Span) → sizes (windows_of ss) ≡ span_sizes ss
 box_sizes [] = refl
 box_sizes (s ∷ ss) = ap (λ ns. (s.to - s.from) ∷ ns) (box_sizes ss)
 
-pub box_elems : (ss : List Span) (f : Point → Elem) → listed (sizes (windows_of ss)) (cut (windows_of ss) f) ≡ map f (spread ss)
+pub box_elems : (ss : List Span) (f : Point → Elem)
+    → listed (sizes (windows_of ss)) (cut (windows_of ss) f) ≡ map f (spread ss)
 box_elems ss f =
     map_map (placed (windows_of ss)) f (points (sizes (windows_of ss))) ∙ ap (map f) (sym (spread_is ss))
 
 pub cut_is : (offsets lengths : List SliceIndex) (v : Value) (t : Parts) (vs : List Value) → Some t ≡ tensor_of v
-    → slice_given offsets lengths (v ∷ vs) ≡ on_some (slice_spans offsets lengths vs t.shape) (λ ss. Some (cut_out t ss))
+    → slice_given offsets lengths (v ∷ vs)
+    ≡ on_some (slice_spans offsets lengths vs t.shape) (λ ss. Some (cut_out t ss))
 cut_is offsets lengths v t vs h =
     let f = element NoNumber t.shape t.elems in
     ap (λ x. slice_given offsets lengths (x ∷ vs)) (sym (tensor_value v t h))
@@ -184,7 +190,7 @@ pub elem_fits : (t : Parts) (p : Point) → IsValue (as_value t) → FitsWidth t
 elem_fits t p h = get_fits t.width t.elems (place t.shape p) h.1.1
 
 cut_length : (t : Parts) (ss : List Span)
-    → length (map (element NoNumber t.shape t.elems) (spread ss)) ≡ product (span_sizes ss)
+    → length (elems_in t ss) ≡ product (span_sizes ss)
 cut_length t ss =
     let f = element NoNumber t.shape t.elems in
     ap length (sym (box_elems ss f)) ∙ length_listed (sizes (windows_of ss)) (cut (windows_of ss) f)
@@ -192,28 +198,31 @@ cut_length t ss =
 
 pub cut_value : (t : Parts) (ss : List Span) (ts : List PayloadType) (shape : List ℕ) (es : List Elem)
     → IsValue (as_value t) → fits_one t.width shape ts ≡ true → shape ≡ span_sizes ss
-    → es ≡ map (element NoNumber t.shape t.elems) (spread ss) → IsValue (Tensor t.width shape es)
-cut_value t ss ts shape es h f e q =
-    (small_sizes t.width shape ts f, (ap length q ∙ cut_length t ss ∙ ap product (sym e),
-    subst (Each (FitsWidth t.width)) (sym q) (each_mapped t.width _ (spread ss) (λ p. elem_fits t p h))))
+    → es ≡ elems_in t ss → IsValue (Tensor t.width shape es)
+cut_value t ss ts shape es h f e q = (
+  small_sizes t.width shape ts f,
+  (
+    ap length q ∙ cut_length t ss ∙ ap product (sym e),
+    subst (Each (FitsWidth t.width)) (sym q) (each_mapped t.width _ (spread ss) (λ p. elem_fits t p h)),
+  ),
+)
 
-pub cut_refused : (n : OpName) (ts : List PayloadType) (t : Parts) (ss : List Span) (shape : List ℕ) (b b' : ℕ) (stop : Stop)
+pub cut_refused : (n : OpName) (ts : List PayloadType) (t : Parts) (ss : List Span) (shape : List ℕ) (b b' : ℕ)
+    (stop : Stop)
     → IsValue (as_value t) → shape ≡ span_sizes ss → IsAdmitted n ts t.width shape 0 b b' (Err stop)
     → Meets (given_run n ts 0 (Some (cut_out t ss))) b b' (Err stop)
 cut_refused n ts t ss shape b b' stop h e a =
-    refused_meets n ts t.width (span_sizes ss) (map (element NoNumber t.shape t.elems) (spread ss)) 0 b b'
-    (Some (cut_out t ss)) stop (cut_length t ss)
+    refused_meets n ts t.width (span_sizes ss) (elems_in t ss) 0 b b' (Some (cut_out t ss)) stop (cut_length t ss)
     (each_mapped t.width _ (spread ss) (λ p. elem_fits t p h)) refl
     (subst (λ s. IsAdmitted n ts t.width s 0 b b' (Err stop)) e a)
 
 pub cut_gives : (n : OpName) (ts : List PayloadType) (t : Parts) (ss : List Span) (shape : List ℕ) (es : List Elem)
     (b b' count : ℕ) (v : Value)
-    → IsValue (as_value t) → shape ≡ span_sizes ss → es ≡ map (element NoNumber t.shape t.elems) (spread ss)
+    → IsValue (as_value t) → shape ≡ span_sizes ss → es ≡ elems_in t ss
     → IsAdmitted n ts t.width shape 0 b b' (Ok count) → v ≡ Tensor t.width shape es
     → Meets (given_run n ts 0 (Some (cut_out t ss))) b b' (Ok (v ∷ []))
 cut_gives n ts t ss shape es b b' count v h e q a r =
-    admitted_meets n ts t.width (span_sizes ss) (map (element NoNumber t.shape t.elems) (spread ss)) 0 b b' count
-    (Some (cut_out t ss)) v (cut_length t ss)
+    admitted_meets n ts t.width (span_sizes ss) (elems_in t ss) 0 b b' count (Some (cut_out t ss)) v (cut_length t ss)
     (each_mapped t.width _ (spread ss) (λ p. elem_fits t p h)) refl
     (subst (λ s. IsAdmitted n ts t.width s 0 b b' (Ok count)) e a)
     (r ∙ ap (λ s. Tensor t.width s es) e ∙ ap (Tensor t.width (span_sizes ss)) q)

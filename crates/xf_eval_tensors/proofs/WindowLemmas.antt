@@ -1,4 +1,4 @@
--- The boxes of slices, one dimension more.
+-- There is no box of a slice where offsets or sizes are not as many as extents.
 use Rattle.std.proofs.Common.{◌≡◌, ◌≢◌, ℕ, suc, List, [], ◌∷◌, Option, Some, None}
 use Rattle.std.proofs.Common.{length, refl, ap}
 use Rattle.xf_sem.specs.Tensors.{on_some, before_all}

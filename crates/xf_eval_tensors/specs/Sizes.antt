@@ -10,7 +10,8 @@ use Rattle.xf_sem.specs.Tensors.{before_all, on_some, indices_of, tensor}
 abbrev pub small_before : ℕ → Option (List ℕ) → Option (List ℕ)
 small_before n o = if nat_lt n (2 ^ 31) then before_all n o else None
 
--- the sizes of a type whose dynamic dimensions have these sizes, in order, where all are below 2^31 and there are as many
+-- the sizes of a type whose dynamic dimensions have these sizes, in order, where all are below 2^31 and there are as
+-- many
 abbrev pub sizes_in : List Dim → List ℕ → Option (List ℕ)
 sizes_in [] [] = Some []
 sizes_in [] (n ∷ ns) = None

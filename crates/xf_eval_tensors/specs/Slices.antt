@@ -1,10 +1,12 @@
 -- Slices, one dimension after another: the numbers of each that a window has.
-use Rattle.std.specs.Prelude.{ℕ, ◌+◌, ◌-◌, List, [], ◌∷◌, ◌++◌, map, take, drop, Option, Some, None, nat_le, ℤ, pos, negsuc}
+use Rattle.std.specs.Prelude.{ℕ, ◌+◌, ◌-◌, List, [], ◌∷◌, ◌++◌, map, take, drop, Option, Some, None, nat_le}
+use Rattle.std.specs.Prelude.{ℤ, pos, negsuc}
+use Rattle.xf_type.specs.declared.payload_type.Elem.{Elem}
 use Rattle.xf_type.specs.declared.payload_type.Elem.TheVariants.{NoNumber}
 use Rattle.xf_ir.specs.declared.kind.SliceIndex.{SliceIndex}
 use Rattle.xf_ir.specs.declared.kind.SliceIndex.TheVariants as index
 use Rattle.xf_ir.specs.RuleTypes.{open_count}
-use Rattle.xf_points.specs.Points.{element}
+use Rattle.xf_points.specs.Points.{Point, element}
 use Rattle.xf_points.specs.Windows.{Window, pasted}
 use Rattle.xf_sem.specs.declared.value.Value.{Value}
 use Rattle.xf_sem.specs.declared.value.Value.TheVariants.{Tensor}
@@ -57,11 +59,17 @@ windows_of ss = map window_of ss
 abbrev pub span_sizes : List Span → List ℕ
 span_sizes ss = map (λ (s : Span). s.to - s.from) ss
 
--- the elements of a tensor in a box
-abbrev pub cut_out : Parts → List Span → Value
-cut_out t ss = Tensor t.width (span_sizes ss) (map (element NoNumber t.shape t.elems) (spread ss))
+-- the elements of a tensor in a box, in order, and the tensor of them
+abbrev pub elems_in : Parts → List Span → List Elem
+elems_in t ss = map (element NoNumber t.shape t.elems) (spread ss)
 
--- a tensor with a box overwritten by another
+abbrev pub cut_out : Parts → List Span → Value
+cut_out t ss = Tensor t.width (span_sizes ss) (elems_in t ss)
+
+-- the element at an index of a tensor with a box overwritten by another, and that tensor
+abbrev pub item_over : Parts → Parts → List Span → Point → Elem
+item_over s t ss p =
+    pasted (windows_of ss) (element NoNumber s.shape s.elems) (element NoNumber t.shape t.elems) p
+
 abbrev pub put_over : Parts → Parts → List Span → Value
-put_over s t ss =
-    tensor t.width t.shape (pasted (windows_of ss) (element NoNumber s.shape s.elems) (element NoNumber t.shape t.elems))
+put_over s t ss = tensor t.width t.shape (item_over s t ss)

@@ -1,6 +1,6 @@
-//! The operations of tensor on held values: sizes, elements, slices, casts, dense constants and tensors without numbers;
-//! and the operations of linalg that have a name. The contract of each is what its definition in `xf_sem` gives, in its
-//! units.
+//! The operations of tensor on held values: sizes, elements, slices, casts, dense constants and tensors without
+//! numbers; and the operations of linalg that have a name. The contract of each is what its definition in `xf_sem`
+//! gives, in its units.
 #![tactic(auto)]
 
 mod constant;

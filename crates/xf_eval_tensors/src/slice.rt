@@ -1,14 +1,11 @@
 //! Slices of tensors.
-ghost use Rattle.std.specs.Prelude.{◌≡◌, ◌∷◌, IfOk, Some, length, map};
-ghost use Rattle.xf_type.specs.declared.payload_type.Elem.TheVariants.{NoNumber};
-ghost use Rattle.xf_points.specs.Points.{element};
+ghost use Rattle.std.specs.Prelude.{◌≡◌, ◌∷◌, IfOk, Some, length};
 ghost use Rattle.xf_sem.specs.Tensors.{slice_given};
 ghost use Rattle.xf_sem.specs.Values.{IsValue};
 ghost use Rattle.xf_eval_values.specs.Given.{given_run, listed_one};
 ghost use Rattle.xf_eval_values.specs.Held.{as_value};
 ghost use Rattle.xf_eval_values.specs.Meets.{Meets};
-ghost use Rattle.xf_eval_points.specs.Spans.{spread};
-ghost use Rattle.xf_eval_tensors.specs.Slices.{cut_out};
+ghost use Rattle.xf_eval_tensors.specs.Slices.{cut_out, elems_in};
 
 use crate::windows::{sizes_of, slice_spans};
 use std::alloc::Global;
@@ -26,8 +23,7 @@ fn elems_by_point(
     point: &mut [u32],
 ) -> Result<Vec<Elem>, NoMemory>
     requires { length point.old ≡ length spans.now }
-    ensures { IfOk result (λ elems. elems.items
-        ≡ map (element NoNumber tensor.now.shape tensor.now.elems) (spread spans.now)) }
+    ensures { IfOk result (λ elems. elems.items ≡ elems_in tensor.now spans.now) }
 {
     let mut elems = Vec::new(alloc);
     begin(spans, point);
@@ -42,8 +38,7 @@ fn elems_by_point(
 
 /// The elements of a tensor in a box. Refuses for want of memory alone.
 fn elems_in(alloc: Global, tensor: &Tensor, spans: &[Span]) -> Result<ElemList, NoMemory>
-    ensures { IfOk result (λ elems. elems
-        ≡ map (element NoNumber tensor.now.shape tensor.now.elems) (spread spans.now)) }
+    ensures { IfOk result (λ elems. elems ≡ elems_in tensor.now spans.now) }
 {
     let mut point = room_for(alloc, spans.len())?;
     let elems = elems_by_point(alloc, tensor, spans, &mut point)?;

@@ -1,8 +1,7 @@
 //! Tensors with a slice overwritten.
 ghost use Rattle.std.specs.Prelude.{◌≡◌, ◌∷◌, IfOk, Some, length};
-ghost use Rattle.xf_type.specs.declared.payload_type.Elem.TheVariants.{NoNumber};
-ghost use Rattle.xf_points.specs.Points.{element, listed, same_point};
-ghost use Rattle.xf_points.specs.Windows.{has, inside, pasted, taken_from};
+ghost use Rattle.xf_points.specs.Points.{listed, same_point};
+ghost use Rattle.xf_points.specs.Windows.{has, inside, taken_from};
 ghost use Rattle.xf_sem.specs.Tensors.{slice_put};
 ghost use Rattle.xf_sem.specs.Values.{IsValue};
 ghost use Rattle.xf_eval_values.specs.Given.{given_run, listed_one};
@@ -10,7 +9,7 @@ ghost use Rattle.xf_eval_values.specs.Held.{as_value};
 ghost use Rattle.xf_eval_values.specs.Meets.{Meets};
 ghost use Rattle.xf_eval_points.specs.Onto.{whole_spans};
 ghost use Rattle.xf_eval_points.specs.Spans.{window_of};
-ghost use Rattle.xf_eval_tensors.specs.Slices.{put_over, span_sizes, windows_of};
+ghost use Rattle.xf_eval_tensors.specs.Slices.{item_over, put_over, span_sizes, windows_of};
 
 use crate::windows::slice_spans;
 use std::alloc::Global;
@@ -79,8 +78,7 @@ fn elem_at(
     local: &mut [u32],
 ) -> Elem
     requires { length local.old ≡ length spans.now }
-    ensures elem { result ≡ pasted (windows_of spans.now) (element NoNumber source.now.shape source.now.elems)
-        (element NoNumber target.now.shape target.now.elems) point.now }
+    ensures elem { result ≡ item_over source.now target.now spans.now point.now }
     ensures room { length local.new ≡ length spans.now }
 {
     if is_inside(spans, point) {
@@ -104,9 +102,8 @@ fn elems_by_point(
     requires outer { outer.now ≡ whole_spans target.now.shape }
     requires point { length point.old ≡ length outer.now }
     requires room { length local.old ≡ length spans.now }
-    ensures { IfOk result (λ elems. elems.items ≡ listed target.now.shape
-        (pasted (windows_of spans.now) (element NoNumber source.now.shape source.now.elems)
-        (element NoNumber target.now.shape target.now.elems))) }
+    ensures { IfOk result (λ elems. elems.items
+        ≡ listed target.now.shape (item_over source.now target.now spans.now)) }
 {
     let mut elems = Vec::new(alloc);
     begin(outer, point);
@@ -125,9 +122,7 @@ fn elems_with(
     target: &Tensor,
     spans: &[Span],
 ) -> Result<ElemList, NoMemory>
-    ensures { IfOk result (λ elems. elems ≡ listed target.now.shape
-        (pasted (windows_of spans.now) (element NoNumber source.now.shape source.now.elems)
-        (element NoNumber target.now.shape target.now.elems))) }
+    ensures { IfOk result (λ elems. elems ≡ listed target.now.shape (item_over source.now target.now spans.now)) }
 {
     let outer = whole_spans(alloc, target.shape.as_slice())?;
     let mut point = room_for(alloc, outer.len())?;

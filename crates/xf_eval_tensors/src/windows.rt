@@ -86,8 +86,8 @@ fn span_in(offset: u128, size: u128, extent: u32) -> Option<Span>
     })
 }
 
-/// The numbers of each dimension that a window has, where each lies within its extent, and there are as many offsets and
-/// sizes as extents. Refuses for want of memory alone.
+/// The numbers of each dimension that a window has, where each lies within its extent, and there are as many offsets
+/// and sizes as extents. Refuses for want of memory alone.
 fn spans_in(
     alloc: Global,
     offsets: &[u128],

@@ -14,7 +14,8 @@ returns-in-Err c =
     let t = c.args.target.now in
     put_refused c.args.op c.args.types.now c.args.source.now t c.args.spans.now c.args.budget.now c.admit.new.budget
     c.in-Err.stop c.requires.source c.requires.target c.requires.width
-    (subst (λ s. IsAdmitted c.args.op c.args.types.now t.width s 0 c.args.budget.now c.admit.new.budget (Err c.in-Err.stop))
+    (subst (λ s. IsAdmitted c.args.op c.args.types.now t.width s 0 c.args.budget.now c.admit.new.budget
+    (Err c.in-Err.stop))
     c.as_slice.ensures c.in-Err.ensures)
 
 pub returns-in_ok-tensor-in-Ok : goal.returns-in_ok-tensor-in-Ok
@@ -24,6 +25,7 @@ returns-in_ok-tensor-in-Ok c =
     c.in_ok-elems-in-Ok.elems c.args.budget.now c.admit.new.budget c.in-Ok.field-0 c.in_ok-tensor-in-Ok.field-0
     c.requires.source c.requires.target c.requires.width (c.in_ok-shape-in-Ok.ensures ∙ c.as_slice-in-Ok.ensures)
     c.in_ok-elems-in-Ok.ensures
-    (subst (λ s. IsAdmitted c.args.op c.args.types.now t.width s 0 c.args.budget.now c.admit.new.budget (Ok c.in-Ok.field-0))
+    (subst (λ s. IsAdmitted c.args.op c.args.types.now t.width s 0 c.args.budget.now c.admit.new.budget
+    (Ok c.in-Ok.field-0))
     c.as_slice.ensures c.in-Ok.ensures)
     c.in_ok-tensor-in-Ok.ensures

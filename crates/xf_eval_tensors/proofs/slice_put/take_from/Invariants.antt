@@ -5,4 +5,5 @@ use Rattle.xf_eval_tensors.proofs.slice_put.take_from.Given as goal
 
 abbrev pub invariant-loop-at : goal.invariant-loop-at
 invariant-loop-at l =
-    (take l.at l.local ≡ taken_from (windows_of (take l.at l.spans)) (take l.at l.point)) × (length l.local ≡ length l.spans)
+    (take l.at l.local ≡ taken_from (windows_of (take l.at l.spans)) (take l.at l.point))
+    × (length l.local ≡ length l.spans)
