@@ -11,6 +11,7 @@ mod args;
 mod bed;
 mod edit;
 mod fields;
+mod homes;
 mod kid;
 mod kids;
 mod node;
