@@ -1,5 +1,6 @@
 -- What the node of a live operation says of where it stands.
-use Rattle.std.proofs.Common.{◌≡◌, ℕ, ◌<◌, List, [], ◌∷◌, length, slice_index_or, sym, ◌∙◌, ap, refl}
+use Rattle.std.proofs.Common.{◌≡◌, ℕ, suc, ◌<◌, ◌^◌, List, [], ◌∷◌, length, slice_index_or, sym, ◌∙◌, ap, arith}
+use Rattle.std.proofs.Common.{refl}
 use Rattle.std.proofs.Common.{true, false, eqb, inl, inr}
 use Rattle.std.specs.Prelude.{Option, Some, None, IfSome, IfNone}
 use Rattle.std.proofs.lemmas.Bool.{cases_Bool, eqb-true}
@@ -8,15 +9,17 @@ use Rattle.xf_ir.specs.declared.name.OpName.{OpName}
 use Rattle.xf_ir.specs.declared.spot.Spot.{Spot}
 use Rattle.xf_ir.specs.Tree.{Tree, cons, no_ops}
 use Rattle.xf_ir.specs.Walk.{tree_find}
-use Rattle.xf_ir.specs.Spots.{spot_at}
+use Rattle.xf_ir.specs.Spots.{tree_locate, spot_at}
 use Rattle.xf_arena_tree.specs.Names.{ops_has}
 use Rattle.xf_arena_tree.specs.Kids.{Inner, inner_of}
 use Rattle.xf_arena_tree.proofs.SplitLemmas.{find_has}
 use Rattle.xf_arena_bed.specs.declared.bed.Bed.TheInside.{Inside}
 use Rattle.xf_arena_bed.specs.declared.node.Node.{Node}
 use Rattle.xf_arena_bed.specs.declared.node.OpId.{OpId}
+use Rattle.xf_arena_bed.specs.declared.kid.Kid.{Kid}
 use Rattle.xf_arena_bed.specs.Home.{Home}
-use Rattle.xf_arena_bed.specs.Homes.{block_of, tree_holder, holder_named}
+use Rattle.xf_arena_bed.specs.Homes.{block_of, tree_holder, holder_named, index_of_spot, tree_index, count_before}
+use Rattle.xf_arena_bed.specs.Kids.{inner_kids}
 use Rattle.xf_arena_bed.specs.Live.{name_of, IsLive}
 use Rattle.xf_arena_bed.specs.Seat.{seat_of}
 use Rattle.xf_arena_bed.specs.Sits.{Nodes, node_at, holds, place, id_at, home_of, Holds}
@@ -24,7 +27,7 @@ use Rattle.xf_arena_bed.specs.Value.{Layout, seat_at}
 use Rattle.xf_arena_bed.specs.View.{layout_of, IsBed}
 use Rattle.xf_arena_bed.proofs.CloseLemmas.{seat_is}
 use Rattle.xf_arena_bed.proofs.HeldLemmas.{IsKid, Held, tree_held, root_unlocated}
-use Rattle.xf_arena_bed.proofs.KidRows.{KidNode, AllKidNodes, find_is, row_of}
+use Rattle.xf_arena_bed.proofs.KidRows.{KidNode, AllKidNodes, kid_items, find_is, row_of, whole}
 use Rattle.xf_arena_bed.proofs.LeafLemmas.{holder, ops_placed}
 use Rattle.xf_arena_bed.proofs.PlaceLemmas.{place_within}
 use Rattle.xf_arena_bed.proofs.SpotLemmas.{stands}
@@ -99,3 +102,85 @@ housed a v id y x i e live r q =
           (housed_inner v id (id_at nodes g.0.parent, g.0.region) (placed_live a v g.0.parent i e has)
           (ap block_of g.1.located) f))
     ]
+
+-- ---- what one holds is counted
+
+inner_long : (ks : List Kid) → length (inner_kids ks) ≡ length ks
+inner_long [] = refl
+inner_long (k ∷ ks) = ap suc (inner_long ks)
+
+items_long : (nodes : Nodes) (ks : List Inner) → length (kid_items nodes ks) ≡ length ks
+items_long nodes [] = refl
+items_long nodes (k ∷ ks) = ap suc (items_long nodes ks)
+
+-- each takes a slot
+pub kids_few : (a : Inside) (v : Layout) (id : OpId) (ks : List Kid) → IsBed a → layout_of a ≡ v → IsLive v id
+    → (t : Tree) × (tree_find (name_of id) v.root ≡ Some t)
+    → ((t : Tree) → tree_find (name_of id) v.root ≡ Some t → inner_kids ks ≡ inner_of 0 t.regions)
+    → length ks < 2 ^ 32
+kids_few a v id ks i e live f all =
+    let nodes = a.nodes.items in
+    let w = whole a v id f.0 i e live f.1 in
+    let short = w.left.short in
+    let size = i.holds.size in
+    let few = i.few in
+    let long = ap length (all f.0 f.1) in
+    omega (arith, ap length w.numbers, items_long nodes (inner_of 0 f.0.regions), inner_long ks)
+
+-- ---- the spot
+
+block_parts : (n p : OpName) (r q : ℕ)
+    → Some (let b : Inner = record { name = n; region = r } in b) ≡ Some (let b : Inner = record { name = p; region = q } in b)
+    → (n ≡ p) × (r ≡ q)
+block_parts n p r q e = (cc, cc)
+
+count_of : (x n p : OpName) (r q at : ℕ) (v : Layout) (t : Tree) → n ≡ p → r ≡ q → tree_find p v.root ≡ Some t
+    → ((t : Tree) → tree_find n v.root ≡ Some t → at ≡ count_before x r (inner_of 0 t.regions))
+    → at ≡ count_before x q (inner_of 0 t.regions)
+count_of x n p r q at v t e w f h = (let g = rw (e, w) at h in g t f)
+
+pub index_found : (a : Inside) (v : Layout) (id : OpId) (h : Home) (at : ℕ) → IsBed a → layout_of a ≡ v → IsLive v id
+    → holder_named (Some h) ≡ tree_holder (name_of id) v.root
+    → ((t : Tree) → tree_find (name_of h.0) v.root ≡ Some t → at ≡ count_before (name_of id) h.1 (inner_of 0 t.regions))
+    → at ≡ tree_index (name_of id) v.root
+index_found a v id h at i e live q all =
+    let o = name_of id in
+    let s = stands a v id i e live in
+    elim (cases_Bool (eqb v.root.name.0 id.serial)) [
+      | inl t ↦ (
+          let none = ap (λ w. block_of (spot_at w)) (root_unlocated o v.root s.holds.distinct t) in
+          let bad : holder_named (Some h) ≡ None = q ∙ none in
+          absurd (cc))
+      | inr f ↦ (
+          let g = tree_held o v.root s.holds.distinct s.has f in
+          let b = block_parts (name_of h.0) g.0.parent h.1 g.0.region (q ∙ ap block_of g.1.located) in
+          count_of o (name_of h.0) g.0.parent h.1 g.0.region at v g.1.holder b.0 b.1 g.1.found all
+          ∙ sym g.1.at ∙ sym (ap index_of_spot g.1.located))
+    ]
+
+pub index_none : (x : OpName) (root : Tree) → None ≡ tree_holder x root → 0 ≡ tree_index x root
+index_none x root e = none_at (spot_at (tree_locate x root)) e
+  where
+    none_at : (o : Option Spot) → None ≡ block_of o → 0 ≡ index_of_spot o
+    none_at None e = refl
+    none_at (Some s) e = cc
+
+pub spot_made : (x : OpName) (root : Tree) (h : Home) (at : ℕ) → holder_named (Some h) ≡ tree_holder x root
+    → at ≡ tree_index x root
+    → Some (let s : Spot = record { parent = name_of h.0; region = h.1; at = at } in s) ≡ spot_at (tree_locate x root)
+spot_made x root h at e w = made (spot_at (tree_locate x root)) h at e w
+  where
+    made : (o : Option Spot) (h : Home) (at : ℕ) → holder_named (Some h) ≡ block_of o → at ≡ index_of_spot o
+        → Some (let s : Spot = record { parent = name_of h.0; region = h.1; at = at } in s) ≡ o
+    made None h at e w = cc
+    made (Some s) h at e w =
+        let b = block_parts (name_of h.0) s.parent h.1 s.region e in
+        let mk : OpName → ℕ → ℕ → Spot = λ n r i. record { parent = n; region = r; at = i } in
+        rw (b.0, b.1, w) refl
+
+pub spot_none : (x : OpName) (root : Tree) → None ≡ tree_holder x root → None ≡ spot_at (tree_locate x root)
+spot_none x root e = none_at (spot_at (tree_locate x root)) e
+  where
+    none_at : (o : Option Spot) → None ≡ block_of o → None ≡ o
+    none_at None e = refl
+    none_at (Some s) e = cc

@@ -34,6 +34,7 @@ impl Bed {
         ensures { (t : Tree) → tree_find (name_of parent) self.now.root ≡ Some t
             → result ≡ count_before (name_of id) region (inner_of 0 t.regions) }
     {
+        let _ = &self.nodes;
         let mut before = 0;
         for kid in self.kids(parent) {
             if kid.id.serial == id.serial {
@@ -53,6 +54,7 @@ impl Bed {
         requires { IsLive self.now id }
         ensures { result ≡ tree_index (name_of id) self.now.root }
     {
+        let _ = &self.nodes;
         match self.parent(id) {
             Some((parent, region)) => self.index_in(parent, region, id),
             None => 0,
@@ -72,7 +74,7 @@ impl Bed {
         Some(Spot {
             parent: OpName(parent.serial),
             region,
-            at: self.index_in(parent, region, id),
+            at: self.index_of(id),
         })
     }
 }
