@@ -132,7 +132,12 @@ kids_few a v id ks i e live f all =
 block_parts : (n p : OpName) (r q : ℕ)
     → Some (let b : Inner = record { name = n; region = r } in b) ≡ Some (let b : Inner = record { name = p; region = q } in b)
     → (n ≡ p) × (r ≡ q)
-block_parts n p r q e = (cc, cc)
+block_parts n p r q e =
+    let same = some_inner (record { name = n; region = r }) (record { name = p; region = q }) e in
+    (ap (λ (b : Inner). b.name) same, ap (λ (b : Inner). b.region) same)
+  where
+    some_inner : (a b : Inner) → Some a ≡ Some b → a ≡ b
+    some_inner a b e = cc
 
 count_of : (x n p : OpName) (r q at : ℕ) (v : Layout) (t : Tree) → n ≡ p → r ≡ q → tree_find p v.root ≡ Some t
     → ((t : Tree) → tree_find n v.root ≡ Some t → at ≡ count_before x r (inner_of 0 t.regions))
