@@ -25,14 +25,17 @@ use Rattle.xf_arena_bed.proofs.KidRows.{find_is}
 
 -- ---- among those that one holds
 
--- the one of a name is among these, in that region
+-- the first one of a name is among these, in that region
 abbrev pub IsKid : OpName → ℕ → List Inner → Type 0
 IsKid x r [] = ⊥
-IsKid x r (k ∷ ks) = (k ≡ record { name = x; region = r }) ⊎ IsKid x r ks
+IsKid x r (k ∷ ks) = (k ≡ record { name = x; region = r }) ⊎ ((eqb k.name.0 x.0 ≡ false) × IsKid x r ks)
 
-kid_later : (x : OpName) (r q : ℕ) (ops : Ops) (more : List Inner) → IsKid x r more → IsKid x r (block_inner q ops more)
-kid_later x r q no_ops more h = h
-kid_later x r q (op n k ds os ts rs rest) more h = inr (kid_later x r q rest more h)
+kid_later : (x : OpName) (r q : ℕ) (ops : Ops) (more : List Inner) → ops_has x ops ≡ false → IsKid x r more
+    → IsKid x r (block_inner q ops more)
+kid_later x r q no_ops more f h = h
+kid_later x r q (op n k ds os ts rs rest) more f h =
+    let p = parts3 (eqb n.0 x.0) (regions_has x rs) (ops_has x rest) f in
+    inr (p.0, kid_later x r q rest more p.1.1 h)
 
 -- a block of another region counts for nothing
 block_skipped : (x : OpName) (r q : ℕ) (ops : Ops) (more : List Inner) → ops_has x ops ≡ false → (q ≡ r → ⊥)
@@ -63,6 +66,7 @@ pub record InRegions (x p : OpName) (q : ℕ) (rs : Regions) (s : Spot) : Type 0
 pub record InFound (x : OpName) (found : OpName → Option Tree) (s : Spot) : Type 0 where
   pub holder : Tree
   pub is : found s.parent ≡ Some holder
+  pub name : holder.name ≡ s.parent
   pub at : s.at ≡ count_before x s.region (inner_of 0 holder.regions)
   pub kid : IsKid x s.region (inner_of 0 holder.regions)
 
@@ -108,13 +112,13 @@ block_behind x p r i n k ds os ts rs rest s f d1 d2 g = elim g [
     parent = o.parent;
     region = o.region;
     at = λ more. rw (f, eq-eqb r r refl) (omega (arith, o.at more));
-    kid = λ more. inr (o.kid more);
+    kid = λ more. inr (f, o.kid more);
   })
   | inr w ↦ (
       let has = find_has s.parent rest w.holder w.is in
       let other = not_here (λ m. ops_has m rest) n s.parent d1 has in
       let lost = regions_lost s.parent rs (not_both (λ y. regions_has y rs) (λ y. ops_has y rest) s.parent d2 has) in
-      inr (record { holder = w.holder; is = rw (other, lost) w.is; at = w.at; kid = w.kid }))
+      inr (record { holder = w.holder; is = rw (other, lost) w.is; name = w.name; at = w.at; kid = w.kid }))
 ]
 
 -- inside an operation
@@ -128,12 +132,13 @@ found_inside x n k ds os ts rs rest s d g = elim g [
       record {
         holder = record { name = n; kind = k; attrs = ds; operands = os; results = ts; regions = rs };
         is = rw e refl;
+        name = sym o.parent;
         at = o.at;
         kid = o.kid;
       })
   | inr w ↦ (
       let other = not_here (λ m. regions_has m rs) n s.parent d (find_has_regions s.parent rs w.holder w.is) in
-      record { holder = w.holder; is = rw (other, w.is) refl; at = w.at; kid = w.kid })
+      record { holder = w.holder; is = rw (other, w.is) refl; name = w.name; at = w.at; kid = w.kid })
 ]
 
 -- in the first of some blocks
@@ -147,7 +152,7 @@ regions_here x p q args ops rest s g = elim g [
     at = rw o.region (omega (arith, o.at (inner_of (suc q) rest)));
     kid = rw o.region (o.kid (inner_of (suc q) rest));
   })
-  | inr w ↦ inr (record { holder = w.holder; is = rw w.is refl; at = w.at; kid = w.kid })
+  | inr w ↦ inr (record { holder = w.holder; is = rw w.is refl; name = w.name; at = w.at; kid = w.kid })
 ]
 
 -- in a later one
@@ -165,12 +170,12 @@ regions_later x p q args ops rest s h d g =
             parent = o.parent;
             region = omega arith;
             at = (rw next at o.at) ∙ sym skip;
-            kid = kid_later x s.region q ops (inner_of (suc q) rest) (rw next at o.kid);
+            kid = kid_later x s.region q ops (inner_of (suc q) rest) h (rw next at o.kid);
           }))
       | inr w ↦ (
           let has = find_has_regions s.parent rest w.holder w.is in
           let lost = ops_lost s.parent ops (not_both (λ y. ops_has y ops) (λ y. regions_has y rest) s.parent d has) in
-          inr (record { holder = w.holder; is = rw lost w.is; at = w.at; kid = w.kid }))
+          inr (record { holder = w.holder; is = rw lost w.is; name = w.name; at = w.at; kid = w.kid }))
     ]
 
 mutual
@@ -222,6 +227,7 @@ pub record Held (x : OpName) (root : Tree) (s : Spot) : Type 0 where
   pub located : spot_at (tree_locate x root) ≡ Some s
   pub holder : Tree
   pub found : tree_find s.parent root ≡ Some holder
+  pub name : holder.name ≡ s.parent
   pub at : s.at ≡ count_before x s.region (inner_of 0 holder.regions)
   pub kid : IsKid x s.region (inner_of 0 holder.regions)
 
@@ -235,6 +241,7 @@ tree_held x root d h f =
       located = g.1.0;
       holder = w.holder;
       found = sym (find_is g.0.parent root) ∙ w.is;
+      name = w.name;
       at = w.at;
       kid = w.kid;
     })

@@ -37,7 +37,7 @@ kid_node : (nodes : Nodes) (p x : OpName) (r : ℕ) (ks : List Inner) → AllKid
 kid_node nodes p x r [] a h = absurd h
 kid_node nodes p x r (k ∷ ks) a h = elim h [
   | inl e ↦ rw (← e) a.0
-  | inr w ↦ kid_node nodes p x r ks a.1 w
+  | inr w ↦ kid_node nodes p x r ks a.1 w.1
 ]
 
 some_node : (a b : Node) → Some a ≡ Some b → a ≡ b
@@ -129,7 +129,7 @@ kids_few a v id ks i e live f all =
 
 -- ---- the spot
 
-block_parts : (n p : OpName) (r q : ℕ)
+pub block_parts : (n p : OpName) (r q : ℕ)
     → Some (let b : Inner = record { name = n; region = r } in b) ≡ Some (let b : Inner = record { name = p; region = q } in b)
     → (n ≡ p) × (r ≡ q)
 block_parts n p r q e =
@@ -162,30 +162,3 @@ index_found a v id h at i e live q all =
           count_of o (name_of h.0) g.0.parent h.1 g.0.region at v g.1.holder b.0 b.1 g.1.found all
           ∙ sym g.1.at ∙ sym (ap index_of_spot g.1.located))
     ]
-
-pub index_none : (x : OpName) (root : Tree) → None ≡ tree_holder x root → 0 ≡ tree_index x root
-index_none x root e = none_at (spot_at (tree_locate x root)) e
-  where
-    none_at : (o : Option Spot) → None ≡ block_of o → 0 ≡ index_of_spot o
-    none_at None e = refl
-    none_at (Some s) e = cc
-
-pub spot_made : (x : OpName) (root : Tree) (h : Home) (at : ℕ) → holder_named (Some h) ≡ tree_holder x root
-    → at ≡ tree_index x root
-    → Some (let s : Spot = record { parent = name_of h.0; region = h.1; at = at } in s) ≡ spot_at (tree_locate x root)
-spot_made x root h at e w = made (spot_at (tree_locate x root)) h at e w
-  where
-    made : (o : Option Spot) (h : Home) (at : ℕ) → holder_named (Some h) ≡ block_of o → at ≡ index_of_spot o
-        → Some (let s : Spot = record { parent = name_of h.0; region = h.1; at = at } in s) ≡ o
-    made None h at e w = cc
-    made (Some s) h at e w =
-        let b = block_parts (name_of h.0) s.parent h.1 s.region e in
-        let mk : OpName → ℕ → ℕ → Spot = λ n r i. record { parent = n; region = r; at = i } in
-        rw (b.0, b.1, w) refl
-
-pub spot_none : (x : OpName) (root : Tree) → None ≡ tree_holder x root → None ≡ spot_at (tree_locate x root)
-spot_none x root e = none_at (spot_at (tree_locate x root)) e
-  where
-    none_at : (o : Option Spot) → None ≡ block_of o → None ≡ o
-    none_at None e = refl
-    none_at (Some s) e = cc

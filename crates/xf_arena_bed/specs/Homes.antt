@@ -1,10 +1,11 @@
 -- Where operations stand in the tree.
-use Rattle.std.specs.Prelude.{ℕ, suc, List, [], ◌∷◌, Option, Some, None, ◌==◌, if◌then◌else◌}
+use Rattle.std.specs.Prelude.{ℕ, suc, ◌+◌, List, [], ◌∷◌, Option, Some, None, ◌==◌, if◌then◌else◌, slice_get}
 use Rattle.xf_ir.specs.declared.name.OpName.{OpName}
 use Rattle.xf_ir.specs.declared.spot.Spot.{Spot}
 use Rattle.xf_ir.specs.Spots.{tree_locate, spot_at}
 use Rattle.xf_ir.specs.Tree.{Tree}
-use Rattle.xf_arena_tree.specs.Kids.{Inner}
+use Rattle.xf_ir.specs.Walk.{tree_find}
+use Rattle.xf_arena_tree.specs.Kids.{Inner, heads_at}
 use Rattle.xf_arena_bed.specs.Home.{Home}
 use Rattle.xf_arena_bed.specs.Live.{name_of}
 
@@ -36,3 +37,20 @@ abbrev pub count_before : OpName → ℕ → List Inner → ℕ
 count_before name r [] = 0
 count_before name r (k ∷ ks) =
     if k.name.0 == name.0 then 0 else (if k.region == r then suc (count_before name r ks) else count_before name r ks)
+
+-- the name of operation i of region r
+abbrev pub name_in : ℕ → ℕ → Option Tree → Option OpName
+name_in r i None = None
+name_in r i (Some t) = slice_get (heads_at r t.regions) i
+
+-- the name of the operation at a spot
+abbrev pub name_at : Spot → Tree → Option OpName
+name_at s t = name_in s.region s.at (tree_find s.parent t)
+
+abbrev pub name_behind : Option Spot → Tree → Option OpName
+name_behind None t = None
+name_behind (Some s) t = name_at (record s { at = s.at + 1 }) t
+
+-- the name of the operation behind the one of a name in its block
+abbrev pub tree_behind : OpName → Tree → Option OpName
+tree_behind name t = name_behind (spot_at (tree_locate name t)) t

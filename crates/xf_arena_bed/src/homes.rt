@@ -4,8 +4,8 @@ ghost use Rattle.xf_ir.specs.Spots.{tree_locate, spot_at};
 ghost use Rattle.xf_ir.specs.Tree.{Tree};
 ghost use Rattle.xf_ir.specs.Walk.{tree_find};
 ghost use Rattle.xf_arena_tree.specs.Kids.{inner_of};
-ghost use Rattle.xf_arena_bed.specs.Live.{name_of, IsLive};
-ghost use Rattle.xf_arena_bed.specs.Homes.{tree_holder, holder_named, tree_index, count_before};
+ghost use Rattle.xf_arena_bed.specs.Live.{name_of, names_of, IsLive, AreLive};
+ghost use Rattle.xf_arena_bed.specs.Homes.{tree_holder, holder_named, tree_index, count_before, tree_behind};
 
 use crate::bed::Bed;
 use crate::node::OpId;
@@ -76,5 +76,20 @@ impl Bed {
             region,
             at: self.index_of(id),
         })
+    }
+
+    /// The operation behind one in its block, or `None` exactly where it is the last one, or the root.
+    ///
+    /// Takes constant time.
+    pub fn behind(&self, id: OpId) -> Option<OpId>
+        requires { IsLive self.now id }
+        ensures live { AreLive self.now result }
+        ensures next { names_of result ≡ tree_behind (name_of id) self.now.root }
+    {
+        let _ = &self.nodes;
+        match self.parent(id) {
+            Some((_, region)) => self.after(id, region),
+            None => None,
+        }
     }
 }
