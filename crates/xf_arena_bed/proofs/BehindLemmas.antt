@@ -101,7 +101,7 @@ behind_spot : (x : OpName) (root : Tree) (s : Spot) (g : Held x root s) (n : Opt
 behind_spot x root s g n h =
     let r = s.region in
     let a = around x r (inner_of 0 g.holder.regions) g.kid in
-    let found : tree_find g.holder.name root ≡ Some g.holder = rw g.name g.found in
+    let found : tree_find g.holder.name root ≡ Some g.holder = ap (λ n. tree_find n root) g.name ∙ g.found in
     let at : s.at + 1 ≡ suc (count_before x r (inner_of 0 g.holder.regions)) = (let e = g.at in omega arith) in
     let here : name_in r (s.at + 1) (tree_find s.parent root) ≡ first_item (names_in r a.vs) =
     ap (name_in r (s.at + 1)) g.found ∙ ap (λ l. slice_get l (s.at + 1)) (sym (names_at r g.holder.regions))

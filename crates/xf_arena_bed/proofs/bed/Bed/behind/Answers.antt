@@ -1,3 +1,4 @@
+use Rattle.xf_arena_bed.specs.Live.{names_of}
 use Rattle.xf_arena_bed.proofs.BehindLemmas.{behind_found}
 use Rattle.xf_arena_bed.proofs.bed.Bed.behind.Goals as goal
 
