@@ -12,9 +12,8 @@ use Rattle.xf_arena_tree.specs.Kids.{Inner, block_inner, inner_of, first_item, n
 use Rattle.xf_arena_tree.specs.Names.{heads}
 use Rattle.xf_arena_bed.specs.declared.bed.Bed.TheInside.{Inside}
 use Rattle.xf_arena_bed.specs.declared.node.OpId.{OpId}
-use Rattle.xf_arena_bed.specs.Home.{Home}
-use Rattle.xf_arena_bed.specs.Homes.{block_of, tree_holder, holder_named, count_before, name_in, name_behind, tree_behind}
-use Rattle.xf_arena_bed.specs.Live.{name_of, names_of, IsLive}
+use Rattle.xf_arena_bed.specs.Homes.{block_of, tree_holder, count_before, name_in, name_behind, tree_behind}
+use Rattle.xf_arena_bed.specs.Live.{name_of, IsLive}
 use Rattle.xf_arena_bed.specs.Value.{Layout}
 use Rattle.xf_arena_bed.specs.View.{layout_of, IsBed}
 use Rattle.xf_arena_bed.proofs.HeldLemmas.{IsKid, Held, tree_held, root_unlocated}
@@ -109,21 +108,22 @@ behind_spot x root s g n h =
     in
     h g.holder a.us a.vs found a.split ∙ sym here ∙ sym (ap (λ o. name_behind o root) g.located)
 
-pub behind_found : (a : Inside) (v : Layout) (id : OpId) (h : Home) (n : Option OpName) → IsBed a → layout_of a ≡ v
-    → IsLive v id → holder_named (Some h) ≡ tree_holder (name_of id) v.root
+pub behind_found : (a : Inside) (v : Layout) (id : OpId) (p : OpName) (r : ℕ) (n : Option OpName) → IsBed a
+    → layout_of a ≡ v → IsLive v id → Some (record { name = p; region = r }) ≡ tree_holder (name_of id) v.root
     → ((t : Tree) (us vs : List Inner) → tree_find t.name v.root ≡ Some t
-    → inner_of 0 t.regions ≡ us ++ record { name = name_of id; region = h.1 } ∷ vs → n ≡ first_item (names_in h.1 vs))
+    → inner_of 0 t.regions ≡ us ++ record { name = name_of id; region = r } ∷ vs → n ≡ first_item (names_in r vs))
     → n ≡ tree_behind (name_of id) v.root
-behind_found a v id h n i e live q next =
+behind_found a v id p r n i e live q next =
     let o = name_of id in
     let s = stands a v id i e live in
     elim (cases_Bool (eqb v.root.name.0 id.serial)) [
       | inl t ↦ (
           let none = ap (λ w. block_of (spot_at w)) (root_unlocated o v.root s.holds.distinct t) in
-          let bad : holder_named (Some h) ≡ None = q ∙ none in
+          let here : Inner = record { name = p; region = r } in
+          let bad : Some here ≡ None = q ∙ none in
           absurd (cc))
       | inr f ↦ (
           let g = tree_held o v.root s.holds.distinct s.has f in
-          let b = block_parts (name_of h.0) g.0.parent h.1 g.0.region (q ∙ ap block_of g.1.located) in
+          let b = block_parts p g.0.parent r g.0.region (q ∙ ap block_of g.1.located) in
           behind_spot o v.root g.0 g.1 n (rw b.1 at next))
     ]
