@@ -12,7 +12,7 @@ use Rattle.xf_arena_tree.specs.Kids.{Inner, block_inner, inner_of, first_item, n
 use Rattle.xf_arena_tree.specs.Names.{heads}
 use Rattle.xf_arena_bed.specs.declared.bed.Bed.TheInside.{Inside}
 use Rattle.xf_arena_bed.specs.declared.node.OpId.{OpId}
-use Rattle.xf_arena_bed.specs.Homes.{block_of, tree_holder, count_before, name_in, name_behind, tree_behind}
+use Rattle.xf_arena_bed.specs.Homes.{block_of, tree_holder, count_before, kid_name, name_behind, tree_behind}
 use Rattle.xf_arena_bed.specs.Live.{name_of, IsLive}
 use Rattle.xf_arena_bed.specs.Value.{Layout}
 use Rattle.xf_arena_bed.specs.View.{layout_of, IsBed}
@@ -102,8 +102,8 @@ behind_spot x root s g n h =
     let a = around x r (inner_of 0 g.holder.regions) g.kid in
     let found : tree_find g.holder.name root ≡ Some g.holder = ap (λ n. tree_find n root) g.name ∙ g.found in
     let at : s.at + 1 ≡ suc (count_before x r (inner_of 0 g.holder.regions)) = (let e = g.at in omega arith) in
-    let here : name_in r (s.at + 1) (tree_find s.parent root) ≡ first_item (names_in r a.vs) =
-    ap (name_in r (s.at + 1)) g.found ∙ ap (λ l. slice_get l (s.at + 1)) (sym (names_at r g.holder.regions))
+    let here : kid_name r (s.at + 1) (tree_find s.parent root) ≡ first_item (names_in r a.vs) =
+    ap (kid_name r (s.at + 1)) g.found ∙ ap (λ l. slice_get l (s.at + 1)) (sym (names_at r g.holder.regions))
     ∙ ap (slice_get (names_in r (inner_of 0 g.holder.regions))) at ∙ a.next
     in
     h g.holder a.us a.vs found a.split ∙ sym here ∙ sym (ap (λ o. name_behind o root) g.located)

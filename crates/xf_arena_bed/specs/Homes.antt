@@ -39,17 +39,17 @@ count_before name r (k ∷ ks) =
     if k.name.0 == name.0 then 0 else (if k.region == r then suc (count_before name r ks) else count_before name r ks)
 
 -- the name of operation i of region r
-abbrev pub name_in : ℕ → ℕ → Option Tree → Option OpName
-name_in r i None = None
-name_in r i (Some t) = slice_get (heads_at r t.regions) i
+abbrev pub kid_name : ℕ → ℕ → Option Tree → Option OpName
+kid_name r i None = None
+kid_name r i (Some t) = slice_get (heads_at r t.regions) i
 
 -- the name of the operation at a spot
-abbrev pub name_at : Spot → Tree → Option OpName
-name_at s t = name_in s.region s.at (tree_find s.parent t)
+abbrev pub name_at_spot : Spot → Tree → Option OpName
+name_at_spot s t = kid_name s.region s.at (tree_find s.parent t)
 
 abbrev pub name_behind : Option Spot → Tree → Option OpName
 name_behind None t = None
-name_behind (Some s) t = name_at (record s { at = s.at + 1 }) t
+name_behind (Some s) t = name_at_spot (record s { at = s.at + 1 }) t
 
 -- the name of the operation behind the one of a name in its block
 abbrev pub tree_behind : OpName → Tree → Option OpName

@@ -34,7 +34,7 @@ impl Bed {
         ensures { (t : Tree) → tree_find (name_of parent) self.now.root ≡ Some t
             → result ≡ count_before (name_of id) region (inner_of 0 t.regions) }
     {
-        let _ = &self.nodes;
+        let _ = &self.nodes; // for the proof, which needs that slots are few
         let mut before = 0;
         for kid in self.kids(parent) {
             if kid.id.serial == id.serial {
@@ -54,7 +54,7 @@ impl Bed {
         requires { IsLive self.now id }
         ensures { result ≡ tree_index (name_of id) self.now.root }
     {
-        let _ = &self.nodes;
+        let _ = &self.nodes; // for the proof, which needs that names are distinct
         match self.parent(id) {
             Some((parent, region)) => self.index_in(parent, region, id),
             None => 0,
@@ -86,7 +86,7 @@ impl Bed {
         ensures live { AreLive self.now result }
         ensures next { names_of result ≡ tree_behind (name_of id) self.now.root }
     {
-        let _ = &self.nodes;
+        let _ = &self.nodes; // for the proof, which needs that names are distinct
         match self.parent(id) {
             Some((_, region)) => self.after(id, region),
             None => None,
