@@ -1,13 +1,13 @@
 -- The operation behind one in its block.
-use Rattle.std.proofs.Common.{◌≡◌, ℕ, zero, suc, ◌+◌, ◌<◌, ◌≤◌, List, [], ◌∷◌, ◌++◌, sym, ◌∙◌, ap, arith, refl}
-use Rattle.std.proofs.Common.{true, false, eqb, inl, inr}
+use Rattle.std.proofs.Common.{◌≡◌, ℕ, zero, suc, ◌+◌, ◌<◌, List, [], ◌∷◌, ◌++◌, sym, ◌∙◌, ap, arith, refl}
+use Rattle.std.proofs.Common.{false, eqb, inl, inr}
 use Rattle.std.specs.Prelude.{Option, Some, None, slice_get}
 use Rattle.std.proofs.lemmas.Bool.{cases_Bool, eq-eqb, ne_eqb}
 use Rattle.xf_ir.specs.declared.name.OpName.{OpName}
 use Rattle.xf_ir.specs.declared.spot.Spot.{Spot}
-use Rattle.xf_ir.specs.Tree.{Ops, no_ops, op, Regions, no_regions, region, Tree, cons}
+use Rattle.xf_ir.specs.Tree.{Ops, no_ops, op, Regions, no_regions, region, Tree}
 use Rattle.xf_ir.specs.Walk.{tree_find}
-use Rattle.xf_ir.specs.Spots.{tree_locate, spot_at}
+use Rattle.xf_ir.specs.Spots.{spot_at}
 use Rattle.xf_arena_tree.specs.Kids.{Inner, block_inner, inner_of, first_item, names_in, heads_at}
 use Rattle.xf_arena_tree.specs.Names.{heads}
 use Rattle.xf_arena_bed.specs.declared.bed.Bed.TheInside.{Inside}

@@ -1,5 +1,5 @@
 -- An operation of a tree is one of those that the operation of its spot holds.
-use Rattle.std.proofs.Common.{◌≡◌, ℕ, zero, suc, ◌+◌, ◌≤◌, List, [], ◌∷◌, ◌++◌, sym, ◌∙◌, ap, arith, refl}
+use Rattle.std.proofs.Common.{◌≡◌, ℕ, suc, ◌+◌, ◌≤◌, List, [], ◌∷◌, sym, ◌∙◌, ap, arith, refl}
 use Rattle.std.proofs.Common.{Bool, true, false, eqb, ◌||◌, ◌⊎◌, inl, inr}
 use Rattle.std.specs.Prelude.{Option, Some, None}
 use Rattle.std.proofs.lemmas.Bool.{eq-eqb, ne_eqb, eqb-true, cases_Bool}
@@ -236,15 +236,17 @@ pub tree_held : (x : OpName) (root : Tree) → OpsDistinct (cons root no_ops) �
 tree_held x root d h f =
     let a : regions_has x root.regions ≡ true = inside (regions_has x root.regions) (rw f at h) in
     let g = regions_held x root.name 0 root.regions d.1.1.1.0 a in
-    let w = found_inside x root.name root.kind root.attrs root.operands root.results root.regions no_ops g.0 d.0 g.1.1 in
-    (g.0, record {
-      located = g.1.0;
-      holder = w.holder;
-      found = sym (find_is g.0.parent root) ∙ w.is;
-      name = w.name;
-      at = w.at;
-      kid = w.kid;
-    })
+    let w = found_inside x root.name root.kind root.attrs root.operands root.results root.regions no_ops g.0 d.0 g.1.1 in (
+      g.0,
+      record {
+        located = g.1.0;
+        holder = w.holder;
+        found = sym (find_is g.0.parent root) ∙ w.is;
+        name = w.name;
+        at = w.at;
+        kid = w.kid;
+      },
+    )
   where
     inside : (b : Bool) → (b || false) ≡ true → b ≡ true
     inside true e = refl

@@ -6,10 +6,9 @@ use Rattle.std.specs.Prelude.{Option, Some, None, IfSome, IfNone}
 use Rattle.std.proofs.lemmas.Bool.{cases_Bool, eqb-true}
 use Rattle.std.proofs.lemmas.List.{get_or_read}
 use Rattle.xf_ir.specs.declared.name.OpName.{OpName}
-use Rattle.xf_ir.specs.declared.spot.Spot.{Spot}
 use Rattle.xf_ir.specs.Tree.{Tree, cons, no_ops}
 use Rattle.xf_ir.specs.Walk.{tree_find}
-use Rattle.xf_ir.specs.Spots.{tree_locate, spot_at}
+use Rattle.xf_ir.specs.Spots.{spot_at}
 use Rattle.xf_arena_tree.specs.Names.{ops_has}
 use Rattle.xf_arena_tree.specs.Kids.{Inner, inner_of}
 use Rattle.xf_arena_tree.proofs.SplitLemmas.{find_has}
@@ -22,11 +21,11 @@ use Rattle.xf_arena_bed.specs.Homes.{block_of, tree_holder, holder_named, index_
 use Rattle.xf_arena_bed.specs.Kids.{inner_kids}
 use Rattle.xf_arena_bed.specs.Live.{name_of, IsLive}
 use Rattle.xf_arena_bed.specs.Seat.{seat_of}
-use Rattle.xf_arena_bed.specs.Sits.{Nodes, node_at, holds, place, id_at, home_of, Holds}
+use Rattle.xf_arena_bed.specs.Sits.{Nodes, node_at, place, id_at, home_of, Holds}
 use Rattle.xf_arena_bed.specs.Value.{Layout, seat_at}
 use Rattle.xf_arena_bed.specs.View.{layout_of, IsBed}
 use Rattle.xf_arena_bed.proofs.CloseLemmas.{seat_is}
-use Rattle.xf_arena_bed.proofs.HeldLemmas.{IsKid, Held, tree_held, root_unlocated}
+use Rattle.xf_arena_bed.proofs.HeldLemmas.{IsKid, tree_held, root_unlocated}
 use Rattle.xf_arena_bed.proofs.KidRows.{KidNode, AllKidNodes, kid_items, find_is, row_of, whole}
 use Rattle.xf_arena_bed.proofs.LeafLemmas.{holder, ops_placed}
 use Rattle.xf_arena_bed.proofs.PlaceLemmas.{place_within}
