@@ -4,13 +4,15 @@
 //! `specs/Value.antt`). An `OpId` is a slot with a name, and live where the slot holds the operation of that name
 //! (`specs/Live.antt`); a name that is never given again is stale for ever once its operation is gone. Each edit leaves
 //! the tree that the definitions of `xf_ir` say, and each operation that stays in its slot. What one operation holds
-//! stands in one ring, in the order of its regions; only `start`, `grow`, `reserve` and `insert` take memory.
+//! stands in one ring, in the order of its regions, and each knows the operation around it and its region, so `parent`
+//! takes constant time; only `start`, `grow`, `reserve` and `insert` take memory.
 #![tactic(auto)]
 
 mod args;
 mod bed;
 mod edit;
 mod fields;
+mod homes;
 mod kid;
 mod kids;
 mod node;
