@@ -128,20 +128,20 @@ left_sits nodes next root u o s was x h f e q a =
 
 -- ---- what stays
 
-place_same : (nodes : Nodes) (n : OpName) (s : ℕ) (y : Option Node) → holds n (node_at nodes s) ≡ holds n y
+pub place_same : (nodes : Nodes) (n : OpName) (s : ℕ) (y : Option Node) → holds n (node_at nodes s) ≡ holds n y
     → place n (slice_set nodes s y) ≡ place n nodes
 place_same [] n s y e = refl
 place_same (z ∷ zs) n zero y e = rw (← e) refl
 place_same (z ∷ zs) n (suc s) y e = ap (λ j. cond (holds n z) 0 (suc j)) (place_same zs n s y e)
 
 -- in the emptied slots, as in all
-record Stays (nodes : Nodes) (s : ℕ) (n o : OpName) : Type 0 where
+pub record Stays (nodes : Nodes) (s : ℕ) (n o : OpName) : Type 0 where
   pub other : eqb n.0 o.0 ≡ false
   pub same : place n (emptied nodes s) ≡ place n nodes
   pub away : place n nodes ≡ s → ⊥
   pub placed : Placed nodes n
 
-stays : (nodes : Nodes) (next : List ℕ) (root : ℕ) (u : Tree) (o : OpName) (s : ℕ) (x : Node) (n : OpName)
+pub stays : (nodes : Nodes) (next : List ℕ) (root : ℕ) (u : Tree) (o : OpName) (s : ℕ) (x : Node) (n : OpName)
     → Holds nodes next root u → node_at nodes s ≡ Some x → x.name ≡ o → Placed (emptied nodes s) n
     → Stays nodes s n o
 stays nodes next root u o s x n h e q p =
@@ -159,7 +159,7 @@ stays nodes next root u o s x n h e q p =
     in
     record { other = f; same = same; away = away; placed = ap (holds n) (sym kept) ∙ p }
 
-before_back : (nodes : Nodes) (next : List ℕ) (root : ℕ) (u : Tree) (o p : OpName) (s r i was before : ℕ) (x : Node)
+pub before_back : (nodes : Nodes) (next : List ℕ) (root : ℕ) (u : Tree) (o p : OpName) (s r i was before : ℕ) (x : Node)
     → Moving nodes next root u o p s r i was before x → Placed (emptied nodes s) p → IsBefore nodes p before
 before_back nodes next root u o p s r i was before x y pl = elim y.spot [
   | inl b ↦ inl (b ∙ ap head (stays nodes next root u o s x p y.held y.at y.name pl).same)
@@ -199,7 +199,7 @@ row_beside nodes p before m (n ∷ ns) b f a =
     (item_beside nodes p before m n b a.0 f, row_beside nodes p before m ns b f a.1)
 
 -- the row of another operation than p, which has not o
-row_moved : (nodes : Nodes) (next : List ℕ) (o p : OpName) (s was before : ℕ) (n : OpName) (ns : List OpName)
+pub row_moved : (nodes : Nodes) (next : List ℕ) (o p : OpName) (s was before : ℕ) (n : OpName) (ns : List OpName)
     → After next was (item s) → IsBefore nodes p before → Placed nodes p → Placed nodes o → place o nodes ≡ s
     → eqb n.0 p.0 ≡ false → Placed nodes n → AllPlaced nodes ns → AllUnder nodes n ns → NoneOf o ns
     → Path next (head (place n nodes)) (map (item_of nodes) ns) (head (place n nodes))
@@ -215,7 +215,7 @@ row_moved nodes next o p s was before n ns a b pp po e f pn an un nn q =
 
 -- ---- put where it belongs
 
-put_of : (nodes : Nodes) (next : List ℕ) (root : ℕ) (u : Tree) (o p : OpName) (s r i was before : ℕ) (x : Node)
+pub put_of : (nodes : Nodes) (next : List ℕ) (root : ℕ) (u : Tree) (o p : OpName) (s r i was before : ℕ) (x : Node)
     → Moving nodes next root u o p s r i was before x → Placed (emptied nodes s) p
     → Put (emptied nodes s) (moved_nodes nodes s p r x) (unlinked was (item s) next) (moved_links was before s next) p s
     before
