@@ -1,5 +1,5 @@
 -- An operation unlinked and linked elsewhere: the nodes and links hold the tree in which it is moved.
-use Rattle.std.proofs.Common.{◌≡◌, ℕ, zero, suc, ◌*◌, ◌<◌, List, [], ◌∷◌, length, cond}
+use Rattle.std.proofs.Common.{◌≡◌, ℕ, ◌*◌, ◌<◌, List, [], ◌∷◌, length}
 use Rattle.std.proofs.Common.{slice_index, slice_set, sym, ◌∙◌, ap, arith, refl, true, false}
 use Rattle.std.proofs.Common.{eqb, ◌||◌, inl, inr}
 use Rattle.std.specs.Prelude.{map, Option, Some, None}
@@ -127,12 +127,6 @@ left_sits nodes next root u o s was x h f e q a =
     (cut_of nodes next root u o s was x h e q a) None (cons u no_ops) h.sits h.distinct)
 
 -- ---- what stays
-
-pub place_same : (nodes : Nodes) (n : OpName) (s : ℕ) (y : Option Node) → holds n (node_at nodes s) ≡ holds n y
-    → place n (slice_set nodes s y) ≡ place n nodes
-place_same [] n s y e = refl
-place_same (z ∷ zs) n zero y e = rw (← e) refl
-place_same (z ∷ zs) n (suc s) y e = ap (λ j. cond (holds n z) 0 (suc j)) (place_same zs n s y e)
 
 -- in the emptied slots, as in all
 pub record Stays (nodes : Nodes) (s : ℕ) (n o : OpName) : Type 0 where

@@ -27,7 +27,8 @@ use Rattle.xf_arena_bed.proofs.FindLemmas.{Found, ops_found}
 use Rattle.xf_arena_bed.proofs.HoldsPutLemmas.{first}
 use Rattle.xf_arena_bed.proofs.MoveTreeLemmas.{TreeOut, taken_out, TreeMoved, put_again}
 use Rattle.xf_arena_bed.proofs.MoveLemmas.{emptied, rehomed, moved_nodes, moved_links, Moving, here, left_sits, stays}
-use Rattle.xf_arena_bed.proofs.MoveLemmas.{place_same, before_back, row_moved, put_of}
+use Rattle.xf_arena_bed.proofs.MoveLemmas.{before_back, row_moved, put_of}
+use Rattle.xf_arena_bed.proofs.FieldLemmas.{place_same}
 
 some_node : (a b : Node) → Some a ≡ Some b → a ≡ b
 some_node a b e = cc
