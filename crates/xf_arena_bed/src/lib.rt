@@ -13,6 +13,7 @@ mod edit;
 mod fields;
 mod kid;
 mod kids;
+mod moves;
 mod node;
 mod restore;
 mod slots;
