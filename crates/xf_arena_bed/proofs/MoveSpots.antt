@@ -8,7 +8,7 @@ use Rattle.std.proofs.lemmas.Bool.{cases_eq}
 use Rattle.xf_ir.specs.declared.name.OpName.{OpName}
 use Rattle.xf_ir.specs.Count.{tree_count}
 use Rattle.xf_ir.specs.Tree.{no_ops, Tree, cons}
-use Rattle.xf_ir.specs.Walk.{ops_find}
+use Rattle.xf_ir.specs.Walk.{ops_find, tree_find}
 use Rattle.xf_rings.specs.Ring.{linked, unlinked, After}
 use Rattle.xf_rings.proofs.PathLemmas.{linked_other, unlinked_other}
 use Rattle.xf_arena_tree.specs.Names.{ops_has}
@@ -25,11 +25,14 @@ use Rattle.xf_arena_bed.specs.Live.{name_of, names_of, IsLive, AreLive, number_b
 use Rattle.xf_arena_bed.specs.Sits.{Nodes, node_at, holds, place, head, item, home_of, OpsSit, Holds, AllFree, FreeOk}
 use Rattle.xf_arena_bed.proofs.PlaceLemmas.{Placed, AllPlaced, kids_placed, place_within}
 use Rattle.xf_arena_bed.proofs.LeafLemmas.{holder, ops_placed}
-use Rattle.xf_arena_bed.proofs.CloseLemmas.{seated, seat_is}
+use Rattle.xf_arena_bed.specs.Rebuilt.{tree_at}
+use Rattle.xf_arena_bed.proofs.CloseLemmas.{seated, seat_is, rebuilt_is}
 use Rattle.xf_arena_bed.proofs.FindLemmas.{ops_found}
 use Rattle.xf_arena_bed.proofs.FieldLemmas.{set_back, same_op}
 use Rattle.xf_arena_bed.proofs.PutLemmas.{SplitAt, IsBefore, AllUnder, kids_under, kids_split, placed_left}
+use Rattle.xf_arena_bed.proofs.KidRows.{find_is}
 use Rattle.xf_arena_bed.proofs.SpotLemmas.{stands, Spotted, last_under, under_left, before_head, before_item}
+use Rattle.xf_arena_bed.proofs.SpotLemmas.{before_other}
 use Rattle.xf_arena_bed.proofs.MoveTreeLemmas.{TreeMoved}
 use Rattle.xf_arena_bed.proofs.MoveLemmas.{emptied, rehomed, moved_nodes, moved_links, Moving, Here, here, left_sits}
 use Rattle.xf_arena_bed.proofs.MoveLemmas.{stays, before_back}
@@ -262,3 +265,26 @@ relinked a v id pid r i was before nodes2 next2 b e c q z =
     in
     let same : nodes2 ≡ moved_nodes a.nodes.items id.slot (name_of pid) r c.node = rw c.home set in
     rw (same, z) (relinked_as a v id pid r i was before b e c)
+
+-- it is not linked behind itself
+pub not_itself : (a : Inside) (v : Layout) (id pid : OpId) (r i was before : ℕ) → Leaving a v id pid r i was before
+    → before ≡ item id.slot → ⊥
+not_itself a v id pid r i was before c =
+    let nodes = a.nodes.items in
+    let m = c.moving in
+    let w = here nodes a.links a.root v.root (name_of id) id.slot c.node m.held c.at m.name in
+    before_other (emptied nodes id.slot) (name_of pid) before id.slot
+    (get_or-set_same nodes id.slot None None w.within) m.spot
+
+pub relinked_root : (nodes2 : Nodes) (next2 : List ℕ) (a : Inside) (v : Layout) (id pid : OpId) (r i : ℕ)
+    → Relinked nodes2 next2 a v id pid r i → (t : Tree) → tree_find (name_of id) v.root ≡ Some t
+    → tree_at nodes2 next2 a.live a.live (item a.root)
+    ≡ tree_put (name_of pid) r i t (tree_without (name_of id) v.root)
+relinked_root nodes2 next2 a v id pid r i k t e =
+    let same : k.tree ≡ t = some_tree k.tree t (sym k.found ∙ find_is (name_of id) v.root ∙ e) in
+    rebuilt_is nodes2 next2 a.root (tree_put (name_of pid) r i k.tree (tree_without (name_of id) v.root)) a.live k.holds
+    (omega (arith, k.count))
+    ∙ ap (λ y. tree_put (name_of pid) r i y (tree_without (name_of id) v.root)) same
+  where
+    some_tree : (a b : Tree) → Some a ≡ Some b → a ≡ b
+    some_tree a b e = cc
