@@ -6,6 +6,7 @@ use Rattle.std.proofs.lemmas.Bool.{eq-eqb, ne_eqb, eqb-true, lt-ltb, le-ltb, cas
 use Rattle.xf_ir.specs.declared.name.OpName.{OpName}
 use Rattle.xf_ir.specs.declared.spot.Spot.{Spot}
 use Rattle.xf_ir.specs.Edits.{tree_erased, tree_moved, moved}
+use Rattle.xf_ir.specs.Spots as spots
 use Rattle.xf_ir.specs.Spots.{IsSpot}
 use Rattle.xf_ir.specs.Tree.{Ops, no_ops, op, Regions, no_regions, region, Tree, cons}
 use Rattle.xf_ir.specs.Walk.{tree_find, ops_find, regions_find}
@@ -14,14 +15,21 @@ use Rattle.xf_arena_tree.specs.Without.{OpsWhere, RegionsWhere, ops_without, reg
 use Rattle.xf_arena_tree.specs.Puts.{tree_put, InRange, StandsAt, kids_before}
 use Rattle.xf_arena_tree.specs.Kids.{Inner, block_inner, inner_of, before_place, last_or}
 use Rattle.xf_arena_tree.proofs.KidsLemmas.{before_is, last_or_is}
+use Rattle.xf_arena_tree.proofs.WithoutLemmas.{ops_subset, parts3}
 use Rattle.xf_arena_tree.proofs.WhereLemmas.{where_found}
 use Rattle.xf_arena_tree.proofs.FillLemmas.{regions_where_absent}
 use Rattle.xf_arena_tree.proofs.BridgeLemmas.{found_where, found_is, erased_is, tree_put_is, spot_range, spot_has}
+use Rattle.xf_arena_bed.specs.declared.bed.Bed.TheInside.{Inside}
 use Rattle.xf_arena_bed.specs.declared.node.OpId.{OpId}
 use Rattle.xf_arena_bed.specs.declared.kid.Kid.{Kid}
 use Rattle.xf_arena_bed.specs.Kids.{inner_kids}
-use Rattle.xf_arena_bed.specs.Live.{name_of, names_of}
+use Rattle.xf_arena_bed.specs.Live.{name_of, names_of, IsLive}
+use Rattle.xf_arena_bed.specs.Sits.{Holds}
+use Rattle.xf_arena_bed.specs.Value.{Layout}
+use Rattle.xf_arena_bed.specs.View.{layout_of, IsBed}
 use Rattle.xf_arena_bed.specs.Moves.{inner_without}
+use Rattle.xf_arena_bed.proofs.FindLemmas.{ops_found}
+use Rattle.xf_arena_bed.proofs.SpotLemmas.{stands}
 use Rattle.xf_arena_bed.proofs.MoveTreeLemmas.{TreeOut, taken_out}
 
 -- ---- the walk
@@ -138,3 +146,77 @@ mutual
   regions_where_back p o Q no_regions f h w = tt
   regions_where_back p o Q (region args ops rest) f h w =
       (where_back p o Q ops f h.0 w.0, regions_where_back p o Q rest f h.1 w.1)
+
+-- the sibling stands there once the operation is taken out
+pub place_out : (p o : OpName) (r i : ℕ) (sibling : Option OpName) (root : Tree) → eqb root.name.0 o.0 ≡ false
+    → OpsWhere p (λ rs. StandsAt r i sibling (regions_without o rs)) (cons root no_ops)
+    → OpsWhere p (StandsAt r i sibling) (cons (tree_without o root) no_ops)
+place_out p o r i sibling root f w = rw f at (where_out p o (StandsAt r i sibling) (cons root no_ops) w)
+
+-- ---- a spot of what is left
+
+pub record SpotOut (root : Tree) (o : OpName) (to : Spot) : Type 0 where
+  pub tree : Tree
+  pub found : tree_find o root ≡ Some tree
+  pub distinct : OpsDistinct (cons root no_ops)
+  pub inside : ops_has to.parent (cons (tree_without o root) no_ops) ≡ true
+  pub range : OpsWhere to.parent (λ rs. InRange to.region to.at (regions_without o rs)) (cons root no_ops)
+  pub has : ops_has to.parent (cons root no_ops) ≡ true
+
+spot_out : (root : Tree) (o : OpName) (to : Spot) (t : Tree) → OpsDistinct (cons root no_ops)
+    → eqb root.name.0 o.0 ≡ false → ops_find o (cons root no_ops) ≡ Some t → t.name ≡ o
+    → IsSpot to (tree_erased o root) → SpotOut root o to
+spot_out root o to t d f e n w =
+    let left = tree_without o root in
+    let p = to.parent in
+    let out = taken_out o t root d f e in
+    let spot : IsSpot to left = rw (erased_is o root d) w in
+    let has = spot_has to left spot in
+    let range : OpsWhere p (InRange to.region to.at) (ops_without o (cons root no_ops)) =
+    rw f (spot_range to left out.rest spot)
+    in
+    let q = parts3 (eqb t.name.0 p.0) (regions_has p t.regions) false (out.apart p has) in
+    let other : eqb o.0 p.0 ≡ false = rw n at q.0 in
+    record {
+      tree = t;
+      found = sym (found_is o root) ∙ e;
+      distinct = d;
+      inside = has;
+      range = where_back p o (InRange to.region to.at) (cons root no_ops) other
+          (found_where o (λ rs. regions_has p rs ≡ false) (cons root no_ops) t d e q.1.0) range;
+      has = elim (cases_Bool (ops_has p (cons root no_ops))) [
+        | inl a ↦ a
+        | inr a ↦ (
+            let b : ops_has p (cons left no_ops) ≡ false = rw f at (ops_subset p o (cons root no_ops) a) in
+            let z : true ≡ false = sym has ∙ b in
+            absurd (cc))
+      ];
+    }
+
+pub spot_of_left : (a : Inside) (v : Layout) (id : OpId) (to : Spot) → IsBed a → layout_of a ≡ v → IsLive v id
+    → eqb v.root.name.0 id.serial ≡ false → IsSpot to (tree_erased (name_of id) v.root)
+    → SpotOut v.root (name_of id) to
+spot_of_left a v id to b e live f w =
+    let s = stands a v id b e live in
+    let g = ops_found a.nodes.items a.links None (cons v.root no_ops) (name_of id) s.holds.sits s.has in
+    spot_out v.root (name_of id) to g.0 s.holds.distinct f g.1.0 g.1.1.name w
+
+-- the parent of the spot has a slot
+pub spot_named : (a : Inside) (v : Layout) (o : OpName) (to : Spot) → IsBed a → layout_of a ≡ v → SpotOut v.root o to
+    → (t : Tree) × (tree_find to.parent v.root ≡ Some t)
+spot_named a v o to b e c =
+    let root : (layout_of a).root ≡ v.root = ap (λ (m : Layout). m.root) e in
+    let h : Holds a.nodes.items a.links a.root v.root = rw root at b.holds in
+    let g = ops_found a.nodes.items a.links None (cons v.root no_ops) to.parent h.sits c.has in
+    (g.0, sym (found_is to.parent v.root) ∙ g.1.0)
+
+-- what is made of the tree is what the definitions say
+pub move_is : (root : Tree) (o p : OpName) (to : Spot) (t new : Tree) → OpsDistinct (cons root no_ops)
+    → eqb root.name.0 o.0 ≡ false → tree_find o root ≡ Some t → p ≡ to.parent
+    → new ≡ tree_put p to.region to.at t (tree_without o root) → new ≡ tree_moved o to root
+move_is root o p to t new d f e n q =
+    let out = taken_out o t root d f (found_is o root ∙ e) in
+    let found : regions_find o root.regions ≡ Some t = rw f at e in
+    q ∙ ap (λ x. tree_put x to.region to.at t (tree_without o root)) n
+    ∙ tree_put_is to t (tree_without o root) out.rest ∙ ap (spots.tree_put to t) (erased_is o root d)
+    ∙ ap (λ y. moved o to y root) (sym found)

@@ -4,7 +4,7 @@ ghost use Rattle.xf_ir.specs.Edits.{tree_erased, tree_moved};
 ghost use Rattle.xf_ir.specs.Spots.{IsSpot};
 ghost use Rattle.xf_ir.specs.Tree.{Tree, cons, no_ops};
 ghost use Rattle.xf_ir.specs.Walk.{tree_find};
-ghost use Rattle.xf_arena_tree.specs.Names.{ops_has};
+ghost use Rattle.xf_arena_tree.specs.Names.{ops_has, OpsDistinct};
 ghost use Rattle.xf_arena_tree.specs.Without.{tree_without, regions_without, OpsWhere};
 ghost use Rattle.xf_arena_tree.specs.Puts.{tree_put, InRange, StandsAt};
 ghost use Rattle.xf_arena_bed.specs.Live.{name_of, names_of, IsLive, AreLive};
@@ -37,11 +37,29 @@ impl Bed {
         ensures root { self.new.root ≡ tree_moved (name_of id) to self.old.root }
         ensures seats { self.new.seats ≡ self.old.seats }
     {
-        match self.id_of(to.parent) {
-            Some(parent) => {
-                let sibling = self.sibling_beside(parent, to, id);
-                self.relink(id, parent, to, sibling);
-            }
+        let parent = self.parent_at(to, id);
+        let sibling = self.sibling_beside(parent, to, id);
+        self.relink(id, parent, to, sibling);
+    }
+
+    /// The parent of a spot of what is left without an operation.
+    fn parent_at(&self, at: Spot, other: OpId) -> OpId
+        requires live { IsLive self.now other }
+        requires low { (self.now.root.name.0 == other.serial) ≡ false }
+        requires spot { IsSpot at (tree_erased (name_of other) self.now.root) }
+        ensures live { IsLive self.now result }
+        ensures name { name_of result ≡ at.parent }
+        ensures inside { ops_has (name_of result) (cons (tree_without (name_of other) self.now.root) no_ops) ≡ true }
+        ensures range { OpsWhere (name_of result)
+            (λ rs. InRange at.region at.at (regions_without (name_of other) rs)) (cons self.now.root no_ops) }
+        ensures names { OpsDistinct (cons self.now.root no_ops) }
+        ensures found { (t : Tree) × (tree_find (name_of other) self.now.root ≡ Some t) }
+    {
+        match self.index.find(at.parent.0) {
+            Some(slot) => OpId {
+                slot,
+                serial: at.parent.0,
+            },
             None => unreachable!(),
         }
     }
