@@ -1,32 +1,25 @@
 -- An operation unlinked and linked elsewhere: the nodes and links hold the tree in which it is moved.
 use Rattle.std.proofs.Common.{◌≡◌, ℕ, ◌*◌, ◌<◌, List, [], ◌∷◌, length}
 use Rattle.std.proofs.Common.{slice_index, slice_set, sym, ◌∙◌, ap, arith, refl, true, false}
-use Rattle.std.proofs.Common.{eqb, ◌||◌, inl, inr}
+use Rattle.std.proofs.Common.{eqb, inl, inr}
 use Rattle.std.specs.Prelude.{map, Option, Some, None}
 use Rattle.std.proofs.lemmas.List.{get_or-set_same, get_or-set_other, length-set}
-use Rattle.std.proofs.lemmas.Bool.{cases_eq, eqb-false, eqb-true, eq-eqb, ne_eqb, cases_Bool, false_from_ne_true}
-use Rattle.xf_ir.specs.RuleBlocks.{block_args}
+use Rattle.std.proofs.lemmas.Bool.{cases_eq, eqb-false, eq-eqb, ne_eqb}
 use Rattle.xf_ir.specs.declared.name.OpName.{OpName}
 use Rattle.xf_ir.specs.Tree.{no_ops, Tree, cons}
-use Rattle.xf_ir.specs.Walk.{ops_find}
 use Rattle.xf_rings.specs.Ring.{Path, linked, unlinked, After}
 use Rattle.xf_rings.specs.Groups.{Lacks}
 use Rattle.xf_rings.proofs.PathLemmas.{path_other, path_beside}
 use Rattle.xf_arena_bed.specs.declared.node.Node.{Node}
-use Rattle.xf_arena_bed.specs.Home.{Home}
-use Rattle.xf_arena_tree.specs.Names.{kids, ops_has, regions_has}
+use Rattle.xf_arena_tree.specs.Names.{ops_has}
 use Rattle.xf_arena_tree.specs.Without.{tree_without, OpsWhere}
-use Rattle.xf_arena_tree.specs.Puts.{tree_put, InRange}
-use Rattle.xf_arena_bed.specs.Sits.{Nodes, node_at, holds, place, head, item, item_of, Sits, home_of}
-use Rattle.xf_arena_bed.specs.Sits.{OpsSit, RegionsSit, Holds}
-use Rattle.xf_arena_bed.proofs.PlaceLemmas.{Placed, AllPlaced, kids_placed, one_name, place_kept, place_within}
-use Rattle.xf_arena_bed.proofs.LeafLemmas.{holder, other_name, ops_placed, place_is}
-use Rattle.xf_arena_bed.proofs.CutLemmas.{Cut, NoneOf, none_kids, lacks, ops_cut}
-use Rattle.xf_arena_bed.proofs.PutLemmas.{Put, SplitAt, IsBefore, AllUnder, under, kids_under, one_parent, ops_put_sit}
-use Rattle.xf_arena_bed.proofs.FrameLemmas.{AllPass, Frame, regions_frame}
-use Rattle.xf_arena_bed.proofs.FindLemmas.{Found, ops_found}
-use Rattle.xf_arena_bed.proofs.HoldsPutLemmas.{first, self_has}
-use Rattle.xf_arena_bed.proofs.MoveTreeLemmas.{TreeOut, taken_out, TreeMoved, put_again}
+use Rattle.xf_arena_tree.specs.Puts.{InRange}
+use Rattle.xf_arena_bed.specs.Sits.{Nodes, node_at, holds, place, head, item, item_of, home_of}
+use Rattle.xf_arena_bed.specs.Sits.{OpsSit, Holds}
+use Rattle.xf_arena_bed.proofs.PlaceLemmas.{Placed, AllPlaced, one_name, place_kept, place_within}
+use Rattle.xf_arena_bed.proofs.LeafLemmas.{holder, other_name, place_is}
+use Rattle.xf_arena_bed.proofs.CutLemmas.{Cut, NoneOf, lacks, ops_cut}
+use Rattle.xf_arena_bed.proofs.PutLemmas.{Put, SplitAt, IsBefore, AllUnder, under, one_parent}
 
 -- ---- what is given, and what follows for names
 

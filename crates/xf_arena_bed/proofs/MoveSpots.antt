@@ -1,5 +1,5 @@
 -- An operation that is moved: its new place, the free slots, and what the fields are then.
-use Rattle.std.proofs.Common.{◌≡◌, ℕ, ◌<◌, ◌≤◌, List, [], ◌∷◌, length}
+use Rattle.std.proofs.Common.{◌≡◌, ℕ, ◌<◌, List, [], ◌∷◌, length}
 use Rattle.std.proofs.Common.{slice_index, slice_set, sym, ◌∙◌, ap, subst, arith, refl, true, false}
 use Rattle.std.proofs.Common.{eqb, inl, inr}
 use Rattle.std.specs.Prelude.{map, Option, Some, None, IfSome}
@@ -23,7 +23,7 @@ use Rattle.xf_arena_bed.specs.Seat.{seat_of}
 use Rattle.xf_arena_bed.specs.View.{layout_of, IsBed, IsIndexed, number_in}
 use Rattle.xf_arena_bed.specs.Live.{name_of, names_of, IsLive, AreLive, number_before}
 use Rattle.xf_arena_bed.specs.Sits.{Nodes, node_at, holds, place, head, item, home_of, OpsSit, Holds, AllFree, FreeOk}
-use Rattle.xf_arena_bed.proofs.PlaceLemmas.{Placed, AllPlaced, kids_placed, place_within}
+use Rattle.xf_arena_bed.proofs.PlaceLemmas.{Placed, AllPlaced, kids_placed}
 use Rattle.xf_arena_bed.proofs.LeafLemmas.{holder, ops_placed}
 use Rattle.xf_arena_bed.specs.Rebuilt.{tree_at}
 use Rattle.xf_arena_bed.proofs.CloseLemmas.{seated, seat_is, rebuilt_is}
@@ -33,8 +33,7 @@ use Rattle.xf_arena_bed.proofs.PutLemmas.{SplitAt, IsBefore, AllUnder, kids_unde
 use Rattle.xf_arena_bed.proofs.KidRows.{find_is}
 use Rattle.xf_arena_bed.proofs.SpotLemmas.{stands, Spotted, last_under, under_left, before_head, before_item}
 use Rattle.xf_arena_bed.proofs.SpotLemmas.{before_other}
-use Rattle.xf_arena_bed.proofs.MoveTreeLemmas.{TreeMoved}
-use Rattle.xf_arena_bed.proofs.MoveLemmas.{emptied, rehomed, moved_nodes, moved_links, Moving, Here, here, left_sits}
+use Rattle.xf_arena_bed.proofs.MoveLemmas.{emptied, rehomed, moved_nodes, moved_links, Moving, here, left_sits}
 use Rattle.xf_arena_bed.proofs.MoveLemmas.{stays, before_back}
 use Rattle.xf_arena_bed.proofs.MovedHolds.{moved_holds}
 

@@ -2,12 +2,12 @@
 use Rattle.std.proofs.Common.{◌≡◌, ℕ, suc, ◌+◌, List, [], ◌∷◌, ◌++◌, length, length-append, sym, ◌∙◌, ap, arith, refl}
 use Rattle.std.proofs.Common.{Bool, true, false, eqb, ◌||◌, inl, inr}
 use Rattle.std.specs.Prelude.{Some}
-use Rattle.std.proofs.lemmas.Bool.{cases_Bool, or_parts, or_cases}
+use Rattle.std.proofs.lemmas.Bool.{or_parts, or_cases}
 use Rattle.xf_ir.specs.declared.name.OpName.{OpName}
 use Rattle.xf_ir.specs.Count.{ops_count, regions_count, tree_count}
 use Rattle.xf_ir.specs.Lists.{is_among, Once}
 use Rattle.xf_ir.specs.Tree.{Ops, no_ops, op, Regions, no_regions, region, Tree, cons}
-use Rattle.xf_ir.specs.Walk.{ops_names, regions_names, tree_names, ops_find}
+use Rattle.xf_ir.specs.Walk.{ops_names, regions_names, ops_find}
 use Rattle.xf_arena_tree.specs.Names.{ops_has, OpsDistinct}
 use Rattle.xf_arena_tree.specs.Without.{tree_without, ops_without, OpsWhere}
 use Rattle.xf_arena_tree.specs.Puts.{tree_put, ops_put, InRange}

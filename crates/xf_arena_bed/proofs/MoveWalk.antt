@@ -30,7 +30,7 @@ use Rattle.xf_arena_bed.specs.View.{layout_of, IsBed}
 use Rattle.xf_arena_bed.specs.Moves.{inner_without}
 use Rattle.xf_arena_bed.proofs.FindLemmas.{ops_found}
 use Rattle.xf_arena_bed.proofs.SpotLemmas.{stands}
-use Rattle.xf_arena_bed.proofs.MoveTreeLemmas.{TreeOut, taken_out}
+use Rattle.xf_arena_bed.proofs.MoveTreeLemmas.{taken_out}
 
 -- ---- the walk
 

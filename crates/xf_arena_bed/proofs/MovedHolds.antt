@@ -1,6 +1,6 @@
 -- The nodes and links once an operation is moved hold the tree in which it is moved.
 use Rattle.std.proofs.Common.{◌≡◌, ℕ, ◌*◌, ◌<◌, List, [], ◌∷◌, length}
-use Rattle.std.proofs.Common.{slice_index, slice_set, sym, ◌∙◌, ap, arith, refl, Bool, true, false}
+use Rattle.std.proofs.Common.{slice_index, slice_set, sym, ◌∙◌, ap, refl, Bool, true, false}
 use Rattle.std.proofs.Common.{eqb, inl, inr}
 use Rattle.std.specs.Prelude.{map, Option, Some, None}
 use Rattle.std.proofs.lemmas.List.{get_or-set_same, get_or-set_other, length-set}
@@ -9,19 +9,19 @@ use Rattle.xf_ir.specs.RuleBlocks.{block_args}
 use Rattle.xf_ir.specs.declared.name.OpName.{OpName}
 use Rattle.xf_ir.specs.Tree.{no_ops, Tree, cons}
 use Rattle.xf_ir.specs.Walk.{ops_find}
-use Rattle.xf_rings.specs.Ring.{Path, unlinked}
+use Rattle.xf_rings.specs.Ring.{unlinked}
 use Rattle.xf_arena_bed.specs.declared.node.Node.{Node}
 use Rattle.xf_arena_bed.specs.Home.{Home}
 use Rattle.xf_arena_tree.specs.Names.{kids, ops_has, regions_has}
 use Rattle.xf_arena_tree.specs.Without.{tree_without}
 use Rattle.xf_arena_tree.specs.Puts.{tree_put}
 use Rattle.xf_arena_tree.proofs.WithoutLemmas.{parts3}
-use Rattle.xf_arena_bed.specs.Sits.{Nodes, node_at, holds, place, head, item, item_of, Sits, home_of}
-use Rattle.xf_arena_bed.specs.Sits.{OpsSit, RegionsSit, Holds}
-use Rattle.xf_arena_bed.proofs.PlaceLemmas.{Placed, AllPlaced, kids_placed, one_name}
+use Rattle.xf_arena_bed.specs.Sits.{Nodes, node_at, holds, place, item, item_of, home_of}
+use Rattle.xf_arena_bed.specs.Sits.{OpsSit, Holds}
+use Rattle.xf_arena_bed.proofs.PlaceLemmas.{Placed, kids_placed, one_name}
 use Rattle.xf_arena_bed.proofs.LeafLemmas.{ops_placed, same_name}
 use Rattle.xf_arena_bed.proofs.CutLemmas.{NoneOf, none_kids}
-use Rattle.xf_arena_bed.proofs.PutLemmas.{IsBefore, kids_under, ops_put_sit}
+use Rattle.xf_arena_bed.proofs.PutLemmas.{kids_under, ops_put_sit}
 use Rattle.xf_arena_bed.proofs.FrameLemmas.{AllPass, Frame, regions_frame}
 use Rattle.xf_arena_bed.proofs.FindLemmas.{Found, ops_found}
 use Rattle.xf_arena_bed.proofs.HoldsPutLemmas.{first}
@@ -125,8 +125,11 @@ moved_sits nodes next root u o p s r i was before x t y pl f ho hp ne =
         node = ap (node_at nodes2) (places t.name ∙ at) ∙ new;
         row = rw (places t.name, items) row;
       },
-      (regions_frame nodes nodes2 next next2 (λ n. regions_has n t.regions) frame t.name 0 t.regions (λ n q. q)
-          (places t.name) f.inner, tt),
+      (
+        regions_frame nodes nodes2 next next2 (λ n. regions_has n t.regions) frame t.name 0 t.regions (λ n q. q)
+            (places t.name) f.inner,
+        tt,
+      ),
     )
   where
     items_stay : (nodes nodes2 : Nodes) (ns : List OpName) → ((n : OpName) → place n nodes2 ≡ place n nodes)

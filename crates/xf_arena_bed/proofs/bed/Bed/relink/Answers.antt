@@ -11,7 +11,7 @@ link-requires-clause-other c =
     c.requires.inside c.requires.sibling c.requires.place c.unlink-before.ensures.before
     in
     λ e. not_itself c.self.inside c.args.self.now c.args.id c.args.parent c.args.at.region c.args.at.at
-        c.unlink-before.result (number_before c.args.parent c.args.sibling) l (sym c.number_before.ensures ∙ e)
+    c.unlink-before.result (number_before c.args.parent c.args.sibling) l (sym c.number_before.ensures ∙ e)
 
 pub invariant_of-self : goal.invariant_of-self
 invariant_of-self c =
