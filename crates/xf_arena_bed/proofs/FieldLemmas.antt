@@ -94,7 +94,7 @@ mutual
 
 -- ---- the slots
 
-place_same : (nodes : Nodes) (n : OpName) (s : ℕ) (y : Option Node) → holds n (node_at nodes s) ≡ holds n y
+pub place_same : (nodes : Nodes) (n : OpName) (s : ℕ) (y : Option Node) → holds n (node_at nodes s) ≡ holds n y
     → place n (slice_set nodes s y) ≡ place n nodes
 place_same [] n s y e = refl
 place_same (z ∷ zs) n zero y e = rw (← e) refl
@@ -134,7 +134,7 @@ items_stay nodes nodes2 (n ∷ ns) h = rw (h n) (ap (λ l. item_of nodes n ∷ l
 some_node : (a b : Node) → Some a ≡ Some b → a ≡ b
 some_node a b e = cc
 
-same_op : (n o : OpName) → n.0 ≡ o.0 → n ≡ o
+pub same_op : (n o : OpName) → n.0 ≡ o.0 → n ≡ o
 same_op n o e = let mk : ℕ → OpName = λ i. record { 0 = i } in ap mk e
 
 mutual
@@ -266,7 +266,7 @@ indexed_set nodes nodes2 index s o x new c i =
       ];
     }
 
-set_back : (xs : List (Option OpName)) (s : ℕ) (v : Option OpName) → slice_index_or xs s None ≡ v → s < length xs
+pub set_back : (xs : List (Option OpName)) (s : ℕ) (v : Option OpName) → slice_index_or xs s None ≡ v → s < length xs
     → slice_set xs s v ≡ xs
 set_back [] s v e h = refl
 set_back (x ∷ xs) zero v e h = ap (λ y. y ∷ xs) (sym e)

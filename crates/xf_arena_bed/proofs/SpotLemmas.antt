@@ -55,13 +55,13 @@ last_named nodes a [] k e = cc
 last_named nodes a (n ∷ []) k e = let q : n ≡ k = cc in ap (item_of nodes) q
 last_named nodes a (n ∷ (m ∷ ns)) k e = last_named nodes (item_of nodes n) (m ∷ ns) k e
 
-last_under : (nodes : Nodes) (p : OpName) (ns : List OpName) (k : OpName) → last_name ns ≡ Some k
+pub last_under : (nodes : Nodes) (p : OpName) (ns : List OpName) (k : OpName) → last_name ns ≡ Some k
     → AllUnder nodes p ns → under p (node_at nodes (place k nodes)) ≡ true
 last_under nodes p [] k e a = cc
 last_under nodes p (n ∷ []) k e a = let q : n ≡ k = cc in rw q at a.0
 last_under nodes p (n ∷ (m ∷ ns)) k e a = last_under nodes p (m ∷ ns) k e a.1
 
-under_left : (nodes : Nodes) (p : OpName) (ns ms : List OpName) → AllUnder nodes p (ns ++ ms) → AllUnder nodes p ns
+pub under_left : (nodes : Nodes) (p : OpName) (ns ms : List OpName) → AllUnder nodes p (ns ++ ms) → AllUnder nodes p ns
 under_left nodes p [] ms a = tt
 under_left nodes p (n ∷ ns) ms a = (a.0, under_left nodes p ns ms a.1)
 
@@ -71,14 +71,14 @@ pub record Spotted (nodes : Nodes) (t : Tree) (p : OpName) (r i before : ℕ) : 
   pub range : OpsWhere p (InRange r i) (cons t no_ops)
   pub spot : IsBefore nodes p before
 
-before_head : (nodes : Nodes) (p : OpId) (r i : ℕ) (rs : Regions) → place (name_of p) nodes ≡ p.slot
+pub before_head : (nodes : Nodes) (p : OpId) (r i : ℕ) (rs : Regions) → place (name_of p) nodes ≡ p.slot
     → StandsAt r i None rs → SplitAt nodes (name_of p) r i (head p.slot) rs
 before_head nodes p r i rs e s = record {
   in_range = s.in_range;
   is = (let z = none_last (kids_before r i rs) s.before in rw (z, e) refl);
 }
 
-before_item : (nodes : Nodes) (p : OpName) (k : OpId) (r i : ℕ) (rs : Regions) → place (name_of k) nodes ≡ k.slot
+pub before_item : (nodes : Nodes) (p : OpName) (k : OpId) (r i : ℕ) (rs : Regions) → place (name_of k) nodes ≡ k.slot
     → StandsAt r i (Some (name_of k)) rs → SplitAt nodes p r i (item k.slot) rs
 before_item nodes p k r i rs e s = record {
   in_range = s.in_range;

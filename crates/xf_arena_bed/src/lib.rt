@@ -15,6 +15,7 @@ mod fields;
 mod homes;
 mod kid;
 mod kids;
+mod moves;
 mod node;
 mod restore;
 mod slots;
