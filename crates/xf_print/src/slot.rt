@@ -19,8 +19,9 @@ use xf_print_base::{
 };
 use xf_type::NoMemory;
 
-/// Appends the value of a constant, or nothing.
-fn write_literal(kind: &Kind, line: &mut Vec<u8>) -> Result<(), NoMemory>
+/// Appends the value of a constant behind a blank, or nothing for another kind. Takes time in the number of its
+/// elements.
+pub fn write_literal(kind: &Kind, line: &mut Vec<u8>) -> Result<(), NoMemory>
     ensures { OnOk result (line.new.items ≡ line.old.items ++ rule_text literal_rule (literal_fill kind.now)) }
 {
     match kind {

@@ -47,7 +47,7 @@ fn element_count(dims: &[Dim]) -> u64
 }
 
 /// Whether all numbers are equal.
-fn all_equal(numbers: &[u128]) -> bool
+pub fn all_equal(numbers: &[u128]) -> bool
     ensures { result ≡ all_equal numbers.now }
 {
     match numbers {

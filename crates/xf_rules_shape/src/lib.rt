@@ -15,6 +15,7 @@ mod slices;
 mod tensor_rows;
 
 pub use attributes::kind_fits;
+pub use dense::all_equal;
 pub use extents::extents_agree;
 pub use maps::{iterators_fit, maps_fit};
 pub use ranges::types_in_range;

@@ -1,0 +1,2 @@
+pub mod DenseLemmas
+pub mod ListLemmas
