@@ -1,7 +1,7 @@
 -- Dense constants that fit the rules: what they give, and that their elements are few.
-use Rattle.std.proofs.Common.{◌≡◌, ℕ, ◌+◌, ◌*◌, ◌<◌, ◌≤◌, List, [], ◌∷◌, length, Bool, true, false, Option, Some, None}
-use Rattle.std.proofs.Common.{Result, Ok, Err, refl, sym, ap, ◌∙◌, subst, arith}
-use Rattle.std.specs.Prelude.{◌&&◌, not, nat_le, map}
+use Rattle.std.proofs.Common.{◌≡◌, ℕ, ◌+◌, ◌*◌, ◌≤◌, List, [], ◌∷◌, true, Option, Some}
+use Rattle.std.proofs.Common.{Result, Ok, Err, refl, sym, ap, subst, arith}
+use Rattle.std.specs.Prelude.{◌&&◌, not, nat_le}
 use Rattle.std.proofs.lemmas.Bool.{and_parts, leb-true}
 use Rattle.xf_type.specs.declared.payload_type.PayloadType.{PayloadType}
 use Rattle.xf_type.specs.declared.payload_type.PayloadType.TheVariants as type_of
@@ -15,7 +15,7 @@ use Rattle.xf_ir.specs.RuleAttributes.{dense_fits, dim_fits, element_count, numb
 use Rattle.xf_points.specs.Points.{product}
 use Rattle.xf_points.proofs.Tensors.{length_listed}
 use Rattle.xf_sem.specs.declared.value.Value.{Value}
-use Rattle.xf_sem.specs.Meaning.{Run, charge, finish, gives, elements}
+use Rattle.xf_sem.specs.Meaning.{charge, finish, gives, elements}
 use Rattle.xf_sem.specs.Values.{fit_types}
 use Rattle.xf_sem.specs.Tensors.{shape_with, dense_items, dense_given, tensor}
 use Rattle.xf_sem.proofs.Fits.{fitting_is_tested}

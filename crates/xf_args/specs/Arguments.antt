@@ -1,6 +1,6 @@
 -- The arguments of a call, as a text lists them: constants in the spelling of `arith.constant`, separated by commas.
 use Rattle.std.specs.Prelude.{◌≡◌, ℕ, zero, suc, ◌+◌, ◌≤◌, List, [], ◌∷◌, ◌++◌, length, Bool, true, false, ◌&&◌, ◌==◌, Option, Some}
-use Rattle.std.specs.Prelude.{None, Result, Ok, Err, codes, if◌then◌else◌}
+use Rattle.std.specs.Prelude.{None, Ok, Err, codes, if◌then◌else◌}
 use Rattle.std.specs.Option.{option_map}
 use Rattle.xf_type.specs.declared.payload_type.PayloadType.TheVariants as type_of
 use Rattle.xf_type.specs.declared.payload_type.Shape.{Shape}

@@ -1,7 +1,6 @@
 //! Arguments, one after another.
 ghost use Rattle.std.specs.Prelude.{◌≡◌, ◌≤◌, length, IfOk};
 ghost use Rattle.xf_args.specs.Arguments.{argument_at, arguments_of, behind, is_truth, value_of, EndsIn, Lists};
-ghost use Rattle.xf_format.specs.Actions.{free};
 
 use crate::constant::argument_of;
 use std::alloc::{AllocError, Global};

@@ -1,10 +1,9 @@
 -- The lines of results: each value as a constant is printed, with its type.
-use Rattle.std.specs.Prelude.{ℕ, List, [], ◌∷◌, ◌++◌, map, take, drop, Bool, true, false, Option, Some, None, codes}
+use Rattle.std.specs.Prelude.{ℕ, List, [], ◌++◌, map, take, drop, Bool, true, false, codes}
 use Rattle.std.specs.Prelude.{if◌then◌else◌, flat_map}
 use Rattle.xf_type.specs.declared.payload_type.Dim.TheVariants.{Fixed}
 use Rattle.xf_type.specs.declared.payload_type.Elem.{Elem}
 use Rattle.xf_type.specs.declared.payload_type.Elem.TheVariants.{Num, NoNumber}
-use Rattle.xf_type.specs.declared.payload_type.Width.{Width}
 use Rattle.xf_type.specs.declared.payload_type.Width.TheVariants.{I1}
 use Rattle.xf_ir.specs.declared.kind.Kind.{Kind}
 use Rattle.xf_ir.specs.declared.kind.Kind.TheVariants as kind

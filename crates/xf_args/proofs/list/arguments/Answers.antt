@@ -1,4 +1,3 @@
-use Rattle.std.proofs.Common.{◌≡◌}
 use Rattle.xf_args.proofs.ListLemmas.{lists_of, lists_none}
 use Rattle.xf_args.proofs.list.arguments.Goals as goal
 
