@@ -22,7 +22,8 @@ use Rattle.xf_arena_bed.proofs.SpotLemmas.{stands}
 
 -- ---- the operations of a region, among all
 
-block_same : (r : ℕ) (ops : Ops) (more : List Inner) → names_in r more ≡ [] → names_in r (block_inner r ops more) ≡ heads ops
+block_same : (r : ℕ) (ops : Ops) (more : List Inner) → names_in r more ≡ []
+    → names_in r (block_inner r ops more) ≡ heads ops
 block_same r no_ops more h = h
 block_same r (op n k ds os ts rs rest) more h =
     let e = eq-eqb r r refl in

@@ -236,7 +236,8 @@ pub tree_held : (x : OpName) (root : Tree) → OpsDistinct (cons root no_ops) �
 tree_held x root d h f =
     let a : regions_has x root.regions ≡ true = inside (regions_has x root.regions) (rw f at h) in
     let g = regions_held x root.name 0 root.regions d.1.1.1.0 a in
-    let w = found_inside x root.name root.kind root.attrs root.operands root.results root.regions no_ops g.0 d.0 g.1.1 in (
+    let w = found_inside x root.name root.kind root.attrs root.operands root.results root.regions no_ops g.0 d.0
+    g.1.1 in (
       g.0,
       record {
         located = g.1.0;

@@ -49,7 +49,8 @@ placed_live a v o i e has =
     let nodes = a.nodes.items in
     let root : (layout_of a).root ≡ v.root = ap (λ (m : Layout). m.root) e in
     let h : Holds nodes a.links a.root v.root = rw root at i.holds in
-    let z = holder o (node_at nodes (place o nodes)) (ops_placed nodes a.links None (cons v.root no_ops) o h.sits has) in
+    let placed = ops_placed nodes a.links None (cons v.root no_ops) o h.sits has in
+    let z = holder o (node_at nodes (place o nodes)) placed in
     let mk : ℕ → OpName = λ j. record { 0 = j } in
     let named : z.0.name ≡ o = ap mk z.1.1 in
     ap (λ (m : Layout). seat_at m.seats (place o nodes)) (sym e) ∙ seat_is nodes (place o nodes) ∙ ap seat_of z.1.0
@@ -129,7 +130,8 @@ kids_few a v id ks i e live f all =
 -- ---- the spot
 
 pub block_parts : (n p : OpName) (r q : ℕ)
-    → Some (let b : Inner = record { name = n; region = r } in b) ≡ Some (let b : Inner = record { name = p; region = q } in b)
+    → Some (let b : Inner = record { name = n; region = r } in b)
+    ≡ Some (let b : Inner = record { name = p; region = q } in b)
     → (n ≡ p) × (r ≡ q)
 block_parts n p r q e =
     let same = some_inner (record { name = n; region = r }) (record { name = p; region = q }) e in

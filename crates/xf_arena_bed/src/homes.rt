@@ -12,7 +12,9 @@ use crate::node::OpId;
 use xf_ir::{OpName, Spot};
 
 impl Bed {
-    /// The operation that holds one, with the number of the region, or `None` exactly for the root. Takes constant time.
+    /// The operation that holds one, with the number of the region, or `None` exactly for the root.
+    ///
+    /// Takes constant time.
     pub fn parent(&self, id: OpId) -> Option<(OpId, u32)>
         requires { IsLive self.now id }
         ensures live { IfSome result (λ h. IsLive self.now h.0) }
